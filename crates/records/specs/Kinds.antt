@@ -1,0 +1,28 @@
+-- What the functions below `clean` give: a character's kind, and what a comment adds. The laws say that this makes what
+-- specs/Cleaning.antt says.
+-- Assumes nothing.
+use mathlib.Core.Bool.{Bool, cond, _||_}
+use mathlib.Core.List.{List}
+use Prim.Native.Nat.{ℕ}
+use Rattle.records.specs.declared.Seen.{Seen}
+use Rattle.records.specs.Cleaning.{isHigh, isControl, isMark, has}
+
+-- the kind of a character, as a letter's code: `h` high, `c` control, `!`, `k` kept
+abbrev pub highKind : ℕ
+highKind = 104
+
+abbrev pub controlKind : ℕ
+controlKind = 99
+
+abbrev pub markKind : ℕ
+markKind = 33
+
+abbrev pub keptKind : ℕ
+keptKind = 107
+
+unfoldable pub kindOf : ℕ → ℕ
+kindOf c = cond (isHigh c) highKind (cond (isControl c) controlKind (cond (isMark c) markKind keptKind))
+
+-- the two sorts together, after what was seen before
+unfoldable pub seenFrom : Bool → Bool → List ℕ → Seen
+seenFrom high control xs = record { high = high || has isHigh xs; control = control || has isControl xs }
