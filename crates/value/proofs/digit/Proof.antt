@@ -1,0 +1,60 @@
+-- `digit` meets its contract: each return is one range of characters.
+-- Assumes nothing.
+use mathlib.Core.Path.{sym}
+use Rattle.value.proofs.Digits.{digit-low, digit-decimal, digit-signs, digit-capital, digit-letters, digit-small, digit-high}
+use borrow.Author.Needs.{needs}
+use Rattle.value.proofs.digit.Statement.{statement}
+use Rattle.value.proofs.digit.Tie as tie
+
+returns : tie.Need-returns
+returns c = sym (digit-low _ (c .if1 .taken))
+
+cast-result : tie.Need-cast-result
+cast-result c = search needs
+
+returns-2 : tie.Need-returns-2
+returns-2 c = sym (digit-decimal _ (c .before .if1 .left) (c .if2 .taken))
+
+returns-3 : tie.Need-returns-3
+returns-3 c = sym (digit-signs _ (c .before .if2 .left) (c .if3 .taken))
+
+sub-result : tie.Need-sub-result
+sub-result c = search needs
+
+cast-result-2 : tie.Need-cast-result-2
+cast-result-2 c = search needs
+
+returns-4 : tie.Need-returns-4
+returns-4 c = sym (digit-capital _ (c .before .if3 .left) (c .if4 .taken))
+
+returns-5 : tie.Need-returns-5
+returns-5 c = sym (digit-letters _ (c .before .if4 .left) (c .if5 .taken))
+
+sub-result-2 : tie.Need-sub-result-2
+sub-result-2 c = search needs
+
+cast-result-3 : tie.Need-cast-result-3
+cast-result-3 c = search needs
+
+returns-6 : tie.Need-returns-6
+returns-6 c = sym (digit-small _ (c .before .if5 .left) (c .if6 .taken))
+
+returns-7 : tie.Need-returns-7
+returns-7 c = sym (digit-high _ (c .if6 .left))
+
+pub digit-spec : {M : Type 1} → statement M
+digit-spec =
+    tie.close
+    (tie.spec
+    returns
+    cast-result
+    returns-2
+    returns-3
+    sub-result
+    cast-result-2
+    returns-4
+    returns-5
+    sub-result-2
+    cast-result-3
+    returns-6
+    returns-7)

@@ -1,0 +1,5 @@
+pub mod Integer
+pub mod Parts
+pub mod Number
+pub mod Time
+pub mod Field

@@ -1,0 +1,292 @@
+// Values of fields (§7.2, §7.4, §7.6, §7.7, §8.4): integers, cue numbers, times, versions, pages, each read from a field's characters.
+// Every reader is total: any bytes have an answer. Which condition a malformed value gives is said above this crate.
+ghost use mathlib.Core.Path.{_≡_};
+ghost use Prim.Native.Nat.{_+_, _*_, _<_, _≤_, min};
+ghost use Rattle.value.specs.Integer.{cap, digitOf, runOf, integerOf, AtMost};
+ghost use Rattle.value.specs.Parts.{cutAt, decimalsOf};
+ghost use Rattle.value.specs.Number.{numberedOf, numberOf};
+ghost use Rattle.value.specs.Time.{firstMax, partOf, joinOf, laterOf, clockOf, timeOf};
+ghost use Rattle.value.specs.Field.{versionedOf, versionOf, pageOf};
+
+// What a digit run is cut at: above every limit and far below what wraps, so that a long one is too large and nothing else.
+const CAP: u32 = 100_000;
+
+const DECIMAL: u32 = 10;
+
+// The largest whole part of a cue or group number, and how many digits may follow its point.
+const WHOLE_MAX: u32 = 999;
+
+pub const FRACTION_DIGITS: usize = 1;
+
+// A time: the largest first part, the largest part after a colon, and how many digits may follow the point.
+const FIRST_MAX: u32 = 999;
+
+const LATER_MAX: u32 = 59;
+
+pub const TENTHS_DIGITS: usize = 1;
+
+// A digit run: one or more digits, its value cut at CAP.
+pub enum Integer {
+    Malformed,
+    Value(u32),
+}
+
+// What a digit counts, 16 where it is none.
+fn digit(c: u8) -> u32
+    ensures { λ r. ⌜ r ≡ digitOf c ⌝ }
+{
+    if c < 48 {
+        return 16;
+    }
+    if c <= 57 {
+        return (c - 48) as u32;
+    }
+    if c < 65 {
+        return 16;
+    }
+    if c <= 70 {
+        return (c - 55) as u32;
+    }
+    if c < 97 {
+        return 16;
+    }
+    if c <= 102 {
+        return (c - 87) as u32;
+    }
+    16
+}
+
+// One more digit behind a value: CAP stays CAP.
+fn grown(value: u32, radix: u32, d: u32) -> u32
+    requires { ⌜ value ≤ cap ⌝ }
+    requires { ⌜ radix ≤ 16 ⌝ }
+    requires { ⌜ d ≤ 16 ⌝ }
+    ensures { λ r. ⌜ r ≡ min (value * radix + d) cap ⌝ }
+{
+    let next = value * radix + d;
+    if next < CAP {
+        return next;
+    }
+    CAP
+}
+
+// The one reader of digits: every number of a stream comes through here.
+pub fn run(s: &[u8], radix: u32) -> Integer
+    requires { ⌜ 0 < radix ⌝ }
+    requires { ⌜ radix ≤ 16 ⌝ }
+    ensures { λ r. ⌜ r ≡ runOf radix (now (s .entry)) ⌝ }
+{
+    if s.len() == 0 {
+        return Integer::Malformed;
+    }
+    let mut value: u32 = 0;
+    let mut i: usize = 0;
+    while i < s.len() {
+        let d = digit(s[i]);
+        if radix <= d {
+            return Integer::Malformed;
+        }
+        value = grown(value, radix, d);
+        i += 1;
+    }
+    Integer::Value(value)
+}
+
+pub fn read_integer(s: &[u8]) -> Integer
+    ensures { λ r. ⌜ r ≡ integerOf (now (s .entry)) ⌝ }
+{
+    run(s, DECIMAL)
+}
+
+// The place of the first `b`, or the length where there is none.
+fn cut(s: &[u8], b: u8) -> usize
+    ensures { λ r. ⌜ r ≡ cutAt b (now (s .entry)) ⌝ }
+{
+    let mut i: usize = 0;
+    while i < s.len() {
+        if s[i] == b {
+            return i;
+        }
+        i += 1;
+    }
+    i
+}
+
+// The digits behind a point at `at`, at most `most`; 0 where `at` is the end and there is no point.
+fn decimals(s: &[u8], at: usize, most: usize) -> Integer
+    ensures { λ r. ⌜ r ≡ decimalsOf most (now (s .entry)) at ⌝ }
+{
+    if s.len() <= at {
+        return Integer::Value(0);
+    }
+    let rest = &s[at + 1..];
+    if most < rest.len() {
+        return Integer::Malformed;
+    }
+    read_integer(rest)
+}
+
+// A cue, group or link number.
+pub struct Number {
+    pub whole: u32,
+    pub fraction: u32,
+}
+
+pub enum Numbered {
+    Malformed,
+    TooLarge,
+    Value(Number),
+}
+
+// The format is tested before the size; 0 and 0.0 have no right format.
+fn sized(whole: Integer, fraction: Integer) -> Numbered
+    requires { ⌜ AtMost cap whole ⌝ }
+    requires { ⌜ AtMost cap fraction ⌝ }
+    ensures { λ r. ⌜ r ≡ numberedOf whole fraction ⌝ }
+{
+    let Integer::Value(w) = whole else {
+        return Numbered::Malformed;
+    };
+    let Integer::Value(f) = fraction else {
+        return Numbered::Malformed;
+    };
+    if WHOLE_MAX < w {
+        return Numbered::TooLarge;
+    }
+    if w + f == 0 {
+        return Numbered::Malformed;
+    }
+    Numbered::Value(Number {
+        whole: w,
+        fraction: f,
+    })
+}
+
+pub fn read_number(s: &[u8]) -> Numbered
+    ensures { λ r. ⌜ r ≡ numberOf (now (s .entry)) ⌝ }
+{
+    let point = cut(s, b'.');
+    let whole = read_integer(&s[..point]);
+    sized(whole, decimals(s, point, FRACTION_DIGITS))
+}
+
+// One part of a time, at most `most`.
+fn part(s: &[u8], most: u32) -> Integer
+    ensures { λ r. ⌜ r ≡ partOf most (now (s .entry)) ⌝ }
+{
+    let Integer::Value(v) = read_integer(s) else {
+        return Integer::Malformed;
+    };
+    if most < v {
+        return Integer::Malformed;
+    }
+    Integer::Value(v)
+}
+
+// Two parts, of which the second counts units of which the first has `base` each.
+fn joined(high: Integer, base: u32, low: Integer) -> Integer
+    requires { ⌜ AtMost 10_000_000 high ⌝ }
+    requires { ⌜ base ≤ 100 ⌝ }
+    requires { ⌜ AtMost cap low ⌝ }
+    ensures { λ r. ⌜ r ≡ joinOf high base low ⌝ }
+{
+    let Integer::Value(h) = high else {
+        return Integer::Malformed;
+    };
+    let Integer::Value(l) = low else {
+        return Integer::Malformed;
+    };
+    Integer::Value(h * base + l)
+}
+
+// The parts after the first colon, one or two of them, behind what stood before it.
+fn later(first: Integer, s: &[u8]) -> Integer
+    requires { ⌜ AtMost firstMax first ⌝ }
+    ensures { λ r. ⌜ r ≡ laterOf first (now (s .entry)) ⌝ }
+{
+    let colon = cut(s, b':');
+    if s.len() <= colon {
+        return joined(first, 60, part(s, LATER_MAX));
+    }
+    let middle = joined(first, 60, part(&s[..colon], LATER_MAX));
+    joined(middle, 60, part(&s[colon + 1..], LATER_MAX))
+}
+
+// Hours, minutes and seconds as seconds.
+fn clock(s: &[u8]) -> Integer
+    ensures { λ r. ⌜ r ≡ clockOf (now (s .entry)) ⌝ }
+{
+    let colon = cut(s, b':');
+    let first = part(&s[..colon], FIRST_MAX);
+    if s.len() <= colon {
+        return first;
+    }
+    later(first, &s[colon + 1..])
+}
+
+// A time in tenths of a second.
+pub enum Timed {
+    Malformed,
+    Value(u32),
+}
+
+pub fn read_time(s: &[u8]) -> Timed
+    ensures { λ r. ⌜ r ≡ timeOf (now (s .entry)) ⌝ }
+{
+    let point = cut(s, b'.');
+    let seconds = clock(&s[..point]);
+    match joined(seconds, 10, decimals(s, point, TENTHS_DIGITS)) {
+        Integer::Malformed => Timed::Malformed,
+        Integer::Value(t) => Timed::Value(t),
+    }
+}
+
+// IDENT's major:minor.
+pub enum Version {
+    Malformed,
+    Value(u32, u32),
+}
+
+fn versioned(major: Integer, minor: Integer) -> Version
+    ensures { λ r. ⌜ r ≡ versionedOf major minor ⌝ }
+{
+    let Integer::Value(a) = major else {
+        return Version::Malformed;
+    };
+    let Integer::Value(b) = minor else {
+        return Version::Malformed;
+    };
+    Version::Value(a, b)
+}
+
+pub fn read_version(s: &[u8]) -> Version
+    ensures { λ r. ⌜ r ≡ versionOf (now (s .entry)) ⌝ }
+{
+    let colon = cut(s, b':');
+    if s.len() <= colon {
+        return Version::Malformed;
+    }
+    let major = read_integer(&s[..colon]);
+    versioned(major, read_integer(&s[colon + 1..]))
+}
+
+pub enum Paged {
+    Bad,
+    Value(u32),
+}
+
+// A page, 1 to `limit`.
+pub fn read_page(s: &[u8], limit: u32) -> Paged
+    ensures { λ r. ⌜ r ≡ pageOf limit (now (s .entry)) ⌝ }
+{
+    let Integer::Value(v) = read_integer(s) else {
+        return Paged::Bad;
+    };
+    if v == 0 {
+        return Paged::Bad;
+    }
+    if limit < v {
+        return Paged::Bad;
+    }
+    Paged::Value(v)
+}

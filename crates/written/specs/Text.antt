@@ -1,0 +1,67 @@
+-- How values are written (paper 01, "The written stream").
+-- Assumes nothing.
+use mathlib.Core.Bool.{Bool, cond, _&&_, _||_}
+use mathlib.Core.List.{List, [], _∷_, _++_}
+use Prim.Native.Nat.{ℕ, zero, suc, _+_, _/_, _%_}
+use lib.Dec.{eqb, ltb, leb}
+use Rattle.value.specs.Parts.{point, colon}
+use Rattle.value.specs.Number.{fractionDigits}
+use Rattle.value.specs.Time.{tenthsDigits}
+
+-- ---- digits
+-- a digit's character: capitals
+unfoldable pub digitChar : ℕ → ℕ
+digitChar d = cond (ltb d 10) (48 + d) (55 + d)
+
+-- the last k digits of n in radix r, leading zeros too, ahead of a rest
+unfoldable pub digitsOn : ℕ → ℕ → ℕ → List ℕ → List ℕ
+digitsOn r zero n rest = rest
+digitsOn r (suc k) n rest = digitsOn r k (n / r) (digitChar (n % r) ∷ rest)
+
+abbrev pub digitsText : ℕ → ℕ → ℕ → List ℕ
+digitsText r k n = digitsOn r k n []
+
+-- how many digits n has, in f + 1 of them at most
+unfoldable pub countFrom : ℕ → ℕ → ℕ
+countFrom zero n = 1
+countFrom (suc f) n = let m = suc (countFrom f (n / 10)) in cond (ltb n 10) 1 m
+
+-- a number of 32 bits has ten digits at most
+unfoldable pub countOf : ℕ → ℕ
+countOf n = countFrom 9 n
+
+-- ---- values
+-- no leading zeros
+unfoldable pub integerText : ℕ → List ℕ
+integerText n = digitsText 10 (countOf n) n
+
+-- a point and k digits, and nothing for zero
+unfoldable pub fractionText : ℕ → ℕ → List ℕ
+fractionText k f = cond (eqb f 0) [] (point ∷ digitsText 10 k f)
+
+-- `.0` is not written
+unfoldable pub numberText : ℕ → ℕ → List ℕ
+numberText w f = integerText w ++ fractionText fractionDigits f
+
+-- H and two digits
+unfoldable pub levelText : ℕ → List ℕ
+levelText l = 72 ∷ digitsText 16 2 l
+
+-- two digits after a colon
+unfoldable pub partText : ℕ → List ℕ
+partText v = colon ∷ digitsText 10 2 v
+
+-- below one minute seconds alone, below one hour minutes and seconds, otherwise all three parts
+unfoldable pub clockText : ℕ → List ℕ
+clockText s =
+    cond (ltb s 60) (integerText s)
+    (cond (ltb s 3600) (integerText (s / 60) ++ partText (s % 60))
+    (integerText (s / 3600) ++ (partText (s / 60 % 60) ++ partText (s % 60))))
+
+-- tenths only if not zero
+unfoldable pub timeText : ℕ → List ℕ
+timeText t = clockText (t / 10) ++ fractionText tenthsDigits (t % 10)
+
+-- ---- the characters of a written value: digits, `.`, `:`, and A to H. No delimiter, no `!`, no control character is among them.
+unfoldable pub isPlain : ℕ → Bool
+isPlain c = eqb c 46 || ((leb 48 c && leb c 58) || (leb 65 c && leb c 72))
