@@ -1,0 +1,12 @@
+pub mod Places
+pub mod Find
+pub mod Form
+pub mod Start
+pub mod Edits
+pub mod Clear
+pub mod Patches
+pub mod Empty
+pub mod Loss
+pub mod Used
+pub mod Ordered
+pub mod Trial

@@ -1,0 +1,112 @@
+-- Good form (paper 01, "The store"): three searches over the whole store, each for the first place that is out of form. R4 is that
+-- one of them finds a place.
+-- Assumes nothing.
+use mathlib.Core.Bool.{Bool, true, false, cond, not, _&&_}
+use mathlib.Core.List.{List, [], _∷_}
+use Prim.Native.Nat.{ℕ}
+use lib.Dec.{eqb, leb}
+use Rattle.cells.specs.Search.{Found, at, nowhere, firstFrom}
+use Rattle.desk.specs.declared.Desk.{Desk}
+use Rattle.desk.specs.declared.Key.{Key}
+use Rattle.desk.specs.declared.Kind.{Kind}
+use Rattle.desk.specs.declared.Kind.the-variants.{Cue, Group, Sub}
+use Rattle.desk.specs.Size.{slotsOf, entriesOf}
+use Rattle.desk.specs.Name.{Name, kindAt, okNumber, okName, subSlot}
+use Rattle.head.specs.declared.Head.{Head}
+use Rattle.head.specs.declared.Patch.{Patch}
+use Rattle.head.specs.Layout.{decodePatch}
+use Rattle.store.specs.declared.Edit.{Edit}
+use Rattle.store.specs.declared.Edit.the-variants.{Up, Down, Followon, Link, Level}
+use Rattle.store.specs.Slots.{slotAt, entryAt, headAt, keyOf, isUsed, find}
+
+-- ---- which values a kind can have (§6.3: CHAN, UP and DOWN, FOLLOWON and LINK)
+
+unfoldable pub hasTimes : Kind → Bool
+hasTimes Cue = true
+hasTimes Group = false
+hasTimes Sub = true
+
+unfoldable pub hasLink : Kind → Bool
+hasLink Cue = true
+hasLink Group = false
+hasLink Sub = false
+
+-- ---- a slot by itself
+
+unfoldable pub isZero : List ℕ → Bool
+isZero [] = true
+isZero (b ∷ bs) = let r = isZero bs in cond (eqb b 0) r false
+
+-- 999:59:59.9
+abbrev pub mostTime : ℕ
+mostTime = 35999999
+
+-- an absent value is all zero; one that is there is in its range, and of a kind that can have it
+abbrev pub timeFits : Bool → ℕ → ℕ → Bool
+timeFits can present time = cond (eqb present 0) (eqb time 0) (can && leb time mostTime)
+
+unfoldable pub linkFits : Bool → Head → Bool
+linkFits can h =
+    cond (eqb (h .link) 0) (eqb (h .«link_whole») 0 && eqb (h .«link_fraction») 0)
+    (can && okNumber (h .«link_whole») (h .«link_fraction»))
+
+unfoldable pub valuesFit : Kind → Head → Bool
+valuesFit k h =
+    timeFits (hasTimes k) (h .up) (h .«up_fade»)
+    && timeFits (hasTimes k) (h .up) (h .«up_delay»)
+    && timeFits (hasTimes k) (h .down) (h .«down_fade»)
+    && timeFits (hasTimes k) (h .down) (h .«down_delay»)
+    && timeFits (hasLink k) (h .followon) (h .«followon_time»)
+    && linkFits (hasLink k) h
+    && eqb (h .rest) 0
+
+-- a submaster's head agrees with its place
+unfoldable pub placeFits : Desk → Kind → ℕ → Key → Bool
+placeFits d Cue i key = true
+placeFits d Group i key = true
+placeFits d Sub i key = eqb i (subSlot d key)
+
+abbrev pub nameAt : Desk → List ℕ → ℕ → Name
+nameAt d s i = record { kind = kindAt d i; key = keyOf (headAt d s i) }
+
+-- a used slot has a name that the desk can have, at its place, and values in range; an unused slot is all zero
+unfoldable pub slotFits : Desk → List ℕ → ℕ → Bool
+slotFits d s i =
+    cond (isUsed (headAt d s i))
+    (okName d (nameAt d s i) && placeFits d (kindAt d i) i (keyOf (headAt d s i)) && valuesFit (kindAt d i) (headAt d s i))
+    (isZero (slotAt d s i))
+
+-- ---- a slot that repeats an earlier one: it is used, and not the one that is found under its name
+
+unfoldable pub isAt : ℕ → Found → Bool
+isAt i (at j) = eqb i j
+isAt i nowhere = false
+
+unfoldable pub repeatsAt : Desk → List ℕ → ℕ → Bool
+repeatsAt d s i = isUsed (headAt d s i) && not (isAt i (find d s (nameAt d s i)))
+
+-- ---- a patch entry: an unpatched one is all zero, a patched one has a channel of the desk's
+
+unfoldable pub patchFits : Desk → Patch → Bool
+patchFits d p = eqb (p .rest) 0 && cond (eqb (p .channel) 0) (eqb (p .level) 0) (leb (p .channel) (d .channels))
+
+unfoldable pub entryFits : Desk → List ℕ → ℕ → Bool
+entryFits d s i = patchFits d (decodePatch (entryAt d s i))
+
+-- ---- the three searches, and the test
+
+unfoldable pub badSlot : Desk → List ℕ → Found
+badSlot d s = firstFrom (λ i. not (slotFits d s i)) (slotsOf d) 0
+
+unfoldable pub repeatedSlot : Desk → List ℕ → Found
+repeatedSlot d s = firstFrom (repeatsAt d s) (slotsOf d) 0
+
+unfoldable pub badEntry : Desk → List ℕ → Found
+badEntry d s = firstFrom (λ i. not (entryFits d s i)) (entriesOf d) 0
+
+unfoldable pub isNowhere : Found → Bool
+isNowhere (at i) = false
+isNowhere nowhere = true
+
+unfoldable pub goodForm : Desk → List ℕ → Bool
+goodForm d s = isNowhere (badSlot d s) && isNowhere (repeatedSlot d s) && isNowhere (badEntry d s)

@@ -1,0 +1,75 @@
+-- What the operations do to a kept memory, and which values a kind can have (paper 01, "The store"; 001 §6.3, §9, §10).
+-- Assumes nothing.
+use mathlib.Core.Bool.{Bool, true, cond}
+use mathlib.Core.List.{List}
+use mathlib.Core.Path.{_≡_}
+use Prim.Native.Nat.{ℕ, _-_, _*_, _≤_, _<_}
+use lib.ListN.{drop, set, replicate}
+use Rattle.cells.specs.Search.{countFrom}
+use Rattle.desk.specs.declared.Desk.{Desk}
+use Rattle.desk.specs.declared.Key.{Key}
+use Rattle.desk.specs.declared.Kind.{Kind}
+use Rattle.desk.specs.Size.{headLength, levelWidth, levelsLength}
+use Rattle.desk.specs.Name.{firstSlot, slotCount, okNumber}
+use Rattle.head.specs.Layout.{decodeHead}
+use Rattle.store.specs.declared.Edit.{Edit}
+use Rattle.store.specs.declared.Edit.the-variants.{Up, Down, Followon, Link, Level}
+use Rattle.store.specs.Slots.{headAt, isUsed}
+use Rattle.store.specs.View.{Memory, Kept, absent, kept, memoryAt}
+use Rattle.store.specs.Change.{blankHead, editHead}
+use Rattle.store.specs.Form.{hasTimes, hasLink, mostTime}
+
+-- the memory that a slot's bytes hold
+unfoldable pub memoryIn : List ℕ → Memory
+memoryIn x = record { head = decodeHead x; levels = drop headLength x }
+
+-- the memory that a slot keeps
+unfoldable pub slotView : Desk → List ℕ → ℕ → Kept
+slotView d s i = cond (isUsed (headAt d s i)) (kept (memoryAt d s i)) absent
+
+-- a fresh one: no levels, times or link
+unfoldable pub blankMemory : Desk → Key → Memory
+blankMemory d key = record { head = blankHead key; levels = replicate (levelsLength d) 0 }
+
+-- a changed one
+unfoldable pub editLevels : Desk → Edit → List ℕ → List ℕ
+editLevels d (Up fade delay) ls = ls
+editLevels d (Down fade delay) ls = ls
+editLevels d (Followon time) ls = ls
+editLevels d (Link whole fraction) ls = ls
+editLevels d (Level channel v) ls = set ls ((channel - 1) * levelWidth d) v
+
+unfoldable pub editMemory : Desk → Edit → Memory → Memory
+editMemory d e m = record { head = editHead e (m .head); levels = editLevels d e (m .levels) }
+
+unfoldable pub mapKept : (Memory → Memory) → Kept → Kept
+mapKept f absent = absent
+mapKept f (kept m) = kept (f m)
+
+-- ---- 001 §6.3: CUE (§9.1) has CHAN, UP, DOWN, FOLLOWON, LINK; GROUP (§9.2) has CHAN; SUB (§9.3) has CHAN, UP, DOWN
+unfoldable pub has : Kind → Edit → Bool
+has k (Up fade delay) = hasTimes k
+has k (Down fade delay) = hasTimes k
+has k (Followon time) = hasLink k
+has k (Link whole fraction) = hasLink k
+has k (Level channel v) = true
+
+-- the values of a change fit their bits in the head: times 26, a number 10 and 4
+abbrev pub EditFits : Edit → Type 0
+EditFits (Up fade delay) = (fade < 67108864) × (delay < 67108864)
+EditFits (Down fade delay) = (fade < 67108864) × (delay < 67108864)
+EditFits (Followon time) = time < 67108864
+EditFits (Link whole fraction) = (whole < 1024) × (fraction < 16)
+EditFits (Level channel v) = Unit
+
+-- the values of a change are in range: times at most 999:59:59.9, a link 0.1 to 999.9
+abbrev pub InTime : Edit → Type 0
+InTime (Up fade delay) = (fade ≤ mostTime) × (delay ≤ mostTime)
+InTime (Down fade delay) = (fade ≤ mostTime) × (delay ≤ mostTime)
+InTime (Followon time) = time ≤ mostTime
+InTime (Link whole fraction) = okNumber whole fraction ≡ true
+InTime (Level channel v) = Unit
+
+-- how many slots of a kind are used
+unfoldable pub usedCount : Desk → List ℕ → Kind → ℕ
+usedCount d s k = countFrom (λ i. isUsed (headAt d s i)) (slotCount d k) (firstSlot d k)
