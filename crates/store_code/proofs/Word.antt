@@ -1,0 +1,211 @@
+-- The key of a slot in one number tells what the head tells: which memory the slot holds, whether it is used, and its page. From the laws of
+-- the quick number and linear arithmetic on its four fields.
+-- Assumes nothing.
+use mathlib.Core.Path.{_≡_, refl, sym, ap, _∙_, subst}
+use mathlib.Core.Bool.{Bool, true, false, not}
+use mathlib.Core.List.{List}
+use Prim.Native.Nat.{ℕ, _+_, _-_, _*_, _≤_, _<_, min}
+use native.Mathlib.Omega.{arith}
+use lib.Dec.{leb, ltb, eqb}
+use lib.ListN.{length, getD, take, drop, length-take, List·getD-eq-default}
+use lib.Seq.{getD-take, getD-drop}
+use borrow.Author.Tests.{eqb-true, eq-eqb, ne-eqb, leb-true, le-leb, lt-ltb, le-ltb}
+use Rattle.cells.specs.Search.{Found, at, firstFrom}
+use Rattle.cells.proofs.Search.{first-same, search-hit, search-miss}
+use Rattle.cells.proofs.Split.{by-bool, by-lt, same-test, and-true, and-left, and-right, or-true-left, or-true-right, by-or, not-of-true, not-of-false}
+use Rattle.desk.specs.declared.Desk.{Desk}
+use Rattle.desk.specs.declared.Key.{Key}
+use Rattle.desk.specs.declared.Kind.{Kind}
+use Rattle.desk.specs.Size.{slotLength, slotsOf}
+use Rattle.desk.specs.Name.{KeyFits, eqKey, firstSlot, slotCount}
+use Rattle.desk.proofs.Name.{eq-key, eq-key-true, kind-end}
+use Rattle.head.specs.Pack.{total, packed, Bytes}
+use Rattle.head.specs.Layout.{HeadFits, wordOf}
+use Rattle.head.proofs.Laws.{decode-fits, quick-is}
+use Rattle.store.specs.Slots.{slotAt, headAt, keyOf, isUsed, holdsAt, find}
+use Rattle.store.specs.Change.{onPage, hitsAt, lowestUnused}
+use Rattle.store_code.specs.Fits.{Fitting}
+use Rattle.store.specs.Order.{slotWord}
+use Rattle.store_code.specs.Answer.{nameOf}
+use Rattle.store_code.proofs.Laws.{slot-length, slot-long}
+
+-- ---- bytes of a part
+part-bytes : (s : List ℕ) → Bytes s → (a n : ℕ) → Bytes (take n (drop a s))
+part-bytes s b a n i =
+    by-lt i n
+    (λ h. subst (λ (z : ℕ). z < 256) (sym (getD-take n (drop a s) i 0 h ∙ getD-drop a s i 0)) (b (a + i)))
+    (λ h.
+    let l : length (take n (drop a s)) ≡ min n (length (drop a s)) = length-take n (drop a s) in
+    let e : getD (take n (drop a s)) i 0 ≡ 0 = List·getD-eq-default (take n (drop a s)) 0 {n = i} (omega arith) in
+    omega arith)
+
+-- ---- the number of a key
+word-is-sum : (u p w f : ℕ) → wordOf u p w f ≡ u * 1048576 + (p * 16384 + (w * 16 + f))
+unfolding wordOf packed total
+word-is-sum u p w f = omega arith
+
+module _ (d : Desk) (s : List ℕ) (i : ℕ) (f : Fitting d s) (h : i < slotsOf d) (b : Bytes s) where
+  -- it is that of the slot's head
+  word-is : slotWord d s i ≡ wordOf (headAt d s i .used) (headAt d s i .page) (headAt d s i .whole) (headAt d s i .fraction)
+  unfolding slotWord headAt slotAt
+  word-is =
+      let l = slot-length d s i f h in
+      let g = slot-long d in
+      quick-is (slotAt d s i) (omega arith) (part-bytes s b (i * slotLength d) (slotLength d))
+
+  fits : HeadFits (headAt d s i)
+  unfolding headAt
+  fits = decode-fits (slotAt d s i)
+
+  word-sum : {w : ℕ} → w ≡ slotWord d s i
+      → w ≡ headAt d s i .used * 1048576 + (headAt d s i .page * 16384 + (headAt d s i .whole * 16 + headAt d s i .fraction))
+  word-sum e = e ∙ word-is ∙ word-is-sum (headAt d s i .used) (headAt d s i .page) (headAt d s i .whole) (headAt d s i .fraction)
+
+  used-is : isUsed (headAt d s i) ≡ true → headAt d s i .used ≡ 1
+  used-is t = eqb-true (headAt d s i .used) 1 t
+
+  -- ---- look-up
+  module _ (key : Key) (k : KeyFits key) {w wanted : ℕ} (e : w ≡ slotWord d s i) (q : wanted ≡ wordOf 1 (key .page) (key .whole) (key .fraction)) where
+    wanted-sum : wanted ≡ 1048576 + (key .page * 16384 + (key .whole * 16 + key .fraction))
+    wanted-sum = let z = word-is-sum 1 (key .page) (key .whole) (key .fraction) in omega arith
+
+    word-holds : w ≡ wanted → holdsAt d s key i ≡ true
+    unfolding holdsAt
+    word-holds g =
+        let a = word-sum e in
+        let c = wanted-sum in
+        let l = fits in
+        let u : headAt d s i .used ≡ 1 = omega (arith, l .used, l .page, l .whole, l .fraction, k .page, k .whole, k .fraction) in
+        let x : headAt d s i .page ≡ key .page = omega (arith, l .used, l .page, l .whole, l .fraction, k .page, k .whole, k .fraction) in
+        let y : headAt d s i .whole ≡ key .whole = omega (arith, l .used, l .page, l .whole, l .fraction, k .page, k .whole, k .fraction) in
+        let z : headAt d s i .fraction ≡ key .fraction = omega (arith, l .used, l .page, l .whole, l .fraction, k .page, k .whole, k .fraction) in
+        and-true (isUsed (headAt d s i)) (eqKey (keyOf (headAt d s i)) key)
+        (eq-eqb (headAt d s i .used) 1 u)
+        (eq-key-true (keyOf (headAt d s i)) key (λ j. record { page = x j; whole = y j; fraction = z j }))
+
+    holds-word : holdsAt d s key i ≡ true → w ≡ wanted
+    unfolding holdsAt
+    holds-word t =
+        let u : headAt d s i .used ≡ 1 = used-is (and-left (isUsed (headAt d s i)) (eqKey (keyOf (headAt d s i)) key) t) in
+        let m : keyOf (headAt d s i) ≡ key = eq-key (keyOf (headAt d s i)) key (and-right (isUsed (headAt d s i)) (eqKey (keyOf (headAt d s i)) key) t) in
+        let x : headAt d s i .page ≡ key .page = ap (λ (z : Key). z .page) m in
+        let y : headAt d s i .whole ≡ key .whole = ap (λ (z : Key). z .whole) m in
+        let z : headAt d s i .fraction ≡ key .fraction = ap (λ (z : Key). z .fraction) m in
+        let a = word-sum e in
+        let c = wanted-sum in
+        omega arith
+
+    pub word-test : eqb w wanted ≡ holdsAt d s key i
+    word-test =
+        same-test (eqb w wanted) (holdsAt d s key i) (λ t. word-holds (eqb-true w wanted t)) (λ t. eq-eqb w wanted (holds-word t))
+
+  -- ---- used or not
+  module _ {w least : ℕ} (e : w ≡ slotWord d s i) (q : least ≡ wordOf 1 0 0 0) where
+    word-used : least ≤ w → isUsed (headAt d s i) ≡ true
+    word-used g =
+        let a = word-sum e in
+        let c = word-is-sum 1 0 0 0 in
+        let l = fits in
+        eq-eqb (headAt d s i .used) 1 (omega (arith, l .used, l .page, l .whole, l .fraction))
+
+    used-word : isUsed (headAt d s i) ≡ true → least ≤ w
+    used-word t =
+        let u : headAt d s i .used ≡ 1 = used-is t in
+        let a = word-sum e in
+        let c = word-is-sum 1 0 0 0 in
+        omega arith
+
+    pub unused-test : ltb w least ≡ not (isUsed (headAt d s i))
+    unused-test =
+        by-lt w least
+        (λ g. lt-ltb w least g ∙ sym (not-of-false (isUsed (headAt d s i)) (unless g)))
+        (λ g. le-ltb w least g ∙ sym (not-of-true (isUsed (headAt d s i)) (word-used g)))
+      where
+        unless : w < least → isUsed (headAt d s i) ≡ false
+        unless g = by-bool (isUsed (headAt d s i)) (λ t. absurd (let l = used-word t in omega arith)) (λ t. t)
+
+    -- ---- a CLEAR of every page
+    pub hits-every : (p : ℕ) → p ≡ 0 → leb least w ≡ hitsAt d s p i
+    unfolding hitsAt
+    hits-every p z =
+        same-test (leb least w) _
+        (λ t.
+        and-true (isUsed (headAt d s i)) (onPage p (headAt d s i .page)) (word-used (leb-true least w t))
+        (or-true-left (eqb p 0) (eqb p (headAt d s i .page)) (eq-eqb p 0 z)))
+        (λ t. le-leb least w (used-word (and-left (isUsed (headAt d s i)) (onPage p (headAt d s i .page)) t)))
+
+  -- ---- and of one
+  module _ {w : ℕ} (p : ℕ) (e : w ≡ slotWord d s i) (np : p ≡ 0 → ⊥) where
+    on-page : onPage p (headAt d s i .page) ≡ true → p ≡ headAt d s i .page
+    on-page t = by-or (eqb p 0) (eqb p (headAt d s i .page)) t (λ z. absurd (np (eqb-true p 0 z))) (λ z. eqb-true p (headAt d s i .page) z)
+
+    pub hits-below : {low : ℕ} → low ≡ wordOf 1 p 0 0 → w < low → false ≡ hitsAt d s p i
+    unfolding hitsAt
+    hits-below q g =
+        by-bool (hitsAt d s p i)
+        (λ t.
+        let u : headAt d s i .used ≡ 1 = used-is (and-left (isUsed (headAt d s i)) (onPage p (headAt d s i .page)) t) in
+        let m : p ≡ headAt d s i .page = on-page (and-right (isUsed (headAt d s i)) (onPage p (headAt d s i .page)) t) in
+        let a = word-sum e in
+        let c = word-is-sum 1 p 0 0 in
+        absurd (omega arith))
+        (λ t. sym t)
+
+    pub hits-above : {low high : ℕ} → low ≡ wordOf 1 p 0 0 → high ≡ wordOf 1 p 1023 15 → low ≤ w → leb w high ≡ hitsAt d s p i
+    unfolding hitsAt
+    hits-above q r g =
+        let a = word-sum e in
+        let c = word-is-sum 1 p 0 0 in
+        let x = word-is-sum 1 p 1023 15 in
+        let l = fits in
+        same-test (leb w _) _
+        (λ t.
+        let y = leb-true w _ t in
+        let u : headAt d s i .used ≡ 1 = omega (arith, l .used, l .page, l .whole, l .fraction) in
+        let m : p ≡ headAt d s i .page = omega (arith, l .used, l .page, l .whole, l .fraction) in
+        and-true (isUsed (headAt d s i)) (onPage p (headAt d s i .page)) (eq-eqb (headAt d s i .used) 1 u)
+        (or-true-right (eqb p 0) (eqb p (headAt d s i .page)) (eq-eqb p (headAt d s i .page) m)))
+        (λ t.
+        let u : headAt d s i .used ≡ 1 = used-is (and-left (isUsed (headAt d s i)) (onPage p (headAt d s i .page)) t) in
+        let m : p ≡ headAt d s i .page = on-page (and-right (isUsed (headAt d s i)) (onPage p (headAt d s i .page)) t) in
+        le-leb w _ (omega (arith, l .whole, l .fraction)))
+
+-- ---- the searches, as the code makes them
+abbrev pub isWord : Desk → List ℕ → ℕ → ℕ → Bool
+isWord d s w i = eqb (slotWord d s i) w
+
+abbrev pub isBelow : Desk → List ℕ → ℕ → ℕ → Bool
+isBelow d s w i = ltb (slotWord d s i) w
+
+module _ (d : Desk) (s : List ℕ) (k : Kind) (f : Fitting d s) (b : Bytes s) {first count : ℕ} (ef : first ≡ firstSlot d k) (ec : count ≡ slotCount d k) where
+  of-kind : (p q : ℕ → Bool) → ((i : ℕ) → i < slotsOf d → p i ≡ q i)
+      → firstFrom p (first + count - first) first ≡ firstFrom q (slotCount d k) (firstSlot d k)
+  of-kind p q g =
+      let m : first + count - first ≡ slotCount d k = omega arith in
+      ap (λ (z : ℕ). firstFrom p z first) m
+      ∙ ap (λ (z : ℕ). firstFrom p (slotCount d k) z) ef
+      ∙ first-same p q (slotCount d k) (firstSlot d k) (λ i h l. g i (let e = kind-end d k in omega arith))
+
+  pub find-words : (key : Key) → KeyFits key → (wanted : ℕ) → wanted ≡ wordOf 1 (key .page) (key .whole) (key .fraction)
+      → firstFrom (isWord d s wanted) (first + count - first) first ≡ find d s (nameOf k key)
+  unfolding find
+  find-words key kf wanted q = of-kind (isWord d s wanted) (holdsAt d s key) (λ i h. word-test d s i f h b key kf refl q)
+
+  pub unused-words : (least : ℕ) → least ≡ wordOf 1 0 0 0
+      → firstFrom (isBelow d s least) (first + count - first) first ≡ lowestUnused d s k
+  unfolding lowestUnused
+  unused-words least q = of-kind (isBelow d s least) (λ i. not (isUsed (headAt d s i))) (λ i h. unused-test d s i f h b refl q)
+
+-- one turn of either
+module _ (d : Desk) (s : List ℕ) {w x e i : ℕ} {a : Found} (h : i < e) (q : x ≡ slotWord d s i) where
+  pub word-hit : x ≡ w → firstFrom (isWord d s w) (e - i) i ≡ a → at i ≡ a
+  word-hit t g = search-hit (isWord d s w) e i h (ap (λ (z : ℕ). eqb z w) q) (eq-eqb x w t) g
+
+  pub word-miss : (x ≡ w → ⊥) → firstFrom (isWord d s w) (e - i) i ≡ a → firstFrom (isWord d s w) (e - (i + 1)) (i + 1) ≡ a
+  word-miss t g = search-miss (isWord d s w) e i h (ap (λ (z : ℕ). eqb z w) q) (ne-eqb x w t) g
+
+  pub below-hit : x < w → firstFrom (isBelow d s w) (e - i) i ≡ a → at i ≡ a
+  below-hit t g = search-hit (isBelow d s w) e i h (ap (λ (z : ℕ). ltb z w) q) (lt-ltb x w t) g
+
+  pub below-miss : w ≤ x → firstFrom (isBelow d s w) (e - i) i ≡ a → firstFrom (isBelow d s w) (e - (i + 1)) (i + 1) ≡ a
+  below-miss t g = search-miss (isBelow d s w) e i h (ap (λ (z : ℕ). ltb z w) q) (le-ltb x w t) g

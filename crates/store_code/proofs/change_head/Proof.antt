@@ -1,0 +1,43 @@
+-- `change_head` meets its contract: the head is decoded, changed, encoded and put back at the front.
+-- Assumes nothing.
+use mathlib.Core.Path.{sym, subst, ap, _∙_}
+use Rattle.cells.specs.Put.{put}
+use Rattle.head.specs.Layout.{HeadFits, encodeHead}
+use Rattle.store.specs.Change.{editHead, withHead}
+use borrow.Author.Needs.{needs}
+use Rattle.store_code.proofs.change_head.Statement.{statement}
+use Rattle.store_code.proofs.change_head.Tie as tie
+
+decode-requires : tie.Need-decode-requires
+decode-requires c κs = search needs
+
+changed-requires : tie.Need-changed-requires
+changed-requires c κs = search needs
+
+encode-requires : tie.Need-encode-requires
+encode-requires c κs = subst HeadFits (sym (c .changed .ensures ∙ ap (editHead _) (c .before .decode .ensures))) (c .before .before .before .before .pre .0)
+
+slice-aggregate-copy : tie.Need-slice-aggregate-copy
+slice-aggregate-copy c = search needs
+
+copy-requires : tie.Need-copy-requires
+copy-requires c κs = search needs
+
+same-length : tie.Need-same-length
+same-length c = search needs
+
+returns : tie.Need-returns
+unfolding withHead
+returns c = c .before .before .copy .ensures ∙ ap (put _ 0) (c .before .before .before .before .before .encode .ensures ∙ ap encodeHead (c .before .before .before .before .before .before .changed .ensures ∙ ap (editHead _) (c .before .before .before .before .before .before .before .decode .ensures)))
+
+pub change-head-spec : {M : Type 1} → statement M
+change-head-spec =
+    tie.close
+    (tie.spec
+    decode-requires
+    changed-requires
+    encode-requires
+    slice-aggregate-copy
+    copy-requires
+    same-length
+    returns)
