@@ -1,0 +1,128 @@
+-- CHAN's pairs and PATCH's triples: what each comes to (paper 01, "Keywords and conditions", CHAN and PATCH). A wrong field drops
+-- its item; fields are tested left to right and the first fault is reported; an incomplete last item is dropped like one with a
+-- malformed field.
+-- Assumes nothing.
+use mathlib.Core.Bool.{Bool, cond}
+use mathlib.Core.List.{List, [], _∷_}
+use Prim.Native.Nat.{ℕ}
+use lib.ListN.{length}
+use Rattle.cells.specs.Pad.{padded}
+use Rattle.desk.specs.declared.Desk.{Desk}
+use Rattle.desk.specs.Size.{isWithin}
+use Rattle.desk.specs.Name.{Name}
+use Rattle.value.specs.declared.Integer.{Integer}
+use Rattle.value.specs.declared.Integer.the-variants.{Malformed, Value}
+use Rattle.level.specs.declared.Leveled.{Leveled}
+use Rattle.level.specs.declared.Leveled.the-variants.{NotPercent, NotHex, Value as IsLevel}
+use Rattle.value.specs.Integer.{integerOf}
+use Rattle.level.specs.Level.{levelOf}
+use Rattle.fields.specs.Words.{Word, missing}
+use Rattle.store.specs.declared.Edit.the-variants.{Level as SetLevel}
+use Rattle.store.specs.Change.{edited, editAt, patched}
+use Rattle.load.specs.declared.Entry.{Entry}
+use Rattle.load.specs.declared.Entry.the-variants.{Level, Patch, Fault}
+use Rattle.load.specs.declared.Ranged.{Ranged}
+use Rattle.load.specs.declared.Ranged.the-variants.{Within, Wrong}
+use Rattle.load.specs.declared.Aim.{Aim}
+use Rattle.load.specs.declared.Aim.the-variants.{Slot, Page}
+use Rattle.load.specs.declared.Faults.{Faults}
+use Rattle.load.specs.declared.Group.{Group}
+use Rattle.load.specs.declared.Group.the-variants.{Pair, Triple}
+use Rattle.load.specs.Condition.{malformedInteger, badHex, badChannel, badDimmer, badPercent}
+
+-- an integer from 1 to a limit, and the condition of one beyond it
+unfoldable pub rangedOf : ℕ → ℕ → Integer → Ranged
+rangedOf limit beyond Malformed = Wrong malformedInteger
+rangedOf limit beyond (Value n) = cond (isWithin 1 n limit) (Within n) (Wrong beyond)
+
+-- §7.3: a channel is 1 to C
+abbrev pub channelOf : Desk → Word → Ranged
+channelOf d w = rangedOf (d .channels) badChannel (integerOf (w .chars))
+
+-- §8.6: a dimmer is 1 to D
+abbrev pub dimmerOf : Desk → Word → Ranged
+dimmerOf d w = rangedOf (d .dimmers) badDimmer (integerOf (w .chars))
+
+-- go on with what a field gives, or blame the field
+unfoldable pub onRanged : Ranged → ℕ → (ℕ → Entry) → Entry
+onRanged (Within n) column f = f n
+onRanged (Wrong condition) column f = Fault condition column
+
+unfoldable pub onLevel : Leveled → ℕ → (ℕ → Entry) → Entry
+onLevel NotPercent column f = Fault badPercent column
+onLevel NotHex column f = Fault badHex column
+onLevel (IsLevel v) column f = f v
+
+-- CHAN: channel, level
+unfoldable pub pairOf : Desk → Word → Word → Entry
+pairOf d c l = onRanged (channelOf d c) (c .column) (λ n. onLevel (levelOf (l .chars)) (l .column) (λ v. Level n v))
+
+-- PATCH: channel, dimmer, level
+unfoldable pub tripleOf : Desk → Word → Word → Word → Entry
+tripleOf d c m l =
+    onRanged (channelOf d c) (c .column)
+    (λ n. onRanged (dimmerOf d m) (m .column) (λ k. onLevel (levelOf (l .chars)) (l .column) (λ v. Patch n k v)))
+
+-- the items of a record's fields, counted by place; a missing field is the missing word
+unfoldable pub pairsOf : Desk → List Word → List Entry
+pairsOf d [] = []
+pairsOf d (c ∷ []) = pairOf d c missing ∷ []
+pairsOf d (c ∷ (l ∷ ws)) = let r = pairsOf d ws in pairOf d c l ∷ r
+
+unfoldable pub triplesOf : Desk → List Word → List Entry
+triplesOf d [] = []
+triplesOf d (c ∷ []) = tripleOf d c missing missing ∷ []
+triplesOf d (c ∷ (m ∷ [])) = tripleOf d c m missing ∷ []
+triplesOf d (c ∷ (m ∷ (l ∷ ws))) = let r = triplesOf d ws in tripleOf d c m l ∷ r
+
+unfoldable pub entriesIn : Group → Desk → List Word → List Entry
+entriesIn Pair d ws = pairsOf d ws
+entriesIn Triple d ws = triplesOf d ws
+
+-- the faults among the items, in their order
+unfoldable pub faultsOf : List Entry → List ℕ
+faultsOf [] = []
+faultsOf (Level n v ∷ es) = faultsOf es
+faultsOf (Patch n k v ∷ es) = faultsOf es
+faultsOf (Fault condition column ∷ es) = condition ∷ faultsOf es
+
+-- ---- what items do to a store
+
+-- CHAN sets levels of the open memory, PATCH patches dimmers on its page
+pub data Target : Type 0 where
+  memory : Name → Target
+  page : ℕ → Target
+
+unfoldable pub done : Desk → Target → List ℕ → Entry → List ℕ
+done d (memory n) t (Level channel v) = edited d t n (SetLevel channel v)
+done d (memory n) t (Patch channel dimmer v) = t
+done d (memory n) t (Fault condition column) = t
+done d (page p) t (Level channel v) = t
+done d (page p) t (Patch channel dimmer v) = patched d t p dimmer channel v
+done d (page p) t (Fault condition column) = t
+
+-- one after the other: the last level, and a dimmer's last channel, win
+unfoldable pub allDone : Desk → Target → List ℕ → List Entry → List ℕ
+allDone d target t [] = t
+allDone d target t (e ∷ es) = allDone d target (done d target t e) es
+
+-- ---- the same as the code does it: the open memory by its slot
+
+unfoldable pub doneAt : Desk → Aim → List ℕ → Entry → List ℕ
+doneAt d (Slot i) t (Level channel v) = editAt d t i (SetLevel channel v)
+doneAt d (Slot i) t (Patch channel dimmer v) = t
+doneAt d (Slot i) t (Fault condition column) = t
+doneAt d (Page p) t (Level channel v) = t
+doneAt d (Page p) t (Patch channel dimmer v) = patched d t p dimmer channel v
+doneAt d (Page p) t (Fault condition column) = t
+
+unfoldable pub allDoneAt : Desk → Aim → List ℕ → List Entry → List ℕ
+allDoneAt d aim t [] = t
+allDoneAt d aim t (e ∷ es) = allDoneAt d aim (doneAt d aim t e) es
+
+-- a record's faults by value
+abbrev pub mostFaults : ℕ
+mostFaults = 40
+
+unfoldable pub faultsHeld : List ℕ → Faults
+faultsHeld xs = record { conditions = padded mostFaults xs; count = length xs }

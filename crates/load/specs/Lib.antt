@@ -1,0 +1,4 @@
+pub mod Condition
+pub mod Item
+pub mod Step
+pub mod Run

@@ -1,0 +1,156 @@
+-- The load: one step a record, until a record stops it; then reports, tallies and the closing number of what was read (paper 01,
+-- "Keywords and conditions", ENDDATA; "Reports, tallies, closing number"; §4.2, §5.3).
+-- Assumes nothing.
+use mathlib.Core.Bool.{Bool, true, false, cond, not}
+use mathlib.Core.List.{List, [], _∷_, _++_, map}
+use Prim.Native.Nat.{ℕ, suc, _+_, _*_}
+use lib.Dec.{eqb, ltb}
+use lib.ListN.{length, take}
+use Rattle.cells.specs.Put.{put}
+use Rattle.desk.specs.declared.Desk.{Desk}
+use Rattle.records.specs.Stream.{recordsOf}
+use Rattle.load.specs.declared.State.{State}
+use Rattle.load.specs.declared.Outcome.{Outcome}
+use Rattle.load.specs.declared.Totals.{Totals}
+use Rattle.load.specs.declared.Outcome.the-variants.{Blank, Passed, Dropped, Obeyed, Stopped}
+use Rattle.load.specs.Condition.{noEnddata, isError}
+use Rattle.load.specs.Step.{Step, recordStep, conditionsOf, nothingOpen}
+
+-- ---- the fold
+
+-- a report: the number of the record, from 1, and the condition
+pub record Report : Type 0 where
+  pub number : ℕ
+  pub condition : ℕ
+
+abbrev pub reportsAt : ℕ → List ℕ → List Report
+reportsAt n conditions = map (λ (c : ℕ). record { number = n; condition = c }) conditions
+
+unfoldable pub stops : Outcome → Bool
+stops Blank = false
+stops Passed = false
+stops (Dropped c) = false
+stops Obeyed = false
+stops (Stopped c) = true
+
+-- what records come to, one after the other: the state and the store after them, whether one stopped the load, and of those that
+-- were read the outcomes and the reports
+pub record Run : Type 0 where
+  pub state : State
+  pub store : List ℕ
+  pub stopped : Bool
+  pub outcomes : List Outcome
+  pub reports : List Report
+
+abbrev pub none : State → List ℕ → Run
+none s t = record { state = s; store = t; stopped = false; outcomes = []; reports = [] }
+
+-- record r of number n, which stops the load
+abbrev pub only : ℕ → List ℕ → Step → Run
+only n r x =
+    record {
+      state = x .state;
+      store = x .store;
+      stopped = true;
+      outcomes = x .outcome ∷ [];
+      reports = reportsAt n (conditionsOf r x);
+    }
+
+-- record r of number n, and what comes after it
+abbrev pub andThen : ℕ → List ℕ → Step → Run → Run
+andThen n r x rest =
+    record {
+      state = rest .state;
+      store = rest .store;
+      stopped = rest .stopped;
+      outcomes = x .outcome ∷ rest .outcomes;
+      reports = reportsAt n (conditionsOf r x) ++ rest .reports;
+    }
+
+-- records after n others
+unfoldable pub runFrom : Desk → ℕ → State → List ℕ → List (List ℕ) → Run
+runFrom d n s t [] = none s t
+runFrom d n s t (r ∷ rs) =
+    let x = recordStep d s r t in
+    let rest = runFrom d (n + 1) (x .state) (x .store) rs in
+    cond (stops (x .outcome)) (only (n + 1) r x) (andThen (n + 1) r x rest)
+
+-- a stream's records from the first
+unfoldable pub loadOf : Desk → List ℕ → List ℕ → Run
+loadOf d t stream = runFrom d 0 nothingOpen t (recordsOf stream)
+
+-- ---- what a run is told as
+
+-- a stream that ends before ENDDATA, with no 0091 or 0099, gives 0100 under the number of records read
+unfoldable pub allReports : Run → List Report
+allReports r = cond (r .stopped) (r .reports) (r .reports ++ (record { number = length (r .outcomes); condition = noEnddata } ∷ []))
+
+-- each record read is in one tally; ENDDATA is obeyed, and what 0091 or 0099 stopped is dropped
+pub data Class : Type 0 where
+  blank : Class
+  passed : Class
+  dropped : Class
+  obeyed : Class
+
+unfoldable pub classOf : Outcome → Class
+classOf Blank = blank
+classOf Passed = passed
+classOf (Dropped c) = dropped
+classOf Obeyed = obeyed
+classOf (Stopped c) = cond (eqb c 0) obeyed dropped
+
+unfoldable pub eqClass : Class → Class → Bool
+eqClass blank blank = true
+eqClass blank passed = false
+eqClass blank dropped = false
+eqClass blank obeyed = false
+eqClass passed blank = false
+eqClass passed passed = true
+eqClass passed dropped = false
+eqClass passed obeyed = false
+eqClass dropped blank = false
+eqClass dropped passed = false
+eqClass dropped dropped = true
+eqClass dropped obeyed = false
+eqClass obeyed blank = false
+eqClass obeyed passed = false
+eqClass obeyed dropped = false
+eqClass obeyed obeyed = true
+
+unfoldable pub tallyOf : Class → List Outcome → ℕ
+tallyOf k [] = 0
+tallyOf k (o ∷ os) = let n = tallyOf k os in cond (eqClass k (classOf o)) (suc n) n
+
+-- §4.2: the last error, else the last warning, else 0; each after what came before
+unfoldable pub lastOf : (ℕ → Bool) → ℕ → List Report → ℕ
+lastOf p c [] = c
+lastOf p c (r ∷ rs) = lastOf p (cond (p (r .condition)) (r .condition) c) rs
+
+unfoldable pub closingOf : List Report → ℕ
+closingOf rs =
+    let e = lastOf isError 0 rs in
+    let w = lastOf (λ c. not (isError c)) 0 rs in
+    cond (eqb e 0) w e
+
+-- a report in 32 bits: the record number in the upper 18, the condition in the lower 14
+abbrev pub conditionSpan : ℕ
+conditionSpan = 16384
+
+unfoldable pub reportWord : Report → ℕ
+reportWord r = r .number * conditionSpan + r .condition
+
+-- the lent list afterwards: as many reports as it has room for, and the entries not stored to as they were
+unfoldable pub storedIn : List ℕ → List Report → List ℕ
+storedIn reps rs = put reps 0 (take (length reps) (map reportWord rs))
+
+-- what the run is told as
+unfoldable pub totalsOf : Run → Totals
+totalsOf r =
+    record {
+      reports = length (allReports r);
+      blank = tallyOf blank (r .outcomes);
+      obeyed = tallyOf obeyed (r .outcomes);
+      passed = tallyOf passed (r .outcomes);
+      dropped = tallyOf dropped (r .outcomes);
+      closing = closingOf (allReports r);
+    }
