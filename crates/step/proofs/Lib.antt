@@ -1,0 +1,6 @@
+pub mod Holding
+pub mod Primaries
+pub mod Secondaries
+pub mod Clearing
+pub mod Basic
+pub mod Laws
