@@ -1,0 +1,71 @@
+-- `channels_length` meets its contract. The loop's invariant: the total, with the length of what is left of the channels, is the length of the CHAN
+-- records. The measure is what is left.
+-- Assumes nothing.
+use native.Mathlib.Omega.{arith}
+use lib.ListN.{length}
+use Prim.Native.Nat.{_-_}
+use Rattle.chans.proofs.Loops.{Adding, adding-start, adding-small, adding-turn, adding-end, adding-end-small}
+use borrow.Author.Needs.{needs}
+use Rattle.chans.proofs.channels_length.Statement.{statement}
+use Rattle.chans.proofs.channels_length.Tie as tie
+
+abbrev Inv-loop : tie.InvT-loop
+Inv-loop levels total₀ pairs₀ channel₀ i₀ total pairs channel i = Adding levels total pairs channel i
+
+abbrev μ-loop : tie.MeasureT-loop
+μ-loop levels total₀ pairs₀ channel₀ i₀ total pairs channel i = length levels - i
+
+loop-holds : tie.Need-loop-holds Inv-loop μ-loop
+loop-holds c = adding-start _
+
+shared-slice-read-level : tie.Need-shared-slice-read-level Inv-loop μ-loop
+shared-slice-read-level c = search needs
+
+channel-length-requires : tie.Need-channel-length-requires Inv-loop μ-loop
+channel-length-requires c κs = search needs
+
+add-total : tie.Need-add-total Inv-loop μ-loop
+add-total c = omega (arith, adding-small (c .before .before .before .loop .inv) ((c .before .before .before .before .before .pre)) (c .before .before .loop-test .taken) (c .channel-length .ensures))
+
+pairs-after-requires : tie.Need-pairs-after-requires Inv-loop μ-loop
+pairs-after-requires c κs = c .before .before .before .loop .inv .most
+
+add-channel : tie.Need-add-channel Inv-loop μ-loop
+add-channel c = omega (arith, c .before .before .before .before .loop .inv .number, c .before .before .before .loop-test .taken, (c .before .before .before .before .before .before .pre))
+
+add-i : tie.Need-add-i Inv-loop μ-loop
+add-i c = omega (arith, c .before .before .before .loop-test .taken, (c .before .before .before .before .before .before .pre))
+
+loop-less : tie.Need-loop-less Inv-loop μ-loop
+loop-less c = omega (arith, c .before .before .before .loop-test .taken)
+
+loop-again : tie.Need-loop-again Inv-loop μ-loop
+loop-again c = adding-turn (c .before .before .before .before .loop .inv) (c .before .before .before .loop-test .taken) (c .before .channel-length .ensures) (c .pairs-after .ensures)
+
+last-length-requires : tie.Need-last-length-requires Inv-loop μ-loop
+last-length-requires c κs = search needs
+
+add-result : tie.Need-add-result Inv-loop μ-loop
+add-result c = omega (arith, adding-end-small (c .before .before .loop .inv) ((c .before .before .before .before .pre)) (c .before .loop-test .left) (c .last-length .ensures))
+
+returns : tie.Need-returns Inv-loop μ-loop
+returns c = adding-end (c .before .before .loop .inv) (c .before .loop-test .left) (c .last-length .ensures)
+
+pub channels-length-spec : {M : Type 1} → statement M
+channels-length-spec =
+    tie.close
+    (tie.spec
+    Inv-loop
+    μ-loop
+    loop-holds
+    shared-slice-read-level
+    channel-length-requires
+    add-total
+    pairs-after-requires
+    add-channel
+    add-i
+    loop-less
+    loop-again
+    last-length-requires
+    add-result
+    returns)

@@ -1,0 +1,4 @@
+pub mod Chain
+pub mod Parts
+pub mod Lengths
+pub mod Rules

@@ -1,0 +1,5 @@
+pub mod Walk
+pub mod Rows
+pub mod Memories
+pub mod Whole
+pub mod Rules
