@@ -1,0 +1,243 @@
+-- The public calls' definitions case by case, in the form in which the code has its tests; by unfolding and the tests' values.
+-- Assumes nothing.
+use mathlib.Core.Path.{_≡_, refl, sym, ap, _∙_, subst}
+use mathlib.Core.Bool.{Bool, true, false, cond, not}
+use mathlib.Core.List.{List, []}
+use Prim.Native.Nat.{ℕ, _+_, _*_, _≤_, _<_}
+use native.Mathlib.Nat.{zero-add}
+use native.Mathlib.Omega.{arith}
+use lib.Dec.{ltb, leb}
+use lib.ListN.{length}
+use borrow.Author.Tests.{lt-ltb, le-ltb, le-leb, lt-leb, leb-true, leb-false, not-true, not-false}
+use Rattle.cells.specs.Put.{put}
+use Rattle.cells.specs.Search.{Found, at, nowhere}
+use Rattle.cells.proofs.Split.{by-bool, clash, not-of-false}
+use Rattle.desk.specs.declared.Desk.{Desk}
+use Rattle.desk.specs.declared.Key.{Key}
+use Rattle.desk.specs.Size.{InRange, inRangeOf, storeLength, headLength, slotLength, slotsOf}
+use Rattle.desk.specs.Name.{Name, okName}
+use Rattle.desk.proofs.Size.{in-range, in-range-true}
+use Rattle.store.specs.declared.Place.{Place}
+use Rattle.store.specs.declared.Place.the-variants.{At, Nowhere}
+use Rattle.store.specs.Slots.{find, placeOf, levelsAt}
+use Rattle.store.specs.Change.{emptied as emptiedStore}
+use Rattle.store.specs.Form.{goodForm}
+use Rattle.store.proofs.Form.{good-sound}
+use Rattle.store.proofs.Start.{found-ok}
+use Rattle.store_code.specs.Fits.{Fitting}
+use Rattle.store_code.proofs.Laws.{slot-small, slot-long}
+use Rattle.store_code.specs.Answer.{LevelsOf}
+use Rattle.form.specs.Fitting.{Fitting as Formed}
+use Rattle.load.specs.declared.Totals.{Totals}
+use Rattle.load.specs.Run.{Run, loadOf, totalsOf, storedIn, allReports}
+use Rattle.run.specs.Loaded.{Loaded as Ran, loadedOf, loaded as ran}
+use Rattle.written.specs.Wrote.{Wrote, wrote, wroteAt}
+use Rattle.save.specs.Lines.{streamOf}
+use Rattle.show.specs.declared.Away.{Away}
+use Rattle.show.specs.declared.Away.the-variants.{No, R2, R3, R4}
+use Rattle.show.specs.declared.Loaded.the-variants.{R1, R2 as LoadR2, R3 as LoadR3, R4 as LoadR4, Done as LoadDone}
+use Rattle.show.specs.declared.Written.the-variants.{R2 as WriteR2, R3 as WriteR3, R4 as WriteR4, R5, R6, Done as WriteDone}
+use Rattle.show.specs.declared.Emptied.the-variants.{R2 as EmptyR2, R3 as EmptyR3, Done as EmptyDone}
+use Rattle.show.specs.Calls.{mostBytes, awayOf, loaded, loadDone, loadBy, loadCall, written, putCall, writeBy, writeCall, emptied, emptyCall}
+use Rattle.show.specs.Calls.{isKept, notKept, Look, look, cue, cueKey, lookAt, lookBy, lookCall, LookedUp}
+use Rattle.show.specs.Calls.{placedAt, findBy, findCall}
+use Rattle.show.specs.declared.Placed.the-variants.{NotKept, At as PlacedAt}
+use denote.Ref.{RefT, ptr, now}
+
+-- ---- R2, R3, R4
+
+pub ranged : (d : Desk) {b : Bool} → b ≡ inRangeOf d → not b ≡ false → InRange d
+ranged d {b} e t = in-range d (sym e ∙ not-false b t)
+
+module _ (d : Desk) (s : List ℕ) where
+  pub away-range : {b : Bool} → b ≡ inRangeOf d → not b ≡ true → R2 ≡ awayOf d s
+  unfolding awayOf
+  away-range {b} e t = let f : inRangeOf d ≡ false = sym e ∙ not-true b t in rw f
+
+  pub away-short : {n : ℕ} → InRange d → n ≡ storeLength d → length s < n → R3 ≡ awayOf d s
+  unfolding awayOf
+  away-short {n} h e l =
+      let a : inRangeOf d ≡ true = in-range-true d h in
+      let f : leb (storeLength d) (length s) ≡ false = lt-leb _ _ (subst (λ (k : ℕ). length s < k) e l) in
+      rw (a, f)
+
+  pub fitting : {n : ℕ} → InRange d → n ≡ storeLength d → n ≤ length s → Fitting d s
+  fitting {n} h e l = record { range = h; long = subst (λ (k : ℕ). k ≤ length s) e l }
+
+  pub formed : Fitting d s → Formed d s
+  formed f = record { range = f .range; room = f .long }
+
+  pub away-none : {b : Bool} → Fitting d s → b ≡ goodForm d s → b ≡ true → No ≡ awayOf d s
+  unfolding awayOf
+  away-none {b} h e t =
+      let a : inRangeOf d ≡ true = in-range-true d (h .range) in
+      let f : leb (storeLength d) (length s) ≡ true = le-leb _ _ (h .long) in
+      let g : goodForm d s ≡ true = sym e ∙ t in
+      rw (a, f, g)
+
+  pub away-form : {b : Bool} → Fitting d s → b ≡ goodForm d s → b ≡ false → R4 ≡ awayOf d s
+  unfolding awayOf
+  away-form {b} h e t =
+      let a : inRangeOf d ≡ true = in-range-true d (h .range) in
+      let f : leb (storeLength d) (length s) ≡ true = le-leb _ _ (h .long) in
+      let g : goodForm d s ≡ false = sym e ∙ t in
+      rw (a, f, g)
+
+  -- a call that is not turned away has a store that fits, in good form
+  pub taken : No ≡ awayOf d s → Fitting d s × (goodForm d s ≡ true)
+  taken e =
+      by-bool (inRangeOf d)
+      (λ a. by-bool (leb (storeLength d) (length s))
+      (λ f. by-bool (goodForm d s)
+      (λ g. (record { range = in-range d a; long = leb-true _ _ f }, g))
+      (λ g. absurd (form-clash (away-form (record { range = in-range d a; long = leb-true _ _ f }) refl g))))
+      (λ f. absurd (short-clash (away-short (in-range d a) refl (leb-false _ _ f)))))
+      (λ a. absurd (range-clash (away-range refl (not-of-false _ a))))
+    where
+      form-clash : R4 ≡ awayOf d s → ⊥
+      form-clash q = let z : _≡_ {A = ℕ} 0 1 = cc in omega arith
+
+      short-clash : R3 ≡ awayOf d s → ⊥
+      short-clash q = let z : _≡_ {A = ℕ} 0 1 = cc in omega arith
+
+      range-clash : R2 ≡ awayOf d s → ⊥
+      range-clash q = let z : _≡_ {A = ℕ} 0 1 = cc in omega arith
+
+-- ---- load
+
+module _ (d : Desk) (s reps stream : List ℕ) where
+  pub load-long : mostBytes < length stream → loaded R1 s reps ≡ loadCall d s reps stream
+  unfolding loadCall
+  load-long h = let f : ltb mostBytes (length stream) ≡ true = lt-ltb _ _ h in rw f
+
+  pub load-by : (a : Away) → a ≡ awayOf d s → length stream ≤ mostBytes → loadBy a d s reps stream ≡ loadCall d s reps stream
+  unfolding loadCall
+  load-by a e h =
+      let f : ltb mostBytes (length stream) ≡ false = le-ltb _ _ h in
+      rw f (ap (λ (b : Away). loadBy b d s reps stream) e)
+
+  pub load-done : {r : Totals} {t q : List ℕ} → No ≡ awayOf d s → length stream ≤ mostBytes
+      → ran r t q ≡ loadedOf (loadOf d s stream) reps → loaded (LoadDone r) t q ≡ loadCall d s reps stream
+  unfolding loadBy loadedOf
+  load-done e h g = ap (λ (l : Ran). loaded (LoadDone (l .totals)) (l .store) (l .reports)) g ∙ load-by No e h
+
+-- ---- write
+
+module _ (stream out : List ℕ) where
+  pub put-long : {n : ℕ} → n ≡ length stream → mostBytes < n → written R5 out ≡ putCall stream out
+  unfolding putCall
+  put-long {n} e h =
+      let f : ltb mostBytes (length stream) ≡ true = lt-ltb _ _ (subst (λ (k : ℕ). mostBytes < k) e h) in
+      rw f
+
+  pub put-short : {n : ℕ} → n ≡ length stream → n ≤ mostBytes → length out < n → written (R6 n) out ≡ putCall stream out
+  unfolding putCall
+  put-short {n} e h g =
+      let f : ltb mostBytes (length stream) ≡ false = le-ltb _ _ (subst (λ (k : ℕ). k ≤ mostBytes) e h) in
+      let k : ltb (length out) (length stream) ≡ true = lt-ltb _ _ (subst (λ (k : ℕ). length out < k) e g) in
+      rw (f, k) (ap (λ (k : ℕ). written (R6 k) out) e)
+
+  pub put-done : {n r : ℕ} {o : List ℕ} → n ≡ length stream → n ≤ mostBytes → n ≤ length out
+      → wrote r o ≡ wroteAt out 0 stream → written (WriteDone r) o ≡ putCall stream out
+  unfolding putCall wroteAt
+  put-done {n} {r} {o} e h g w =
+      let f : ltb mostBytes (length stream) ≡ false = le-ltb _ _ (subst (λ (k : ℕ). k ≤ mostBytes) e h) in
+      let k : ltb (length out) (length stream) ≡ false = le-ltb _ _ (subst (λ (k : ℕ). k ≤ length out) e g) in
+      rw (f, k)
+      (ap (λ (x : Wrote). written (WriteDone (x .next)) (x .out)) w
+      ∙ ap (λ (k : ℕ). written (WriteDone k) (put out 0 stream)) (zero-add (length stream)))
+
+pub write-by : (d : Desk) (s out : List ℕ) (a : Away) → a ≡ awayOf d s → writeBy a d s out ≡ writeCall d s out
+unfolding writeCall
+write-by d s out a e = ap (λ (b : Away). writeBy b d s out) e
+
+-- ---- empty
+
+module _ (d : Desk) (s : List ℕ) where
+  pub empty-range : {b : Bool} → b ≡ inRangeOf d → not b ≡ true → emptied EmptyR2 s ≡ emptyCall d s
+  unfolding emptyCall
+  empty-range {b} e t = let f : inRangeOf d ≡ false = sym e ∙ not-true b t in rw f
+
+  pub empty-short : {n : ℕ} → InRange d → n ≡ storeLength d → length s < n → emptied EmptyR3 s ≡ emptyCall d s
+  unfolding emptyCall
+  empty-short {n} h e l =
+      let a : inRangeOf d ≡ true = in-range-true d h in
+      let f : leb (storeLength d) (length s) ≡ false = lt-leb _ _ (subst (λ (k : ℕ). length s < k) e l) in
+      rw (a, f)
+
+  pub empty-done : {t : List ℕ} → Fitting d s → t ≡ emptiedStore d s → emptied EmptyDone t ≡ emptyCall d s
+  unfolding emptyCall
+  empty-done {t} h e =
+      let a : inRangeOf d ≡ true = in-range-true d (h .range) in
+      let f : leb (storeLength d) (length s) ≡ true = le-leb _ _ (h .long) in
+      rw (a, f) (ap (λ (x : List ℕ). emptied EmptyDone x) e)
+
+-- ---- look-up
+
+-- what can't be named is not kept
+pub unnamed : (d : Desk) (s : List ℕ) (n : Name) {b : Bool} → goodForm d s ≡ true → b ≡ okName d n → b ≡ false → Nowhere ≡ placeOf (find d s n)
+unfolding placeOf
+unnamed d s n {b} g e f = sym (ap placeOf (none (find d s n) refl))
+  where
+    none : (a : Found) → find d s n ≡ a → a ≡ nowhere
+    none (at i) q = clash (found-ok d s (good-sound d s g) n i q) (sym e ∙ f)
+    none nowhere q = refl
+
+pub look-by : (d : Desk) (s : List ℕ) (page whole tenths : ℕ) (a : Away) → a ≡ awayOf d s
+    → lookBy a d s (cueKey page whole tenths) ≡ lookCall d s page whole tenths
+unfolding lookCall
+look-by d s page whole tenths a e = ap (λ (b : Away). lookBy b d s (cueKey page whole tenths)) e
+
+pub find-by : (d : Desk) (s : List ℕ) (page whole tenths : ℕ) (a : Away) → a ≡ awayOf d s
+    → findBy a d s (cueKey page whole tenths) ≡ findCall d s page whole tenths
+unfolding findCall
+find-by d s page whole tenths a e = ap (λ (b : Away). findBy b d s (cueKey page whole tenths)) e
+
+pub place-small : (d : Desk) {i n : ℕ} → i < slotsOf d → InRange d → n ≡ slotLength d → i * n + headLength ≤ 1643264
+place-small d {i} {n} h r e =
+    let a : i * slotLength d + slotLength d ≤ 1643264 = slot-small d i h r in
+    let b : 24 ≤ slotLength d = slot-long d in
+    let c : i * slotLength d + headLength ≤ 1643264 = omega arith in
+    subst (λ (k : ℕ). i * k + headLength ≤ 1643264) (sym e) c
+
+pub placed-at : (d : Desk) {f : Found} {i n : ℕ} → f ≡ at i → n ≡ slotLength d → PlacedAt (i * n + headLength) ≡ placedAt d f
+unfolding placedAt
+placed-at d {f} {i} {n} e h = ap (λ (k : ℕ). PlacedAt (i * k + headLength)) h ∙ sym (ap (placedAt d) e)
+
+pub placed-none : (d : Desk) {f : Found} → f ≡ nowhere → NotKept ≡ placedAt d f
+unfolding placedAt
+placed-none d e = sym (ap (placedAt d) e)
+
+look-kept : (d : Desk) (s : List ℕ) (key : Key) (i : ℕ) → find d s (cue key) ≡ at i
+    → look isKept (i * slotLength d + headLength) (levelsAt d s i) ≡ lookAt d s (find d s (cue key))
+unfolding lookAt
+look-kept d s key i e = sym (ap (λ (a : Found). lookAt d s a) e)
+
+pub looked-at : {s r : RefT (List ℕ)} (d : Desk) (key : Key) (i : ℕ) → find d (now s) (cue key) ≡ at i → LevelsOf d s i r
+    → LookedUp s r isKept (lookAt d (now s) (find d (now s) (cue key)))
+looked-at {s} d key i e l =
+    let q = look-kept d (now s) key i e in
+    record {
+      says = ap (λ (y : Look). y .word) q;
+      bytes = l .bytes ∙ ap (λ (y : Look). y .bytes) q;
+      block = l .block;
+      offset = l .offset ∙ ap (λ (y : Look). ptr s .1 + y .place) q;
+    }
+
+pub look-none : (d : Desk) (s : List ℕ) (key : Key) → find d s (cue key) ≡ nowhere → look notKept 0 [] ≡ lookAt d s (find d s (cue key))
+unfolding lookAt
+look-none d s key e = sym (ap (λ (a : Found). lookAt d s a) e)
+
+-- an empty part at the store's start
+pub looked : {s r : RefT (List ℕ)} {w : ℕ} {x : Look} (word : ℕ) → look word 0 [] ≡ x → w ≡ word → now r ≡ [] → ptr r .0 ≡ ptr s .0
+    → ptr r .1 ≡ ptr s .1 + 0 → LookedUp s r w x
+looked {s} {r} {w} {x} word e v b p q =
+    record {
+      says = v ∙ ap (λ (y : Look). y .word) e;
+      bytes = b ∙ ap (λ (y : Look). y .bytes) e;
+      block = p;
+      offset = q ∙ ap (λ (y : Look). ptr s .1 + y .place) e;
+    }
+
+pub looked-as : {s r : RefT (List ℕ)} {w : ℕ} {x y : Look} → x ≡ y → LookedUp s r w x → LookedUp s r w y
+looked-as {s} {r} {w} e l = subst (λ (z : Look). LookedUp s r w z) e l

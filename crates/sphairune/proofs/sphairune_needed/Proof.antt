@@ -1,0 +1,48 @@
+-- `sphairune_needed` meets its contract: each case of the answer gives its number, and the length goes into the lent list.
+-- Assumes nothing.
+use Rattle.desk.specs.declared.Needed.the-variants.{BadDesk, Length}
+use Rattle.sphairune.proofs.Laws.{needed-by}
+use Rattle.sphairune.proofs.sphairune_needed.Statement.{statement}
+use Rattle.sphairune.proofs.sphairune_needed.Tie as tie
+use Rattle.sphairune.specs.Calls.{neededBy, exported2}
+use borrow.Author.Needs.{needs}
+use mathlib.Core.Path.{ap, _∙_}
+
+desk-of-requires : tie.Need-desk-of-requires
+desk-of-requires c κs = search needs
+
+needed-requires : tie.Need-needed-requires
+needed-requires c κs = search needs
+
+enum-told : tie.Need-enum-told
+enum-told c = search needs
+
+enum-known-n : tie.Need-enum-known-n
+enum-known-n c = search needs
+
+note-length-requires : tie.Need-note-length-requires
+note-length-requires c κs = search needs
+
+returns : tie.Need-returns
+unfolding neededBy
+returns c = needed-by _ (c .before .before .before .desk-of .ensures) _ (c .before .before .needed .ensures) BadDesk (c .enum-told .given .1)
+
+same-length : tie.Need-same-length
+same-length c = search needs
+
+returns-2 : tie.Need-returns-2
+unfolding neededBy
+returns-2 c = ap (exported2 0) (c .before .before .note-length .ensures) ∙ needed-by _ (c .before .before .before .before .before .before .before .before .desk-of .ensures) _ (c .before .before .before .before .before .before .before .needed .ensures) (Length _) (c .before .before .before .before .before .n .given .1)
+
+pub sphairune-needed-spec : {M : Type 1} → statement M
+sphairune-needed-spec =
+    tie.close
+    (tie.spec
+    desk-of-requires
+    needed-requires
+    enum-told
+    enum-known-n
+    note-length-requires
+    returns
+    same-length
+    returns-2)

@@ -1,0 +1,105 @@
+/* Answers calls of the library, one a line of standard input, so that outside vectors can be run through the exported interface.
+ *   load  L1..L9 STORE STREAM CAP        -> NUMBER COUNT BLANK OBEYED PASSED DROPPED CLOSING REPORTS STORE
+ *   write L1..L9 STORE ROOM              -> NUMBER LENGTH OUT
+ *   find  L1..L9 STORE PAGE WHOLE TENTHS -> NUMBER PLACE
+ *   empty L1..L9 STORE                   -> NUMBER STORE
+ *   needed L1..L9                        -> NUMBER LENGTH
+ * Bytes are hexadecimal after an x; `x` alone is none, `x*N` is N zero bytes. Lent lists are filled with a mark first, and a refused
+ * call must leave each as it was: `TOUCHED` is printed where one did not. */
+#include <stdint.h>
+#include <stdio.h>
+#include <stdlib.h>
+#include <string.h>
+
+uint32_t sphairune_needed(const uint32_t *limits, size_t limits_n, size_t *length, size_t length_n);
+uint32_t sphairune_empty(const uint32_t *limits, size_t limits_n, uint8_t *store, size_t store_n);
+uint32_t sphairune_load(const uint32_t *limits, size_t limits_n, uint8_t *store, size_t store_n, const uint8_t *stream, size_t stream_n,
+                        uint32_t *reports, size_t reports_n, uint32_t *totals, size_t totals_n);
+uint32_t sphairune_write(const uint32_t *limits, size_t limits_n, const uint8_t *store, size_t store_n, uint8_t *out, size_t out_n,
+                         size_t *length, size_t length_n);
+uint32_t sphairune_find(const uint32_t *limits, size_t limits_n, const uint8_t *store, size_t store_n, uint32_t page, uint32_t whole,
+                        uint32_t tenths, size_t *place, size_t place_n);
+
+static char *line;
+
+static char *word(void) { return strtok(NULL, " \n"); }
+
+static uint32_t number(void) { return (uint32_t)strtoul(word(), NULL, 10); }
+
+static uint8_t *bytes(size_t *n) {
+    char *w = word() + 1;
+    if (*w == '*') {
+        *n = strtoul(w + 1, NULL, 10);
+        return calloc(*n + 1, 1);
+    }
+    *n = strlen(w) / 2;
+    uint8_t *b = malloc(*n + 1);
+    for (size_t i = 0; i < *n; i++) {
+        unsigned v;
+        sscanf(w + 2 * i, "%2x", &v);
+        b[i] = (uint8_t)v;
+    }
+    return b;
+}
+
+static void hex(const uint8_t *b, size_t n) {
+    putchar('x');
+    for (size_t i = 0; i < n; i++) printf("%02x", b[i]);
+}
+
+int main(void) {
+    size_t room = 0;
+    while (getline(&line, &room, stdin) > 0) {
+        char *what = strtok(line, " \n");
+        uint32_t limits[9];
+        size_t n, m, mark = 77;
+        if (!what) continue;
+        for (int i = 0; i < 9; i++) limits[i] = number();
+        if (!strcmp(what, "needed")) {
+            uint32_t r = sphairune_needed(limits, 9, &mark, 1);
+            printf("%u %zu\n", r, mark);
+            continue;
+        }
+        uint8_t *store = bytes(&n), *before = malloc(n + 1);
+        memcpy(before, store, n);
+        if (!strcmp(what, "load")) {
+            uint8_t *stream = bytes(&m);
+            uint32_t cap = number(), totals[6] = {7, 7, 7, 7, 7, 7};
+            uint32_t *reports = malloc((cap + 1) * 4);
+            for (uint32_t i = 0; i < cap; i++) reports[i] = 0xabcdef01;
+            uint32_t r = sphairune_load(limits, 9, store, n, stream, m, reports, cap, totals, 6);
+            printf("%u %u %u %u %u %u %u ", r, totals[0], totals[1], totals[2], totals[3], totals[4], totals[5]);
+            uint32_t stored = r ? 0 : totals[0] < cap ? totals[0] : cap;
+            putchar('[');
+            for (uint32_t i = 0; i < stored; i++) printf("%u,", reports[i]);
+            printf("] ");
+            int touched = r && (memcmp(store, before, n) || totals[0] != 7);
+            for (uint32_t i = stored; i < cap; i++) touched |= reports[i] != 0xabcdef01;
+            hex(store, n);
+            puts(touched ? " TOUCHED" : "");
+            free(stream), free(reports);
+        } else if (!strcmp(what, "write")) {
+            size_t space = number();
+            uint8_t *out = malloc(space + 1);
+            memset(out, 0xa5, space + 1);
+            uint32_t r = sphairune_write(limits, 9, store, n, out, space, &mark, 1);
+            int touched = memcmp(store, before, n) != 0;
+            for (size_t i = r ? 0 : mark; i < space; i++) touched |= out[i] != 0xa5;
+            printf("%u %zu ", r, mark);
+            hex(out, r ? 0 : mark);
+            puts(touched ? " TOUCHED" : "");
+            free(out);
+        } else if (!strcmp(what, "find")) {
+            uint32_t page = number(), whole = number(), tenths = number();
+            uint32_t r = sphairune_find(limits, 9, store, n, page, whole, tenths, &mark, 1);
+            printf("%u %zu\n", r, mark);
+        } else {
+            uint32_t r = sphairune_empty(limits, 9, store, n);
+            printf("%u ", r);
+            hex(store, n);
+            puts(r && memcmp(store, before, n) ? " TOUCHED" : "");
+        }
+        free(store), free(before);
+    }
+    return 0;
+}
