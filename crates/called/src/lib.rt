@@ -1,0 +1,1 @@
+// Theorems of the public calls, as a user meets them: no functions.

@@ -1,0 +1,14 @@
+pub mod Fields
+pub mod Items
+pub mod Ready
+pub mod Runs
+pub mod Dimmers
+pub mod Views
+pub mod Clears
+pub mod Opens
+pub mod Steps
+pub mod Rehearse
+pub mod Frame
+pub mod Needs
+pub mod Seen
+pub mod Idle

@@ -1,0 +1,3 @@
+pub mod Rehearse
+pub mod Frame
+pub mod Needs

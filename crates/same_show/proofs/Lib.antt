@@ -1,0 +1,17 @@
+pub mod Fair
+pub mod Spelled
+pub mod Worded
+pub mod Does
+pub mod Runs
+pub mod Rebuilt
+pub mod Lines
+pub mod Changed
+pub mod Keys
+pub mod Room
+pub mod Loaded
+pub mod Patching
+pub mod Cleared
+pub mod Back
+pub mod Canonical
+pub mod Theorem
+pub mod Trial
