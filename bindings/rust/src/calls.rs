@@ -1,0 +1,99 @@
+//! The five calls of the library, each as a safe function; the only unsafe code. A slice of Rust is what the library asks of a list: a
+//! pointer that is aligned and not null, to as many entries as the length says; and a slice lent as `&mut` overlaps no other.
+#![allow(unsafe_code)]
+
+mod library {
+    extern "C" {
+        pub fn sphairune_needed(limits: *const u32, limits_n: usize, length: *mut usize, length_n: usize) -> u32;
+        pub fn sphairune_empty(limits: *const u32, limits_n: usize, store: *mut u8, store_n: usize) -> u32;
+        pub fn sphairune_load(
+            limits: *const u32,
+            limits_n: usize,
+            store: *mut u8,
+            store_n: usize,
+            stream: *const u8,
+            stream_n: usize,
+            reports: *mut u32,
+            reports_n: usize,
+            totals: *mut u32,
+            totals_n: usize,
+        ) -> u32;
+        pub fn sphairune_write(
+            limits: *const u32,
+            limits_n: usize,
+            store: *const u8,
+            store_n: usize,
+            out: *mut u8,
+            out_n: usize,
+            length: *mut usize,
+            length_n: usize,
+        ) -> u32;
+        pub fn sphairune_find(
+            limits: *const u32,
+            limits_n: usize,
+            store: *const u8,
+            store_n: usize,
+            page: u32,
+            whole: u32,
+            tenths: u32,
+            place: *mut usize,
+            place_n: usize,
+        ) -> u32;
+    }
+}
+
+pub fn needed(limits: &[u32], length: &mut [usize]) -> u32 {
+    unsafe { library::sphairune_needed(limits.as_ptr(), limits.len(), length.as_mut_ptr(), length.len()) }
+}
+
+pub fn empty(limits: &[u32], store: &mut [u8]) -> u32 {
+    unsafe { library::sphairune_empty(limits.as_ptr(), limits.len(), store.as_mut_ptr(), store.len()) }
+}
+
+pub fn load(limits: &[u32], store: &mut [u8], stream: &[u8], reports: &mut [u32], totals: &mut [u32]) -> u32 {
+    unsafe {
+        library::sphairune_load(
+            limits.as_ptr(),
+            limits.len(),
+            store.as_mut_ptr(),
+            store.len(),
+            stream.as_ptr(),
+            stream.len(),
+            reports.as_mut_ptr(),
+            reports.len(),
+            totals.as_mut_ptr(),
+            totals.len(),
+        )
+    }
+}
+
+pub fn write(limits: &[u32], store: &[u8], out: &mut [u8], length: &mut [usize]) -> u32 {
+    unsafe {
+        library::sphairune_write(
+            limits.as_ptr(),
+            limits.len(),
+            store.as_ptr(),
+            store.len(),
+            out.as_mut_ptr(),
+            out.len(),
+            length.as_mut_ptr(),
+            length.len(),
+        )
+    }
+}
+
+pub fn find(limits: &[u32], store: &[u8], page: u32, whole: u32, tenths: u32, place: &mut [usize]) -> u32 {
+    unsafe {
+        library::sphairune_find(
+            limits.as_ptr(),
+            limits.len(),
+            store.as_ptr(),
+            store.len(),
+            page,
+            whole,
+            tenths,
+            place.as_mut_ptr(),
+            place.len(),
+        )
+    }
+}

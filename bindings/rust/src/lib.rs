@@ -1,0 +1,322 @@
+//! A safe wrapper of the proved reader and writer of lighting show data (USITT ASCII 3.0).
+//!
+//! A show lives in a store, which is the caller's own bytes; a [`Desk`] says how long it has to be and how it is laid out. Nothing
+//! allocates, and a call that is turned away ([`Refused`]) changes no lent byte.
+//!
+//! ```
+//! use sphairune::Desk;
+//!
+//! let mut store = vec![0; Desk::HOUSE.needed()?];
+//! let stream = b"IDENT 3:0\nCUE 2.5\nUP 3\nCHAN 1@HFF 2@H8F\nENDDATA\n";
+//! let mut reports = [0; 64];
+//! let totals = Desk::HOUSE.load(&mut store, stream, &mut reports)?;
+//! assert_eq!((totals.obeyed, totals.closing), (5, 0));
+//! let levels = Desk::HOUSE.look_up(&store, 1, 2, 5)?.expect("cue 2.5 is kept");
+//! assert_eq!(levels[..3], [0xff, 0x8f, 0]);
+//! # Ok::<(), sphairune::Refused>(())
+//! ```
+//!
+//! The five calls of the library are proved, this wrapper is not. docs/LIBRARY.md tells what each call promises.
+#![cfg_attr(not(test), no_std)]
+#![deny(missing_docs, unsafe_code)]
+
+mod calls;
+mod store;
+
+pub use store::{Fade, Memories, Memory, Number, Patched, Patches};
+
+use core::fmt;
+
+/// The longest stream that is read or written, in bytes. An output of this length takes every stream that is written.
+pub const MOST_STREAM: usize = 262_143;
+
+/// The size of a desk: its nine limits.
+#[derive(Clone, Copy, Debug, PartialEq, Eq)]
+pub struct Desk {
+    /// 1 to 512.
+    pub channels: u32,
+    /// 1 to 512.
+    pub dimmers: u32,
+    /// Cue memories, all pages together: 1 to 600.
+    pub cues: u32,
+    /// Group memories, all pages together: 0 to 200; 0 is a desk without groups.
+    pub groups: u32,
+    /// The highest submaster of each page: 0 to 96; 0 is a desk without submasters.
+    pub submasters: u32,
+    /// 1 to 63.
+    pub cue_pages: u32,
+    /// 1 to 63, even without groups.
+    pub group_pages: u32,
+    /// 1 to 8, even without submasters.
+    pub submaster_pages: u32,
+    /// 1 to 4.
+    pub patch_pages: u32,
+}
+
+/// Why a call was turned away. Every lent byte is as it was.
+#[derive(Clone, Copy, Debug, PartialEq, Eq)]
+pub enum Refused {
+    /// The stream is longer than [`MOST_STREAM`].
+    R1,
+    /// A limit of the desk is outside its range.
+    R2,
+    /// The store is shorter than the desk needs.
+    R3,
+    /// The store is not in good form for this desk: never emptied, another desk's, or damaged.
+    R4,
+    /// The written stream would be longer than [`MOST_STREAM`].
+    R5,
+    /// The written stream is longer than the output given; it needs this many bytes.
+    R6(usize),
+}
+
+impl Refused {
+    /// The number after the R.
+    pub fn number(self) -> u32 {
+        match self {
+            Refused::R1 => 1,
+            Refused::R2 => 2,
+            Refused::R3 => 3,
+            Refused::R4 => 4,
+            Refused::R5 => 5,
+            Refused::R6(_) => 6,
+        }
+    }
+
+    /// The answer of a call, with the length that goes with R6.
+    fn of(answer: u32, length: usize) -> Refused {
+        match answer {
+            1 => Refused::R1,
+            2 => Refused::R2,
+            3 => Refused::R3,
+            4 => Refused::R4,
+            5 => Refused::R5,
+            6 => Refused::R6(length),
+            _ => unreachable!("the library answers 0 to 6"),
+        }
+    }
+}
+
+impl fmt::Display for Refused {
+    fn fmt(&self, f: &mut fmt::Formatter<'_>) -> fmt::Result {
+        f.write_str(match self {
+            Refused::R1 => "the stream is longer than 262143 bytes",
+            Refused::R2 => "a limit of the desk is outside its range",
+            Refused::R3 => "the store is shorter than the desk needs",
+            Refused::R4 => "the store is not in good form for this desk",
+            Refused::R5 => "the written stream would be longer than 262143 bytes",
+            Refused::R6(_) => "the written stream is longer than the output given",
+        })
+    }
+}
+
+impl core::error::Error for Refused {}
+
+/// What a load tells. Each record read is in one of the four tallies.
+#[derive(Clone, Copy, Debug, PartialEq, Eq)]
+pub struct Totals {
+    /// How many conditions were reported, those that found no room in the list too.
+    pub reports: u32,
+    /// Records with no field.
+    pub blank: u32,
+    /// Records obeyed; of CHAN and PATCH single pairs or triples may have been dropped, each with its report.
+    pub obeyed: u32,
+    /// Records passed over or skipped.
+    pub passed: u32,
+    /// Records dropped whole, each with its report.
+    pub dropped: u32,
+    /// The last error, else the last warning, else 0.
+    pub closing: u32,
+}
+
+impl Totals {
+    /// The records read.
+    pub fn records(self) -> u32 {
+        self.blank + self.obeyed + self.passed + self.dropped
+    }
+
+    /// The reports that a load left in its list, in order.
+    pub fn stored(self, list: &[u32]) -> impl Iterator<Item = Report> + '_ {
+        let count = list.len().min(self.reports as usize);
+        list[..count].iter().map(|&word| Report::of(word))
+    }
+}
+
+/// A condition, and the record that it was met in.
+#[derive(Clone, Copy, Debug, PartialEq, Eq)]
+pub struct Report {
+    /// From 1. With 0100 it is the count of records read.
+    pub record: u32,
+    /// The standard's number.
+    pub condition: u32,
+}
+
+impl Report {
+    /// A report's word: 18 bits of record, 14 of condition.
+    pub fn of(word: u32) -> Report {
+        Report { record: word >> 14, condition: word & 0x3fff }
+    }
+}
+
+/// The standard's letter for a condition: E error, W warning, I (of the closing number 0 alone) information.
+pub fn severity(condition: u32) -> char {
+    match condition {
+        0 => 'I',
+        70..=149 => 'E',
+        _ => 'W',
+    }
+}
+
+/// The standard's text for a condition that a load can report (Appendix B), or for the closing number 0; "" for any other number. Where
+/// the appendix puts the record's own field or keyword between two words, the text has the words alone.
+pub fn condition_text(condition: u32) -> &'static str {
+    match condition {
+        0 => "Data stream successfully processed",
+        21 => "Cue memory exhausted",
+        22 => "Group memory exhausted",
+        41 => "Invalid cue or group number",
+        42 => "Cue or group number too large",
+        43 => "Page out of range",
+        44 => "Submaster number out of range",
+        51 => "Groups not supported",
+        52 => "Submasters not supported",
+        91 => "Encountered record longer than 80 characters",
+        99 => "Ident mismatch prohibits processing",
+        100 => "Data stream terminated without ENDDATA",
+        151 => "Undefined standard keyword",
+        152 => "Wrong secondary keyword",
+        171 => "Invalid integer",
+        172 => "Invalid hexadecimal value",
+        201 => "Channel out of range",
+        203 => "Dimmer out of range",
+        221 => "Invalid level",
+        231 => "Patch page skipped",
+        241 => "Invalid time",
+        701 => "Ignored character with high-bit set",
+        702 => "Ignored non-printing character",
+        _ => "",
+    }
+}
+
+impl Desk {
+    /// The house small desk. Its store needs 35,136 bytes.
+    pub const HOUSE: Desk = Desk {
+        channels: 96,
+        dimmers: 192,
+        cues: 200,
+        groups: 40,
+        submasters: 24,
+        cue_pages: 2,
+        group_pages: 1,
+        submaster_pages: 2,
+        patch_pages: 1,
+    };
+
+    /// A desk by its limits, in the order of the struct.
+    pub fn of(limits: [u32; 9]) -> Desk {
+        let [channels, dimmers, cues, groups, submasters, cue_pages, group_pages, submaster_pages, patch_pages] = limits;
+        Desk { channels, dimmers, cues, groups, submasters, cue_pages, group_pages, submaster_pages, patch_pages }
+    }
+
+    /// Its limits, in the order of the struct.
+    pub fn limits(self) -> [u32; 9] {
+        [
+            self.channels,
+            self.dimmers,
+            self.cues,
+            self.groups,
+            self.submasters,
+            self.cue_pages,
+            self.group_pages,
+            self.submaster_pages,
+            self.patch_pages,
+        ]
+    }
+
+    /// How many bytes a store of this desk needs; or R2.
+    pub fn needed(self) -> Result<usize, Refused> {
+        let mut length = [0];
+        match calls::needed(&self.limits(), &mut length) {
+            0 => Ok(length[0]),
+            r => Err(Refused::of(r, 0)),
+        }
+    }
+
+    /// Empties a store, whatever it holds: every needed byte becomes zero. Or R2, R3.
+    pub fn empty(self, store: &mut [u8]) -> Result<(), Refused> {
+        match calls::empty(&self.limits(), store) {
+            0 => Ok(()),
+            r => Err(Refused::of(r, 0)),
+        }
+    }
+
+    /// Reads a stream into a store, on top of what it keeps. Or R1, R2, R3, R4.
+    ///
+    /// Faults in the stream are no refusals: they are reported, and the rest is read. `reports` gets as many as it has room for
+    /// ([`Totals::stored`]); a list with one entry more than the stream has bytes never fills.
+    pub fn load(self, store: &mut [u8], stream: &[u8], reports: &mut [u32]) -> Result<Totals, Refused> {
+        let mut t = [0; 6];
+        match calls::load(&self.limits(), store, stream, reports, &mut t) {
+            0 => Ok(Totals { reports: t[0], blank: t[1], obeyed: t[2], passed: t[3], dropped: t[4], closing: t[5] }),
+            r => Err(Refused::of(r, 0)),
+        }
+    }
+
+    /// Writes a store's show as one fixed stream, at the beginning of `out`, and says its length. Or R2, R3, R4, R5, R6.
+    pub fn write(self, store: &[u8], out: &mut [u8]) -> Result<usize, Refused> {
+        let mut length = [0];
+        match calls::write(&self.limits(), store, out, &mut length) {
+            0 => Ok(length[0]),
+            r => Err(Refused::of(r, length[0])),
+        }
+    }
+
+    /// Where the levels of cue whole.tenths begin in the store, or `None` where it is not kept. Or R2, R3, R4.
+    pub fn find(self, store: &[u8], page: u32, whole: u32, tenths: u32) -> Result<Option<usize>, Refused> {
+        let mut place = [0];
+        match calls::find(&self.limits(), store, page, whole, tenths, &mut place) {
+            0 => Ok(Some(place[0])),
+            1 => Ok(None),
+            r => Err(Refused::of(r, 0)),
+        }
+    }
+
+    /// The levels of cue whole.tenths, channel 1 first, as the very bytes of the store; `None` where it is not kept. Or R2, R3, R4.
+    pub fn look_up(self, store: &[u8], page: u32, whole: u32, tenths: u32) -> Result<Option<&[u8]>, Refused> {
+        let place = self.find(store, page, whole, tenths)?;
+        Ok(place.map(|at| &store[at..at + self.channels as usize]))
+    }
+
+    /// The kept cues, by page and number. Or R2, R3, R4.
+    pub fn cues(self, store: &[u8]) -> Result<Memories<'_>, Refused> {
+        self.in_good_form(store)?;
+        Ok(Memories::new(self, store, 0, self.cues as usize))
+    }
+
+    /// The kept groups, by page and number. Or R2, R3, R4.
+    pub fn groups(self, store: &[u8]) -> Result<Memories<'_>, Refused> {
+        self.in_good_form(store)?;
+        Ok(Memories::new(self, store, self.cues as usize, self.groups as usize))
+    }
+
+    /// The kept submasters, by page and number. Or R2, R3, R4.
+    pub fn submasters(self, store: &[u8]) -> Result<Memories<'_>, Refused> {
+        self.in_good_form(store)?;
+        let count = self.submasters as usize * self.submaster_pages as usize;
+        Ok(Memories::new(self, store, self.cues as usize + self.groups as usize, count))
+    }
+
+    /// The patched dimmers, by page and dimmer. Or R2, R3, R4.
+    pub fn patch(self, store: &[u8]) -> Result<Patches<'_>, Refused> {
+        self.in_good_form(store)?;
+        Ok(Patches::new(self, store))
+    }
+
+    /// The library itself is asked: no cue is on page 0, so that the answer is "not kept" or the refusal.
+    fn in_good_form(self, store: &[u8]) -> Result<(), Refused> {
+        self.find(store, 0, 0, 0).map(|_| ())
+    }
+}
+
+#[cfg(test)]
+mod tests;
