@@ -1,0 +1,242 @@
+/* cue_sheet FILE [nine limits]: loads a show file into an empty desk and prints a cue sheet for the prep bench.
+ *
+ * The desk is the house small desk unless its nine limits are given, in the order of include/sphairune.h. First come the reports, each with
+ * the record as received, then the cues by page and number, then what is kept and the tallies. Exit status 0 where there is a sheet, 1 where
+ * the file cannot be read or a call is turned away, 2 where the arguments are wrong. bindings/rust/examples/cue_sheet.rs prints the same. */
+#include <errno.h>
+#include <stdio.h>
+#include <stdlib.h>
+#include <string.h>
+
+#include "sphairune.h"
+
+/* The longest record that the standard allows; of a longer one the sheet shows this much. */
+#define MOST_CHARACTERS 80
+
+/* Channels on one line of the sheet. */
+#define PER_LINE 5
+
+static uint8_t stream[SPHAIRUNE_MOST_STREAM + 1];
+
+static void quit(const char *file, const char *why) {
+    fprintf(stderr, "cue_sheet: %s: %s\n", file, why);
+    exit(1);
+}
+
+static void answered(const char *file, uint32_t answer) {
+    if (answer == SPHAIRUNE_DONE) return;
+    fprintf(stderr, "cue_sheet: %s: refused, R%u: %s\n", file, answer, sphairune_refusal_text(answer));
+    exit(1);
+}
+
+static void *room(size_t count, size_t size) {
+    void *memory = calloc(count, size);
+    if (!memory) {
+        fprintf(stderr, "cue_sheet: out of memory\n");
+        exit(1);
+    }
+    return memory;
+}
+
+/* Digits alone, and no more than 32 bits: whether the desk has such a limit is for the library to say. */
+static int limit(const char *text, uint32_t *value) {
+    uint64_t n = 0;
+    if (!*text) return 0;
+    for (; *text; text++) {
+        if (*text < '0' || '9' < *text) return 0;
+        n = n * 10 + (uint64_t)(*text - '0');
+        if (n > 0xffffffffu) return 0;
+    }
+    *value = (uint32_t)n;
+    return 1;
+}
+
+/* The whole file, or one byte more than the longest stream, which the load then turns away. */
+static size_t read_file(const char *file) {
+    FILE *in = fopen(file, "rb");
+    if (!in) quit(file, errno == ENOENT ? "no such file" : "cannot be read");
+    size_t n = fread(stream, 1, sizeof stream, in);
+    if (ferror(in)) quit(file, "cannot be read");
+    fclose(in);
+    return n;
+}
+
+/* Where a record begins, which one it is, from 1, and where its characters end. */
+struct record {
+    size_t from, to;
+    uint32_t number;
+};
+
+static int terminator(uint8_t c) { return c == '\r' || c == '\n'; }
+
+static void find_end(struct record *r, size_t n) {
+    for (r->to = r->from; r->to < n && !terminator(stream[r->to]); r->to++) {}
+}
+
+/* The next record: past CR, LF, CR LF or LF CR, the longest that stands there. */
+static void step(struct record *r, size_t n) {
+    r->from = r->to + 1;
+    if (r->from < n && terminator(stream[r->from]) && stream[r->from] != stream[r->to]) r->from++;
+    r->number++;
+    find_end(r, n);
+}
+
+/* The record as received: a tab as a space, other characters that do not print in hexadecimal. */
+static void print_record(const struct record *r) {
+    for (size_t i = r->from; i < r->to; i++) {
+        if (i - r->from == MOST_CHARACTERS) {
+            printf("...");
+            break;
+        }
+        if (stream[i] == '\t')
+            putchar(' ');
+        else if (stream[i] < 0x20 || stream[i] > 0x7e)
+            printf("\\x%02X", stream[i]);
+        else
+            putchar(stream[i]);
+    }
+}
+
+/* Each report with its record, which is found in the same pass, since reports come in the order of records. */
+static void print_reports(const uint32_t *reports, uint32_t count, size_t n) {
+    struct record r = {0, 0, 1};
+    find_end(&r, n);
+    if (count == 0) {
+        printf("REPORTS none\n");
+        return;
+    }
+    printf("REPORTS %u\n", count);
+    for (uint32_t i = 0; i < count; i++) {
+        uint32_t record = sphairune_report_record(reports[i]), condition = sphairune_report_condition(reports[i]);
+        while (r.number < record && r.to < n) step(&r, n);
+        printf("  (%05u) %04u-%c ", record, condition, sphairune_severity(condition));
+        if (condition == 100) {
+            printf("%s\n", sphairune_condition_text(condition)); /* of the end of the stream, not of a record */
+        } else {
+            printf("%-36s  ", sphairune_condition_text(condition));
+            print_record(&r);
+            printf("\n");
+        }
+    }
+}
+
+/* In minutes and seconds, with tenths where there are any; the seconds of a column stand under one another. */
+static void print_time(uint32_t present, uint32_t tenths) {
+    if (!present)
+        printf("        -  ");
+    else if (tenths % 10)
+        printf(" %5u:%02u.%u", tenths / 600, tenths / 10 % 60, tenths % 10);
+    else
+        printf(" %5u:%02u  ", tenths / 600, tenths / 10 % 60);
+}
+
+/* Table C-1 of the standard, by its formula: to the nearest whole percent. */
+static unsigned percent(uint8_t level) { return (level * 200u + 255) / 510; }
+
+static void print_levels(const uint8_t *levels, uint32_t channels) {
+    unsigned shown = 0;
+    for (uint32_t c = 0; c < channels; c++) {
+        if (!levels[c]) continue;
+        printf("%s%3u@H%02X %3u%%", shown % PER_LINE ? "  " : shown ? "\n        " : "        ", c + 1, levels[c], percent(levels[c]));
+        shown++;
+    }
+    printf("%s\n", shown ? "" : "        blackout");
+}
+
+static void print_cue(const struct sphairune_memory *m) {
+    printf("  %3u", m->whole);
+    if (m->tenths)
+        printf(".%u", m->tenths);
+    else
+        printf("  ");
+    printf("  %4u", m->page);
+    print_time(m->up, m->up_fade);
+    print_time(m->up_delay != 0, m->up_delay);
+    print_time(m->down, m->down_fade);
+    print_time(m->down_delay != 0, m->down_delay);
+    print_time(m->followon, m->followon_time);
+    if (!m->link)
+        printf("    -\n");
+    else if (m->link_tenths)
+        printf("  %3u.%u\n", m->link_whole, m->link_tenths);
+    else
+        printf("  %3u\n", m->link_whole);
+}
+
+static unsigned kept(const uint32_t *desk, const uint8_t *store, int kind) {
+    struct sphairune_memory m = {0};
+    unsigned count = 0;
+    while (sphairune_next(desk, store, kind, &m)) count++;
+    return count;
+}
+
+static void print_cues(const char *file, const uint32_t *desk, const uint8_t *store, size_t store_n) {
+    struct sphairune_memory m = {0};
+    unsigned count = kept(desk, store, SPHAIRUNE_CUE);
+    if (count == 0) {
+        printf("CUES none\n");
+        return;
+    }
+    printf("CUES %u\n", count);
+    printf("  cue    page  up fade      delay  down fade      delay   followon    link\n");
+    while (sphairune_next(desk, store, SPHAIRUNE_CUE, &m)) {
+        const uint8_t *levels = sphairune_look_up(desk, SPHAIRUNE_LIMITS, store, store_n, m.page, m.whole, m.tenths, NULL);
+        if (!levels) quit(file, "a cue that is kept was not found");
+        print_cue(&m);
+        print_levels(levels, desk[SPHAIRUNE_CHANNELS]);
+    }
+}
+
+static void print_kept(const uint32_t *desk, const uint8_t *store) {
+    unsigned patched = 0;
+    for (uint32_t page = 1; page <= desk[SPHAIRUNE_PATCH_PAGES]; page++)
+        for (uint32_t dimmer = 1; dimmer <= desk[SPHAIRUNE_DIMMERS]; dimmer++)
+            if (sphairune_patch_of(desk, store, page, dimmer).channel) patched++;
+    printf("KEPT cues %u, groups %u, submasters %u, patched dimmers %u\n", kept(desk, store, SPHAIRUNE_CUE),
+           kept(desk, store, SPHAIRUNE_GROUP), kept(desk, store, SPHAIRUNE_SUBMASTER), patched);
+}
+
+static void print_desk(const uint32_t *desk) {
+    printf("DESK channels %u, dimmers %u, cues %u, groups %u, submasters %u", desk[SPHAIRUNE_CHANNELS], desk[SPHAIRUNE_DIMMERS],
+           desk[SPHAIRUNE_CUES], desk[SPHAIRUNE_GROUPS], desk[SPHAIRUNE_SUBMASTERS]);
+    printf("; pages of cues %u, groups %u, submasters %u, patch %u\n", desk[SPHAIRUNE_CUE_PAGES], desk[SPHAIRUNE_GROUP_PAGES],
+           desk[SPHAIRUNE_SUBMASTER_PAGES], desk[SPHAIRUNE_PATCH_PAGES]);
+}
+
+static void print_totals(const uint32_t *t) {
+    uint32_t closing = t[SPHAIRUNE_CLOSING];
+    printf("RECORDS %u: blank %u, obeyed %u, passed %u, dropped %u\n",
+           t[SPHAIRUNE_BLANK] + t[SPHAIRUNE_OBEYED] + t[SPHAIRUNE_PASSED] + t[SPHAIRUNE_DROPPED], t[SPHAIRUNE_BLANK], t[SPHAIRUNE_OBEYED],
+           t[SPHAIRUNE_PASSED], t[SPHAIRUNE_DROPPED]);
+    printf("CLOSING %04u-%c %s\n", closing, sphairune_severity(closing), sphairune_condition_text(closing));
+}
+
+int main(int count, char **words) {
+    uint32_t desk[SPHAIRUNE_LIMITS] = SPHAIRUNE_HOUSE, totals[SPHAIRUNE_TOTALS];
+    int right = count == 2 || count == 2 + SPHAIRUNE_LIMITS;
+    for (int i = 2; right && i < count; i++) right = limit(words[i], &desk[i - 2]);
+    if (!right) {
+        fprintf(stderr, "usage: cue_sheet FILE [CHANNELS DIMMERS CUES GROUPS SUBMASTERS CUE-PAGES GROUP-PAGES SUBMASTER-PAGES PATCH-PAGES]\n");
+        return 2;
+    }
+    const char *file = words[1];
+    size_t n = read_file(file), store_n;
+    answered(file, sphairune_needed(desk, SPHAIRUNE_LIMITS, &store_n, 1));
+    uint8_t *store = room(store_n, 1);
+    uint32_t *reports = room(n + 1, sizeof *reports); /* one more than the bytes: such a list never fills */
+    answered(file, sphairune_empty(desk, SPHAIRUNE_LIMITS, store, store_n));
+    answered(file, sphairune_load(desk, SPHAIRUNE_LIMITS, store, store_n, stream, n, reports, n + 1, totals, SPHAIRUNE_TOTALS));
+
+    printf("CUE SHEET %s\n", file);
+    print_desk(desk);
+    printf("\n");
+    print_reports(reports, totals[SPHAIRUNE_REPORTS], n);
+    printf("\n");
+    print_cues(file, desk, store, store_n);
+    printf("\n");
+    print_kept(desk, store);
+    print_totals(totals);
+    free(reports);
+    free(store);
+    return 0;
+}
