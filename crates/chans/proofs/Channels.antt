@@ -17,6 +17,7 @@ use Rattle.written.specs.Text.{integerText, levelText}
 use Rattle.written.proofs.Texts.{integer-ten, level-length}
 use Rattle.lines.specs.Line.{crlf, joined, Lit, litFrom, pairText, pairsText, mostPairs, chanLinesIn, chanLines}
 use Rattle.lines.specs.Room.{markedText, atLevelText}
+use Rattle.lines.proofs.Lengths.{pair-length}
 use Rattle.chans.specs.Chan.{lit, leadText, channelText, pairsAfter, endText, channelsText}
 
 -- ---- the parts of a channel's text
@@ -153,14 +154,6 @@ unfolding channelsText
 channels-end pairs channel i vs h = ap (channelsText pairs channel) (drop-of-length-le vs h)
 
 -- ---- lengths
-pub pair-length-is : (channel level : ℕ) → length (pairText (lit channel level)) ≡ length (integerText channel) + 5
-unfolding pairText
-pair-length-is channel level =
-    let l : List ℕ = bytes "@" ++ levelText level in
-    let a : length (levelText level) ≡ 3 = level-length level in
-    let b : length (integerText channel ++ l) ≡ length (integerText channel) + length l = length-append (integerText channel) l in
-    omega arith
-
 pub lead-long : (pairs : ℕ) → length (leadText pairs) ≤ 6
 lead-long pairs =
     by-eq pairs 0
@@ -176,7 +169,7 @@ channel-length-none pairs channel level e = sym (ap length (channel-none pairs c
 pub channel-length-some : (pairs channel level : ℕ) {a b c : ℕ} → a ≡ length (leadText pairs) → b ≡ length (integerText channel) → c ≡ length (levelText level)
     → (level ≡ 0 → ⊥) → a + b + c + 2 ≡ length (channelText pairs channel level)
 channel-length-some pairs channel level ea eb ec e =
-    let l = pair-length-is channel level in
+    let l = pair-length (lit channel level) in
     let v : length (levelText level) ≡ 3 = level-length level in
     let m : length (leadText pairs ++ pairText (lit channel level)) ≡ length (leadText pairs) + length (pairText (lit channel level)) =
     length-append (leadText pairs) (pairText (lit channel level))

@@ -16,7 +16,7 @@ use Rattle.value.specs.Number.{fractionDigits}
 use Rattle.value.specs.Time.{tenthsDigits}
 use Rattle.written.specs.Text.{integerText, fractionText, numberText, levelText, timeText}
 use Rattle.written.proofs.Texts.{integer-ten, number-length, fraction-short, level-length, time-length, clock-long}
-use Rattle.lines.specs.Line.{crlf, joined, patchText, patchLine, kindText, primaryText, delayText, timeLine, linkLine, headLines}
+use Rattle.lines.specs.Line.{crlf, joined, patchText, patchLine, kindText, primaryText, delayText, timeLine, linkLine, headLines, Lit, pairText}
 use Rattle.lines.specs.Room.{markedText}
 use Rattle.lines.proofs.Parts.{patch-none, patch-some, primary-parts, delay-none, delay-some, time-none, time-some, link-none, link-some, head-parts}
 
@@ -160,3 +160,12 @@ module _ (h : Head) where
       let z : length (u ++ (d ++ (f ++ k))) ≡ length u + length (d ++ (f ++ k)) = length-append u (d ++ (f ++ k)) in
       let w : length (u ++ (d ++ (f ++ k))) ≡ length (joined (headLines h)) = ap length (head-parts h) in
       omega arith
+
+-- ---- a pair
+pub pair-length : (p : Lit) → length (pairText p) ≡ length (integerText (p .channel)) + 5
+unfolding pairText
+pair-length p =
+    let l : List ℕ = bytes "@" ++ levelText (p .level) in
+    let a : length (levelText (p .level)) ≡ 3 = level-length (p .level) in
+    let b : length (integerText (p .channel) ++ l) ≡ length (integerText (p .channel)) + length l = length-append (integerText (p .channel)) l in
+    omega arith

@@ -2,3 +2,4 @@ pub mod Chain
 pub mod Parts
 pub mod Lengths
 pub mod Rules
+pub mod Bounds

@@ -22,11 +22,11 @@ use Rattle.head.specs.Layout.{HeadFits, PatchFits}
 use Rattle.value.specs.Number.{fractionDigits}
 use Rattle.value.specs.Time.{tenthsDigits}
 use Rattle.written.specs.Text.{isPlain, integerText, fractionText, numberText, levelText, clockText, timeText}
-use Rattle.written.proofs.Texts.{integer-short, number-length, fraction-short, level-length, time-length, clock-seconds, clock-length-minutes, clock-length-hours, by-plain, plain-in, integer-plain, number-plain, level-plain, time-plain}
+use Rattle.written.proofs.Texts.{integer-short, number-length, fraction-short, time-length, clock-seconds, clock-length-minutes, clock-length-hours, by-plain, plain-in, integer-plain, number-plain, level-plain, time-plain}
 use Rattle.lines.specs.Line.{crlf, joined, patchText, patchLine, kindText, primaryText, delayText, timeLine, linkLine, headLines, Lit, litFrom, pairText, pairsText, mostPairs, chanLinesIn, chanLines}
 use Rattle.lines.specs.Ruled.{isSource, Ruled, AllRuled}
 use Rattle.lines.proofs.Parts.{delay-none, delay-some, joined-nil, joined-more}
-use Rattle.lines.proofs.Lengths.{patch-text-length, kind-long}
+use Rattle.lines.proofs.Lengths.{patch-text-length, kind-long, pair-length}
 
 -- ---- lists of lines
 pub ruled-append : (a b : List (List ℕ)) → AllRuled a → AllRuled b → AllRuled (a ++ b)
@@ -82,7 +82,7 @@ time-source t = from-plain (timeText t) (time-plain t)
 integer-four : (n : ℕ) → n < 10000 → length (integerText n) ≤ 4
 integer-four n h = integer-short n 3 h
 
-number-six : (w f : ℕ) → w < 1024 → length (numberText w f) ≤ 6
+pub number-six : (w f : ℕ) → w < 1024 → length (numberText w f) ≤ 6
 number-six w f h =
     let a : length (integerText w) ≤ 4 = integer-four w (omega arith) in
     let b : length (fractionText fractionDigits f) ≤ fractionDigits + 1 = fraction-short fractionDigits f in
@@ -107,7 +107,7 @@ clock-ten s h =
     let e : length (clockText s) ≡ length (integerText (s / 3600)) + 6 = clock-length-hours s m in
     omega arith))
 
-time-twelve : (t : ℕ) → t < 67108864 → length (timeText t) ≤ 12
+pub time-twelve : (t : ℕ) → t < 67108864 → length (timeText t) ≤ 12
 time-twelve t h =
     let g : t / 10 < 6710887 = omega arith in
     let a = clock-ten (t / 10) g in
@@ -188,7 +188,7 @@ delay-source delay =
     (λ e. subst Source (sym (delay-none delay e)) refl)
     (λ e. subst Source (delay-some delay e) (all-append isSource (bytes " ") (timeText delay) refl (time-source delay)))
 
-delay-short : (delay : ℕ) → delay < 67108864 → length (delayText delay) ≤ 13
+pub delay-short : (delay : ℕ) → delay < 67108864 → length (delayText delay) ≤ 13
 delay-short delay h =
     by-eq delay 0
     (λ e. let l : length (delayText delay) ≡ 0 = ap length (delay-none delay e) in omega arith)
@@ -288,13 +288,7 @@ pair-source p =
     (all-append isSource (bytes "@") (levelText (p .level)) refl (level-source (p .level))))
 
 pair-short : (p : Lit) → p .channel < 10000 → length (pairText p) ≤ 9
-unfolding pairText
-pair-short p h =
-    let l : List ℕ = bytes "@" ++ levelText (p .level) in
-    let a = integer-four (p .channel) h in
-    let b : length (levelText (p .level)) ≡ 3 = level-length (p .level) in
-    let c : length (integerText (p .channel) ++ l) ≡ length (integerText (p .channel)) + length l = length-append (integerText (p .channel)) l in
-    omega arith
+pair-short p h = let a = integer-four (p .channel) h in let b = pair-length p in omega arith
 
 pairs-source : (ps : List Lit) → Source (pairsText ps)
 unfolding pairsText
