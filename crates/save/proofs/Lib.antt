@@ -3,3 +3,4 @@ pub mod Rows
 pub mod Memories
 pub mod Whole
 pub mod Rules
+pub mod House

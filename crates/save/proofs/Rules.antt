@@ -85,6 +85,10 @@ module _ (d : Desk) (s : List ℕ) where
         omega arith
 
 -- ---- memories
+pub head-fits : (d : Desk) (s : List ℕ) (i : ℕ) → HeadFits (headAt d s i)
+unfolding headAt
+head-fits d s i = decode-fits (slotAt d s i)
+
 module _ (d : Desk) (s : List ℕ) (ir : InRange d) (long : storeLength d ≤ length s) where
   pub levels-short : (i : ℕ) → i < slotsOf d → length (levelsAt d s i) ≤ 1024
   unfolding levelsAt
@@ -94,15 +98,11 @@ module _ (d : Desk) (s : List ℕ) (ir : InRange d) (long : storeLength d ≤ le
       let c : length (drop headLength (slotAt d s i)) ≡ length (slotAt d s i) - headLength = length-drop headLength (slotAt d s i) in
       omega arith
 
-  pub head-fits : (i : ℕ) → HeadFits (headAt d s i)
-  unfolding headAt
-  head-fits i = decode-fits (slotAt d s i)
-
   module _ (k : Kind) (i : ℕ) (h : i < slotsOf d) where
     memory-ruled : AllRuled (memoryLines k (memoryAt d s i))
     unfolding memoryLines memoryAt
     memory-ruled =
-        let f = head-fits i in
+        let f = head-fits d s i in
         let p = f .page in (
           primary-ruled k (keyOf (headAt d s i)) (omega arith) (f .whole),
           ruled-append (headLines (headAt d s i)) (chanLines (litFrom 1 (levelsAt d s i))) (head-ruled (headAt d s i) f)

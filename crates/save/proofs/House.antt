@@ -1,0 +1,111 @@
+-- The house small desk's stream is never too long for a call, whatever bytes the store holds: so many slots and dimmers, each with the most
+-- bytes that its lines can take. The bound is stated for every desk in range, by the digits of its highest channel.
+-- Assumes nothing.
+use mathlib.Core.Path.{_≡_, refl, ap, _∙_}
+use mathlib.Core.List.{List, [], _∷_, _++_}
+use Prim.Native.Nat.{ℕ, zero, suc, _+_, _*_, _/_, _^_, _≤_, _<_}
+use native.Mathlib.Omega.{arith}
+use lib.ListN.{length, take, drop, length-append, length-take}
+use Rattle.cells.proofs.Arith.{products}
+use Rattle.desk.specs.declared.Desk.{Desk}
+use Rattle.desk.specs.declared.Kind.{Kind}
+use Rattle.desk.specs.declared.Kind.the-variants.{Cue, Group, Sub}
+use Rattle.desk.specs.Size.{InRange, house, headLength, levelWidth, levelsLength, slotLength, subSlots, slotsOf, entriesOf}
+use Rattle.desk.specs.Name.{slotCount}
+use Rattle.desk.proofs.Size.{in-range, house-in-range}
+use Rattle.store.specs.Slots.{headAt, levelsAt, keyOf}
+use Rattle.store.specs.View.{memoryAt, patchedTo}
+use Rattle.store.specs.Order.{inOrder}
+use Rattle.store.proofs.Places.{levels-part}
+use Rattle.store.proofs.Ordered.{in-order-length}
+use Rattle.store.proofs.Used.{used-le}
+use Rattle.lines.specs.Line.{joined, patchLine, primaryText}
+use Rattle.lines.proofs.Parts.{joined-nil, joined-append}
+use Rattle.lines.proofs.Bounds.{patch-most, primary-most, head-most, chan-most}
+use Rattle.save.specs.Lines.{dimmerLines, pageLines, patchLines, memoryLines, slotLines, kindLines, streamOf}
+use Rattle.save.proofs.Rules.{patched-fits, head-fits}
+use Rattle.save.proofs.Memories.{memory-sum}
+use Rattle.save.proofs.Whole.{length-is}
+
+joined-sum : (a b : List (List ℕ)) → length (joined (a ++ b)) ≡ length (joined a) + length (joined b)
+joined-sum a b = ap length (joined-append a b) ∙ length-append (joined a) (joined b)
+
+joined-none : length (joined []) ≡ 0
+joined-none = ap length joined-nil
+
+-- ---- PATCH
+module _ (d : Desk) (s : List ℕ) where
+  dimmers-most : (page : ℕ) → page < 10 → (n dimmer : ℕ) → dimmer + n ≤ 1000 → length (joined (dimmerLines d s page n dimmer)) ≤ 22 * n
+  unfolding dimmerLines
+  dimmers-most page hp zero dimmer h = let e = joined-none in omega arith
+  dimmers-most page hp (suc n) dimmer h =
+      let ih = dimmers-most page hp n (dimmer + 1) (omega arith) in
+      let a = patch-most page dimmer (patchedTo d s page dimmer) hp (omega arith) (patched-fits d s page dimmer) in
+      let e = joined-sum (patchLine page dimmer (patchedTo d s page dimmer)) (dimmerLines d s page n (dimmer + 1)) in
+      omega arith
+
+  pages-most : d .dimmers < 1000 → (n page : ℕ) → page + n ≤ 10 → length (joined (pageLines d s n page)) ≤ 22 * (d .dimmers * n)
+  unfolding pageLines
+  pages-most g zero page h = let e = joined-none in omega arith
+  pages-most g (suc n) page h =
+      let ih = pages-most g n (page + 1) (omega arith) in
+      let a = dimmers-most page (omega arith) (d .dimmers) 1 (omega arith) in
+      let e = joined-sum (dimmerLines d s page (d .dimmers) 1) (pageLines d s n (page + 1)) in
+      omega arith
+
+-- ---- memories
+levels-most : (d : Desk) (s : List ℕ) (i : ℕ) → length (levelsAt d s i) ≤ d .channels
+unfolding levelsLength levelWidth
+levels-most d s i =
+    let l : length (levelsAt d s i) ≡ length (take (d .channels * 1) (drop (i * slotLength d + headLength) s)) = ap length (levels-part d s i) in
+    let m = length-take (d .channels * 1) (drop (i * slotLength d + headLength) s) in
+    omega arith
+
+-- the most bytes of one memory: 17 of the primary and 98 of the times and the link, then its channels, of at most k + 1 digits
+abbrev pub memoryMost : Desk → ℕ → ℕ
+memoryMost d k = 115 + d .channels * (k + 6) + 6 * ((d .channels + 7) / 8)
+
+module _ (d : Desk) (s : List ℕ) (r : InRange d) (k : ℕ) (h : d .channels < 10 ^ suc k) where
+  memory-most : (kind : Kind) (i : ℕ) → length (joined (memoryLines kind (memoryAt d s i))) ≤ memoryMost d k
+  memory-most kind i =
+      let f = head-fits d s i in
+      let a = primary-most kind (keyOf (headAt d s i)) (f .page) (f .whole) in
+      let b = head-most (headAt d s i) f in
+      let c = chan-most k (levelsAt d s i) (d .channels) (levels-most d s i) h in
+      let e = memory-sum d s kind i refl refl {a = length (joined (primaryText kind (keyOf (headAt d s i)) ∷ []))} refl refl refl in
+      omega arith
+
+  slots-most : (kind : Kind) (is : List ℕ) → length (joined (slotLines d s kind is)) ≤ length is * memoryMost d k
+  unfolding slotLines
+  slots-most kind [] = let e = joined-none in omega arith
+  slots-most kind (i ∷ is) =
+      let ih = slots-most kind is in
+      let a = memory-most kind i in
+      let e = joined-sum (memoryLines kind (memoryAt d s i)) (slotLines d s kind is) in
+      omega arith
+
+  kind-most : (kind : Kind) → length (joined (kindLines d s kind)) ≤ slotCount d kind * memoryMost d k
+  kind-most kind =
+      let a = slots-most kind (inOrder d s kind) in
+      let n = in-order-length d s kind in
+      let u = used-le d s kind in
+      let b : length (inOrder d s kind) * memoryMost d k ≤ slotCount d kind * memoryMost d k = products (memoryMost d k) (omega arith) in
+      omega arith
+
+  -- IDENT, CLEAR ALL and ENDDATA take 31
+  pub stream-most : length (streamOf d s) ≤ 31 + 22 * entriesOf d + slotsOf d * memoryMost d k
+  unfolding entriesOf slotsOf slotCount
+  stream-most =
+      let g = r .dimmers .1 in
+      let q = r .patchPages .1 in
+      let p = pages-most d s (omega arith) (d .«patch_pages») 1 (omega arith) in
+      let a = kind-most Cue in
+      let b = kind-most Group in
+      let c = kind-most Sub in
+      let e = length-is d s {p = length (joined (patchLines d s))} refl refl refl refl in
+      omega arith
+
+-- ---- the house small desk: at most 251,647 by this count
+pub house-short : (s : List ℕ) → length (streamOf house s) ≤ 262143
+unfolding entriesOf slotsOf subSlots
+house-short s = let a = stream-most house s (in-range house house-in-range) 1 (omega arith) in omega arith
