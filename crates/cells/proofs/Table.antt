@@ -1,4 +1,4 @@
--- A computed table holds its rule's value at each place; by induction on the number of entries.
+-- A computed table holds its rule's value at each place, so that rules with the same table agree; by induction on the number of entries.
 -- Assumes nothing.
 use mathlib.Core.Path.{_≡_, refl, sym, ap, _∙_}
 use Prim.Native.Nat.{ℕ, zero, suc, _+_, _<_}
@@ -20,3 +20,7 @@ tab-from f k (suc n) (suc i) d h =
 
 pub tab-at : {A : Type 0} (f : ℕ → A) (n k : ℕ) (d : A) → k < n → getD (tab f 0 n) k d ≡ f k
 tab-at f n k d h = tab-from f 0 n k d h ∙ ap f (zero-add k)
+
+-- two rules whose tables are the same agree at each place
+pub tab-same : {A : Type 0} (f g : ℕ → A) (n k : ℕ) (d : A) → tab f 0 n ≡ tab g 0 n → k < n → f k ≡ g k
+tab-same f g n k d e h = sym (tab-at f n k d h) ∙ (ap (λ t. getD t k d) e ∙ tab-at g n k d h)

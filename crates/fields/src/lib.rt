@@ -62,21 +62,26 @@ const DELIMITER: u8 = b'd';
 
 const WORD: u8 = b'w';
 
-// One look-up a character instead of nine tests: 32 characters a line.
-const CLASSES: [u8; 256] = *b"\
-    wwwwwwwwwdwwwwwwwwwwwwwwwwwwwwww\
-    dwwwwwwwwwwwdwwdwwwwwwwwwwwddddw\
-    dwwwwwwwwwwwwwwwwwwwwwwwwwwwwwww\
-    wwwwwwwwwwwwwwwwwwwwwwwwwwwwwwww\
-    wwwwwwwwwwwwwwwwwwwwwwwwwwwwwwww\
-    wwwwwwwwwwwwwwwwwwwwwwwwwwwwwwww\
-    wwwwwwwwwwwwwwwwwwwwwwwwwwwwwwww\
-    wwwwwwwwwwwwwwwwwwwwwwwwwwwwwwww";
+const FIRST_DELIMITER: u8 = b'\t';
+
+const LAST_DELIMITER: u8 = b'@';
+
+// The delimiters lie between tab and `@`: bit n is set where character 9 + n is one, so that one test stands for nine.
+const DELIMITERS: u64 = 52917604867637249;
 
 fn class(c: u8) -> u8
     ensures { λ r. ⌜ r ≡ classOf c ⌝ }
 {
-    CLASSES[c as usize]
+    if c < FIRST_DELIMITER {
+        return WORD;
+    }
+    if LAST_DELIMITER < c {
+        return WORD;
+    }
+    if (DELIMITERS >> (c - FIRST_DELIMITER)) % 2 == 1 {
+        return DELIMITER;
+    }
+    WORD
 }
 
 // The first place from `at` on whose character is not of class `k`.
@@ -125,20 +130,22 @@ pub fn word(text: &[u8], f: Field) -> &[u8]
 }
 
 // The letters, small ones as capitals; `_` for every other character.
-const LETTERS: [u8; 256] = *b"\
-    ________________________________\
-    ________________________________\
-    _ABCDEFGHIJKLMNOPQRSTUVWXYZ_____\
-    _ABCDEFGHIJKLMNOPQRSTUVWXYZ_____\
-    ________________________________\
-    ________________________________\
-    ________________________________\
-    ________________________________";
-
 fn capital(c: u8) -> u8
     ensures { λ r. ⌜ r ≡ capitalOf c ⌝ }
 {
-    LETTERS[c as usize]
+    if c < b'A' {
+        return b'_';
+    }
+    if c <= b'Z' {
+        return c;
+    }
+    if c < b'a' {
+        return b'_';
+    }
+    if c <= b'z' {
+        return c - 32;
+    }
+    b'_'
 }
 
 // The first ten characters as one number, five bits each, so that a word is compared at once.

@@ -29,12 +29,20 @@ pub struct Cleaned {
     pub control: bool,
 }
 
-// The kinds of a character; the fourth is `!` itself.
+// The kinds of a character.
 const KEPT: u8 = b'k';
 
 const HIGH: u8 = b'h';
 
 const CONTROL: u8 = b'c';
+
+const MARK: u8 = b'!';
+
+const TAB: u8 = 9;
+
+const SPACE: u8 = 32;
+
+const DELETE: u8 = 127;
 
 const CR: u8 = 13;
 
@@ -118,21 +126,26 @@ pub fn over_long(r: Record) -> bool
     LONGEST < r.count
 }
 
-// One look-up a character instead of five tests: 32 characters a line.
-const KINDS: [u8; 256] = *b"\
-    ccccccccckcccccccccccccccccccccc\
-    k!kkkkkkkkkkkkkkkkkkkkkkkkkkkkkk\
-    kkkkkkkkkkkkkkkkkkkkkkkkkkkkkkkk\
-    kkkkkkkkkkkkkkkkkkkkkkkkkkkkkkkc\
-    hhhhhhhhhhhhhhhhhhhhhhhhhhhhhhhh\
-    hhhhhhhhhhhhhhhhhhhhhhhhhhhhhhhh\
-    hhhhhhhhhhhhhhhhhhhhhhhhhhhhhhhh\
-    hhhhhhhhhhhhhhhhhhhhhhhhhhhhhhhh";
-
+// Most characters of a show are kept, and are told by the first three tests.
 fn kind(c: u8) -> u8
     ensures { λ r. ⌜ r ≡ kindOf c ⌝ }
 {
-    KINDS[c as usize]
+    if c < SPACE {
+        if c == TAB {
+            return KEPT;
+        }
+        return CONTROL;
+    }
+    if c < DELETE {
+        if c == MARK {
+            return MARK;
+        }
+        return KEPT;
+    }
+    if c == DELETE {
+        return CONTROL;
+    }
+    HIGH
 }
 
 // The record's text, from its characters.
