@@ -1,3 +1,4 @@
+pub mod Sorting
 pub mod Walk
 pub mod Rows
 pub mod Memories

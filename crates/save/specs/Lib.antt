@@ -1,3 +1,3 @@
 pub mod Lines
-pub mod Next
+pub mod Row
 pub mod Part
