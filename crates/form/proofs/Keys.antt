@@ -2,7 +2,7 @@
 -- stands before; and where each slot is in form by itself no submaster repeats another, since its key tells its place.
 -- Assumes nothing.
 use mathlib.Core.Path.{_≡_, refl, sym, ap, _∙_, subst}
-use mathlib.Core.Bool.{Bool, true, false, not, _&&_}
+use mathlib.Core.Bool.{Bool, true, false, cond, not, _&&_}
 use mathlib.Core.List.{List, [], _∷_, _++_}
 use Prim.Native.Nat.{ℕ, zero, suc, _+_, _-_, _*_, _<_, _≤_}
 use native.Mathlib.Nat.{add-zero, zero-add, suc-add, add-suc}
@@ -12,7 +12,7 @@ use lib.Dec.{eqb, ltb}
 use lib.ListN.{length, getD, take, drop, replicate, set, List·getD-eq-default}
 use lib.Seq.{getD-take, getD-drop}
 use borrow.Author.Tests.{eqb-true, eq-eqb, ne-eqb, lt-ltb, le-ltb, not-false}
-use Rattle.cells.proofs.Split.{by-bool, by-lt, cond-true, cond-false, same-test, clash, and-true, and-left, and-right, and-false-left}
+use Rattle.cells.proofs.Split.{by-bool, by-eq, by-lt, cond-true, cond-false, same-test, clash, and-true, and-left, and-right, and-false-left}
 use Rattle.cells.proofs.Search.{first-hit, first-miss, first-none, first-nowhere, first-is, none-is, by-first, first-same, first-skip, first-front, count-none, count-hit, count-miss, count-same, count-turn, count-skip}
 use Rattle.cells.proofs.Table.{length-tab, tab-at}
 use Rattle.cells.proofs.Pad.{padded-add, padded-nil, getD-padded}
@@ -32,7 +32,7 @@ use Rattle.head.proofs.Laws.{decode-fits, quick-is, word-same}
 use Rattle.store.specs.Slots.{slotAt, headAt, keyOf, isUsed, holdsAt, find}
 use Rattle.store.specs.Form.{placeFits, valuesFit, nameAt, slotFits, isAt, repeatsAt, badSlot, repeatedSlot, isNowhere}
 use Rattle.form.specs.Fitting.{Fitting}
-use Rattle.form.specs.Keys.{mostKeys, keyWord, keyWords, usedWord, isWord, countWord, kindStart, seenBefore}
+use Rattle.form.specs.Keys.{mostKeys, keyWord, keyWords, usedWord, isWord, countWord, kindStart, seenBefore, Topped, topOf}
 use Rattle.form.proofs.Laws.{slot-length, head-fits}
 
 -- ---- words
@@ -324,6 +324,69 @@ unfolding seenBefore
 seen-used c ks i h e g =
     ap (λ (k : ℕ). ltb 0 k) (g ∙ ap (λ (z : ℕ). countWord ks (getD ks i 0) z i) e)
     ∙ sym (cond-false _ _ _ (le-ltb (getD ks i 0) usedWord h))
+
+-- ---- a word above all those before it was not seen before
+none-counted : (p : ℕ → Bool) (n i : ℕ) → ((k : ℕ) → i ≤ k → k < i + n → p k ≡ false) → countFrom p n i ≡ 0
+none-counted p zero i h = count-none p i
+none-counted p (suc n) i h =
+    count-miss p (suc n) i (omega arith) refl (h i (omega arith) (omega arith))
+    ∙ ap (λ (z : ℕ). countFrom p z (i + 1)) (let e : suc n - 1 ≡ n = omega arith in e)
+    ∙ none-counted p n (i + 1) (λ k a b. h k (omega arith) (omega arith))
+
+pub seen-above : (c : ℕ) (ks : List ℕ) (i top : ℕ) → Topped c ks i top → usedWord ≤ getD ks i 0 → top < getD ks i 0 → false ≡ seenBefore c ks i
+unfolding seenBefore countWord
+seen-above c ks i top t u h =
+    let w = getD ks i 0 in
+    let a = kindStart c i in
+    let none : countFrom (isWord ks w) (i - a) a ≡ 0 =
+    none-counted (isWord ks w) (i - a) a
+    (λ k f g. ne-eqb (getD ks k 0) w (λ e. let l = t .above k f (omega arith) in absurd (omega arith)))
+    in
+    sym (cond-false (ltb w usedWord) false _ (le-ltb w usedWord u) ∙ ap (λ (k : ℕ). ltb 0 k) none ∙ le-ltb 0 0 (omega arith))
+
+pub topped-start : (c : ℕ) (ks : List ℕ) → Topped c ks 0 0
+topped-start c ks = record { above = λ j a b. absurd (omega arith) }
+
+start-next : (c i : ℕ) → (i + 1 ≡ c → ⊥) → kindStart c (i + 1) ≡ kindStart c i
+unfolding kindStart
+start-next c i ne =
+    by-lt (i + 1) c
+    (λ h. cond-true (ltb (i + 1) c) 0 c (lt-ltb (i + 1) c h) ∙ sym (cond-true (ltb i c) 0 c (lt-ltb i c (omega arith))))
+    (λ h.
+    by-lt c (i + 1)
+    (λ g. cond-false (ltb (i + 1) c) 0 c (le-ltb (i + 1) c h) ∙ sym (cond-false (ltb i c) 0 c (le-ltb i c (omega arith))))
+    (λ g. absurd (ne (omega arith))))
+
+start-turned : (c i : ℕ) → i ≡ c → kindStart c i ≡ c
+unfolding kindStart
+start-turned c i e = cond-false (ltb i c) 0 c (le-ltb i c (omega arith))
+
+-- the higher of the two
+higher : (top word : ℕ) → (top ≤ cond (ltb top word) word top) × (word ≤ cond (ltb top word) word top)
+higher top word =
+    by-lt top word
+    (λ h. let e = cond-true (ltb top word) word top (lt-ltb top word h) in (omega arith, omega arith))
+    (λ h. let e = cond-false (ltb top word) word top (le-ltb top word h) in (omega arith, omega arith))
+
+pub topped-turn : (c : ℕ) (ks : List ℕ) (i top : ℕ) {t : ℕ} → Topped c ks i top → t ≡ topOf c (i + 1) top (getD ks i 0) → Topped c ks (i + 1) t
+unfolding topOf
+topped-turn c ks i top {t} p q =
+    by-eq (i + 1) c
+    (λ e. record { above = λ j a b. let s = start-turned c (i + 1) e in absurd (omega arith) })
+    (λ ne.
+    let m = cond (ltb top (getD ks i 0)) (getD ks i 0) top in
+    let w : t ≡ m = q ∙ cond-false (eqb (i + 1) c) 0 m (ne-eqb (i + 1) c ne) in
+    let s = start-next c i ne in
+    let hi = higher top (getD ks i 0) in
+    let ht = hi .0 in
+    let hw = hi .1 in
+    record {
+      above =
+          λ j a b.
+          by-eq j i
+          (λ e. let l : getD ks j 0 ≡ getD ks i 0 = ap (λ (z : ℕ). getD ks z 0) e in omega arith)
+          (λ d. let l = p .above j (omega arith) (omega arith) in omega arith);
+    })
 
 pub count-start : (ks : List ℕ) (w a e : ℕ) → 0 + countFrom (isWord ks w) (e - a) a ≡ countWord ks w a e
 unfolding countWord

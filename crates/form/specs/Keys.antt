@@ -3,7 +3,7 @@
 -- Assumes nothing.
 use mathlib.Core.Bool.{Bool, false, cond}
 use mathlib.Core.List.{List}
-use Prim.Native.Nat.{ℕ, _+_, _-_}
+use Prim.Native.Nat.{ℕ, _+_, _-_, _≤_, _<_}
 use lib.Dec.{eqb, ltb}
 use lib.ListN.{getD}
 use Rattle.cells.specs.Pad.{padded}
@@ -46,3 +46,11 @@ kindStart cues i = cond (ltb i cues) 0 cues
 unfoldable pub seenBefore : ℕ → List ℕ → ℕ → Bool
 seenBefore cues ks i =
     cond (ltb (getD ks i 0) usedWord) false (ltb 0 (countWord ks (getD ks i 0) (kindStart cues i) i))
+
+-- no word ahead of slot i, among those of its kind, is above this
+pub record Topped (cues : ℕ) (ks : List ℕ) (i top : ℕ) : Type 0 where
+  pub above : (j : ℕ) → kindStart cues i ≤ j → j < i → getD ks j 0 ≤ top
+
+-- the highest word ahead of slot `next`: another kind begins at the first group
+unfoldable pub topOf : ℕ → ℕ → ℕ → ℕ → ℕ
+topOf cues next top word = cond (eqb next cues) 0 (cond (ltb top word) word top)

@@ -15,7 +15,7 @@ ghost use Rattle.desk.specs.Name.{kindAt, okName};
 ghost use Rattle.store.specs.Slots.{slotAt, entryAt, placeOf};
 ghost use Rattle.store.specs.Form.{hasTimes, hasLink, isZero, timeFits, linkFits, valuesFit, placeFits, slotFits, patchFits, entryFits, badSlot, repeatedSlot, badEntry, goodForm};
 ghost use Rattle.form.specs.Fitting.{Fitting, usedFits};
-ghost use Rattle.form.specs.Keys.{mostKeys, keyWord, keyWords, countWord, kindStart, seenBefore};
+ghost use Rattle.form.specs.Keys.{mostKeys, keyWord, keyWords, countWord, kindStart, seenBefore, Topped, topOf};
 
 // 999:59:59.9
 const MOST_TIME: u32 = 35999999;
@@ -259,27 +259,48 @@ fn kind_start(cues: usize, slot: usize) -> usize
     cues
 }
 
-fn seen_before(cues: usize, words: &[u32; MOST_KEYS], slot: usize) -> bool
+// A word above all those of its kind so far was not seen before: slots that stand in order are not compared.
+fn seen_before(cues: usize, words: &[u32; MOST_KEYS], slot: usize, top: u32) -> bool
     requires { ⌜ slot < mostKeys ⌝ }
+    requires { ⌜ Topped cues (now words) slot top ⌝ }
     ensures { λ r. ⌜ r ≡ seenBefore cues (now (words .entry)) slot ⌝ }
 {
     let word = words[slot];
     if word < USED_WORD {
         return false;
     }
+    if top < word {
+        return false;
+    }
     0 < count_word(words, word, kind_start(cues, slot), slot)
+}
+
+// The highest word ahead of slot `next`, among those of its kind.
+fn top_of(cues: usize, next: usize, top: u32, word: u32) -> u32
+    ensures { λ r. ⌜ r ≡ topOf cues next top word ⌝ }
+{
+    if next == cues {
+        return 0;
+    }
+    if top < word {
+        return word;
+    }
+    top
 }
 
 fn first_seen(cues: usize, words: &[u32; MOST_KEYS], n: usize) -> Place
     requires { ⌜ n ≤ mostKeys ⌝ }
     ensures { λ r. ⌜ r ≡ placeOf (firstFrom (seenBefore cues (now (words .entry))) n 0) ⌝ }
 {
+    let mut top: u32 = 0;
     let mut i = 0;
     while i < n {
-        if seen_before(cues, words, i) {
+        if seen_before(cues, words, i, top) {
             return Place::At(i);
         }
+        let word = words[i];
         i += 1;
+        top = top_of(cues, i, top, word);
     }
     Place::Nowhere
 }

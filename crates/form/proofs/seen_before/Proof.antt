@@ -1,6 +1,6 @@
--- `seen_before` meets its contract: the slot is unused, or its word is counted among those before it.
+-- `seen_before` meets its contract: the slot is unused, its word is above all those before it, or it is counted among them.
 -- Assumes nothing.
-use Rattle.form.proofs.Keys.{seen-unused, seen-used}
+use Rattle.form.proofs.Keys.{seen-unused, seen-above, seen-used}
 use borrow.Author.Needs.{needs}
 use Rattle.form.proofs.seen_before.Statement.{statement}
 use Rattle.form.proofs.seen_before.Tie as tie
@@ -14,14 +14,17 @@ element-copy-out-word c = search needs
 returns : tie.Need-returns
 returns c = seen-unused _ _ _ (c .if1 .taken)
 
+returns-2 : tie.Need-returns-2
+returns-2 c = seen-above _ _ _ _ (c .before .before .before .pre .1) (c .before .if1 .left) (c .if2 .taken)
+
 kind-start-requires : tie.Need-kind-start-requires
 kind-start-requires c κs = search needs
 
 count-word-requires : tie.Need-count-word-requires
 count-word-requires c κs = search needs
 
-returns-2 : tie.Need-returns-2
-returns-2 c = seen-used _ _ _ (c .before .before .if1 .left) (c .before .kind-start .ensures) (c .count-word .ensures)
+returns-3 : tie.Need-returns-3
+returns-3 c = seen-used _ _ _ (c .before .before .before .if1 .left) (c .before .kind-start .ensures) (c .count-word .ensures)
 
 pub seen-before-spec : {M : Type 1} → statement M
 seen-before-spec =
@@ -30,6 +33,7 @@ seen-before-spec =
     mul-word
     element-copy-out-word
     returns
+    returns-2
     kind-start-requires
     count-word-requires
-    returns-2)
+    returns-3)
