@@ -2,7 +2,7 @@
 -- by the laws of fields at a place, and by cases on the words that are left.
 -- Assumes nothing.
 use mathlib.Core.Path.{_≡_, refl, sym, ap, _∙_, subst}
-use mathlib.Core.Bool.{true, false}
+use mathlib.Core.Bool.{Bool, true, false, true≢false}
 use mathlib.Core.List.{List, [], _∷_, _++_, append-nil, append-assoc}
 use Prim.Native.Nat.{ℕ, zero, suc, _+_, _-_, _*_, _/_, _<_, _≤_}
 use native.Mathlib.Omega.{arith}
@@ -43,7 +43,7 @@ use Rattle.load.specs.Item.{rangedOf, channelOf, dimmerOf, onRanged, onLevel, p
 use Rattle.load.specs.Item.{mostFaults, faultsHeld}
 use Rattle.items.specs.declared.Item.{Item}
 use Rattle.items.specs.Take.{takenAs, takenOf}
-use Rattle.items.specs.Each.{itemAt, EntryFits, told}
+use Rattle.items.specs.Each.{itemAt, EntryFits, isFault, told}
 
 -- ---- a number in its range
 module _ (limit beyond : ℕ) {i : Integer} {w s : List ℕ} (a : w ≡ s) (r : i ≡ integerOf w) where
@@ -416,6 +416,15 @@ module _ (f : Faults) {e : Entry} where
       → _≡_ {A = Faults} (record { conditions = set (f .conditions) (f .count) n; count = f .count + 1 }) (told f e)
   unfolding told
   told-fault h = ap (told f) (sym h)
+
+no-fault-by : (f : Faults) (e : Entry) → isFault e ≡ false → f ≡ told f e
+unfolding isFault told
+no-fault-by f (Level n v) h = refl
+no-fault-by f (Patch n k v) h = refl
+no-fault-by f (Fault n k) h = absurd (true≢false h)
+
+pub no-fault : (f : Faults) (e : Entry) {b : Bool} → b ≡ isFault e → b ≡ false → f ≡ told f e
+no-fault f e q h = no-fault-by f e (sym q ∙ h)
 
 -- ---- the loop: what is done and told from here on comes to what is done and told from the start on
 pub record Going (d : Desk) (g : Group) (text columns : List ℕ) (place : ℕ) (aim : Aim) (s₀ : List ℕ) (i : ℕ) (s : List ℕ) (f : Faults) : Type 0 where

@@ -2,6 +2,7 @@
 -- crate names these.
 -- Assumes nothing.
 use mathlib.Core.Path.{_≡_}
+use mathlib.Core.Bool.{Bool, true, false}
 use mathlib.Core.List.{List}
 use Prim.Native.Nat.{ℕ, _+_, _≤_, _<_}
 use lib.ListN.{length, set}
@@ -44,6 +45,11 @@ abbrev pub EntryFits : Desk → Entry → Type 0
 EntryFits d (Level channel v) = Within 1 channel (d .channels) × (v < 256)
 EntryFits d (Patch channel dimmer v) = Within 1 channel (d .channels) × Within 1 dimmer (d .dimmers) × (v < 256)
 EntryFits d (Fault condition column) = Unit {0}
+
+unfoldable pub isFault : Entry → Bool
+isFault (Level channel v) = false
+isFault (Patch channel dimmer v) = false
+isFault (Fault condition column) = true
 
 -- a fault goes behind those that are there
 unfoldable pub told : Faults → Entry → Faults

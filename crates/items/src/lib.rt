@@ -9,7 +9,7 @@ ghost use Rattle.fields.specs.Words.{wordsFrom, wordIn};
 ghost use Rattle.load.specs.Item.{rangedOf, pairOf, tripleOf, entriesIn, doneAt, faultsHeld, mostFaults};
 ghost use Rattle.store_code.specs.Fits.{Fitting};
 ghost use Rattle.items.specs.Take.{AimFits, ItemsReady, takenAs, takenOf};
-ghost use Rattle.items.specs.Each.{Lies, On, itemAt, EntryFits, told};
+ghost use Rattle.items.specs.Each.{Lies, On, itemAt, EntryFits, isFault, told};
 use desk::Desk;
 use fields::Field;
 use level::Leveled;
@@ -169,6 +169,17 @@ fn none() -> Faults
     }
 }
 
+// Asked first, so that the faults, a list by value, are only handed on where one comes to them.
+fn is_fault(e: Entry) -> bool
+    ensures { λ r. ⌜ r ≡ isFault e ⌝ }
+{
+    match e {
+        Entry::Level(_, _) => false,
+        Entry::Patch(_, _, _) => false,
+        Entry::Fault(_, _) => true,
+    }
+}
+
 // An item's fault goes behind those before it.
 fn with(faults: Faults, e: Entry) -> Faults
     requires { ⌜ faults .count < mostFaults ⌝ }
@@ -207,7 +218,9 @@ pub fn take_items<'a>(
         let item = item_at(desk, group, text, columns, i);
         let e = item.entry;
         apply(desk, &mut *store, aim, e);
-        faults = with(faults, e);
+        if is_fault(e) {
+            faults = with(faults, e);
+        }
         i = item.end;
     }
     faults

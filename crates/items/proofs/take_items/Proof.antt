@@ -2,7 +2,7 @@
 -- The measure is what is left of the text.
 -- Assumes nothing.
 use Rattle.store_code.proofs.Laws.{fitting-kept}
-use Rattle.items.proofs.Laws.{Going, item-fits, item-less, loop-start, loop-count, loop-room, loop-turn, loop-end}
+use Rattle.items.proofs.Laws.{Going, item-fits, item-less, loop-start, loop-count, loop-room, loop-turn, loop-end, no-fault}
 use lib.ListN.{length}
 use Prim.Native.Nat.{_-_}
 use mathlib.Core.Path.{sym, _∙_}
@@ -31,14 +31,23 @@ item-at-requires c κs = record { within = c .before .before .loop .inv .within;
 apply-requires : tie.Need-apply-requires Inv-loop μ-loop
 apply-requires c κs = (fitting-kept _ _ _ (c .before .before .before .before .loop .inv .long) (c .before .before .before .before .before .before .before .before .before .pre .fitting), (c .before .before .before .before .before .before .before .before .before .pre .aimed, item-fits _ _ _ _ _ (c .before .item-at .ensures)))
 
+is-fault-requires : tie.Need-is-fault-requires Inv-loop μ-loop
+is-fault-requires c κs = search needs
+
 with-requires : tie.Need-with-requires Inv-loop μ-loop
-with-requires c κs = loop-room _ _ _ _ _ _ _ (c .before .before .before .before .before .before .before .loop .inv) (c .before .before .before .before .before .before .before .before .before .before .before .before .pre .columned) (sym (c .before .before .before .before .before .before .more .ensures) ∙ c .before .before .before .before .before .if1 .taken)
+with-requires c κs = loop-room _ _ _ _ _ _ _ (c .before .before .before .before .before .before .before .before .before .loop .inv) (c .before .before .before .before .before .before .before .before .before .before .before .before .before .before .pre .columned) (sym (c .before .before .before .before .before .before .before .before .more .ensures) ∙ c .before .before .before .before .before .before .before .if1 .taken)
 
 loop-less : tie.Need-loop-less Inv-loop μ-loop
-loop-less c = item-less _ _ _ _ _ (c .before .before .before .before .before .before .before .before .loop .inv .within) (sym (c .before .before .before .before .before .before .before .more .ensures) ∙ c .before .before .before .before .before .before .if1 .taken) (c .before .before .before .before .before .item-at .ensures)
+loop-less c = item-less _ _ _ _ _ (c .before .before .before .before .before .before .before .before .before .before .loop .inv .within) (sym (c .before .before .before .before .before .before .before .before .before .more .ensures) ∙ c .before .before .before .before .before .before .before .before .if1 .taken) (c .before .before .before .before .before .before .before .item-at .ensures)
 
 loop-again : tie.Need-loop-again Inv-loop μ-loop
-loop-again c = loop-turn _ _ _ _ _ _ _ (c .before .before .before .before .before .before .before .before .loop .inv) (c .before .before .before .before .before .before .before .before .before .before .before .before .before .pre .columned) (sym (c .before .before .before .before .before .before .before .more .ensures) ∙ c .before .before .before .before .before .before .if1 .taken) (c .before .before .before .before .before .item-at .ensures) (c .before .before .before .apply .ensures) (c .before .before .before .apply .kept .1 .0) (c .with .ensures)
+loop-again c = loop-turn _ _ _ _ _ _ _ (c .before .before .before .before .before .before .before .before .before .before .loop .inv) (c .before .before .before .before .before .before .before .before .before .before .before .before .before .before .before .pre .columned) (sym (c .before .before .before .before .before .before .before .before .before .more .ensures) ∙ c .before .before .before .before .before .before .before .before .if1 .taken) (c .before .before .before .before .before .before .before .item-at .ensures) (c .before .before .before .before .before .apply .ensures) (c .before .before .before .before .before .apply .kept .1 .0) (c .with .ensures)
+
+loop-less-2 : tie.Need-loop-less-2 Inv-loop μ-loop
+loop-less-2 c = item-less _ _ _ _ _ (c .before .before .before .before .before .before .before .before .before .loop .inv .within) (sym (c .before .before .before .before .before .before .before .before .more .ensures) ∙ c .before .before .before .before .before .before .before .if1 .taken) (c .before .before .before .before .before .before .item-at .ensures)
+
+loop-again-2 : tie.Need-loop-again-2 Inv-loop μ-loop
+loop-again-2 c = loop-turn _ _ _ _ _ _ _ (c .before .before .before .before .before .before .before .before .before .loop .inv) (c .before .before .before .before .before .before .before .before .before .before .before .before .before .before .pre .columned) (sym (c .before .before .before .before .before .before .before .before .more .ensures) ∙ c .before .before .before .before .before .before .before .if1 .taken) (c .before .before .before .before .before .before .item-at .ensures) (c .before .before .before .before .apply .ensures) (c .before .before .before .before .apply .kept .1 .0) (no-fault _ _ (c .before .is-fault .ensures) (c .if2 .left))
 
 same-length : tie.Need-same-length Inv-loop μ-loop
 same-length c = c .before .before .loop .inv .long
@@ -57,8 +66,11 @@ take-items-spec =
     more-requires
     item-at-requires
     apply-requires
+    is-fault-requires
     with-requires
     loop-less
     loop-again
+    loop-less-2
+    loop-again-2
     same-length
     returns)
