@@ -1,0 +1,921 @@
+//! A plain Rust reader and writer of show data, written from the papers: what the proved library is measured and compared with.
+
+use crate::{Limits, Refused, Totals, LONGEST};
+use std::ops::{Range, RangeInclusive};
+
+const HEAD: usize = 24;
+const ENTRY: usize = 3;
+const LONGEST_RECORD: usize = 80;
+const MOST_CUES: usize = 600;
+/// 999:59:59.9 in tenths of a second.
+const LONGEST_TIME: u32 = 35_999_999;
+
+const RANGES: [RangeInclusive<u32>; 9] = [1..=512, 1..=512, 1..=600, 0..=200, 0..=96, 1..=63, 1..=63, 1..=8, 1..=4];
+
+// The public calls.
+
+/// How many bytes a store of this desk needs.
+pub fn needed(limits: &Limits) -> Result<usize, Refused> {
+    Desk::new(limits).map(|desk| desk.needed())
+}
+
+/// Makes a store's needed bytes zero.
+pub fn empty(limits: &Limits, store: &mut [u8]) -> Result<(), Refused> {
+    let desk = Desk::new(limits)?;
+    store.get_mut(..desk.needed()).ok_or(Refused::R3)?.fill(0);
+    Ok(())
+}
+
+/// Reads a stream into a store. A report is the record's number in the high 18 bits, the condition in the low 14.
+pub fn load(limits: &Limits, store: &mut [u8], stream: &[u8], reports: &mut [u32]) -> Result<Totals, Refused> {
+    if stream.len() > LONGEST {
+        return Err(Refused::R1);
+    }
+    let desk = Desk::new(limits)?;
+    let store = store.get_mut(..desk.needed()).ok_or(Refused::R3)?;
+    if !desk.good_form(store) {
+        return Err(Refused::R4);
+    }
+    let log = Log { list: reports, count: 0, record: 0, error: 0, warning: 0 };
+    let mut load = Load { desk, store, open: Open::Nothing, log };
+    let mut totals = Totals::default();
+    let mut ended = false;
+    for record in Records(stream) {
+        load.log.record += 1;
+        match load.record(record) {
+            Outcome::Blank => totals.blank += 1,
+            Outcome::Obeyed => totals.obeyed += 1,
+            Outcome::Passed => totals.passed += 1,
+            Outcome::Dropped(condition) => {
+                totals.dropped += 1;
+                load.log.report(condition);
+                ended = matches!(condition, Condition::TooLong | Condition::Ident);
+            }
+            Outcome::End => {
+                totals.obeyed += 1;
+                ended = true;
+            }
+        }
+        if ended {
+            break;
+        }
+    }
+    if !ended {
+        load.log.report(Condition::NoEnd);
+    }
+    totals.reports = load.log.count;
+    totals.closing = if load.log.error != 0 { load.log.error } else { load.log.warning };
+    Ok(totals)
+}
+
+/// Puts a store's show into `out` as one stream, and tells its length.
+pub fn write(limits: &Limits, store: &[u8], out: &mut [u8]) -> Result<usize, Refused> {
+    let desk = Desk::new(limits)?;
+    let store = store.get(..desk.needed()).ok_or(Refused::R3)?;
+    if !desk.good_form(store) {
+        return Err(Refused::R4);
+    }
+    let mut text = Text(Vec::with_capacity(out.len().min(LONGEST)));
+    desk.show(store, &mut text).ok_or(Refused::R5)?;
+    let text = text.0;
+    out.get_mut(..text.len()).ok_or(Refused::R6(text.len()))?.copy_from_slice(&text);
+    Ok(text.len())
+}
+
+/// Where in the store the levels of a kept cue begin.
+pub fn find(limits: &Limits, store: &[u8], page: u32, whole: u32, tenths: u32) -> Result<Option<usize>, Refused> {
+    let desk = Desk::new(limits)?;
+    let store = store.get(..desk.needed()).ok_or(Refused::R3)?;
+    if !desk.good_form(store) {
+        return Err(Refused::R4);
+    }
+    if !(1..=63).contains(&page) || whole > 999 || tenths > 9 {
+        return Ok(None);
+    }
+    Ok(desk.find(store, Kind::Cue, key(page, Number { whole, tenths })).map(|i| i * desk.slot() + HEAD))
+}
+
+// The desk and its store.
+
+#[derive(Clone, Copy, PartialEq, Eq)]
+enum Kind {
+    Cue,
+    Group,
+    Sub,
+}
+
+#[derive(Clone, Copy)]
+struct Desk {
+    channels: usize,
+    dimmers: usize,
+    cues: usize,
+    groups: usize,
+    subs: usize,
+    cue_pages: usize,
+    group_pages: usize,
+    sub_pages: usize,
+    patch_pages: usize,
+}
+
+impl Desk {
+    fn new(limits: &Limits) -> Result<Desk, Refused> {
+        if !RANGES.iter().zip(limits).all(|(range, limit)| range.contains(limit)) {
+            return Err(Refused::R2);
+        }
+        let [channels, dimmers, cues, groups, subs, cue_pages, group_pages, sub_pages, patch_pages] = limits.map(|n| n as usize);
+        Ok(Desk { channels, dimmers, cues, groups, subs, cue_pages, group_pages, sub_pages, patch_pages })
+    }
+
+    fn slot(&self) -> usize {
+        HEAD + self.channels
+    }
+
+    fn slots(&self) -> usize {
+        self.cues + self.groups + self.subs * self.sub_pages
+    }
+
+    fn needed(&self) -> usize {
+        self.slots() * self.slot() + self.patch_pages * self.dimmers * ENTRY
+    }
+
+    /// The numbers of a kind's slots.
+    fn places(&self, kind: Kind) -> Range<usize> {
+        match kind {
+            Kind::Cue => 0..self.cues,
+            Kind::Group => self.cues..self.cues + self.groups,
+            Kind::Sub => self.cues + self.groups..self.slots(),
+        }
+    }
+
+    fn bytes(&self, kind: Kind) -> Range<usize> {
+        let places = self.places(kind);
+        places.start * self.slot()..places.end * self.slot()
+    }
+
+    fn pages(&self, kind: Kind) -> usize {
+        match kind {
+            Kind::Cue => self.cue_pages,
+            Kind::Group => self.group_pages,
+            Kind::Sub => self.sub_pages,
+        }
+    }
+
+    fn supports(&self, kind: Kind) -> bool {
+        !self.places(kind).is_empty()
+    }
+
+    fn find(&self, store: &[u8], kind: Kind, key: u32) -> Option<usize> {
+        let at = store[self.bytes(kind)].chunks_exact(self.slot()).position(|slot| slot_key(slot) == key)?;
+        Some(self.places(kind).start + at)
+    }
+
+    fn unused(&self, store: &[u8], kind: Kind) -> Option<usize> {
+        let at = store[self.bytes(kind)].chunks_exact(self.slot()).position(|slot| !used(slot))?;
+        Some(self.places(kind).start + at)
+    }
+
+    fn good_form(&self, store: &[u8]) -> bool {
+        self.kind_is_good(store, Kind::Cue)
+            && self.kind_is_good(store, Kind::Group)
+            && self.kind_is_good(store, Kind::Sub)
+            && store[self.slots() * self.slot()..].chunks_exact(ENTRY).all(|entry| self.entry_is_good(entry))
+    }
+
+    fn kind_is_good(&self, store: &[u8], kind: Kind) -> bool {
+        let mut keys = [0; MOST_CUES];
+        let mut count = 0;
+        for (place, slot) in store[self.bytes(kind)].chunks_exact(self.slot()).enumerate() {
+            if !used(slot) {
+                // No early exit, so that it goes many bytes at a time.
+                if slot.iter().fold(0, |all, byte| all | byte) != 0 {
+                    return false;
+                }
+                continue;
+            }
+            if !self.head_is_good(head_of(slot), kind, place) {
+                return false;
+            }
+            if kind != Kind::Sub {
+                keys[count] = slot_key(slot);
+                count += 1;
+            }
+        }
+        // A submaster that agrees with its place repeats no other.
+        let keys = &mut keys[..count];
+        keys.sort_unstable();
+        keys.windows(2).all(|pair| pair[0] != pair[1])
+    }
+
+    fn head_is_good(&self, head: &[u8; HEAD], kind: Kind, place: usize) -> bool {
+        let page = get(head, PAGE) as usize;
+        let number = Number { whole: get(head, WHOLE), tenths: get(head, TENTHS) };
+        let named = match kind {
+            Kind::Sub => {
+                page == place / self.subs + 1 && number.whole as usize == place % self.subs + 1 && number.tenths == 0
+            }
+            _ => (1..=self.pages(kind)).contains(&page) && number.is_good(),
+        };
+        let link = Number { whole: get(head, LINK_WHOLE), tenths: get(head, LINK_TENTHS) };
+        let time = |field| get(head, field) <= LONGEST_TIME;
+        named
+            && match get(head, LINK) {
+                0 => link == Number { whole: 0, tenths: 0 },
+                _ => kind == Kind::Cue && link.is_good(),
+            }
+            && [UP, DOWN].into_iter().all(|fade| match get(head, fade.given) {
+                0 => get(head, fade.fade) == 0 && get(head, fade.delay) == 0,
+                _ => kind != Kind::Group && time(fade.fade) && time(fade.delay),
+            })
+            && match get(head, FOLLOWON) {
+                0 => get(head, FOLLOWON_TIME) == 0,
+                _ => kind == Kind::Cue && time(FOLLOWON_TIME),
+            }
+            && get(head, ZERO) == 0
+    }
+
+    fn entry_is_good(&self, entry: &[u8]) -> bool {
+        let word = u32::from_be_bytes([0, entry[0], entry[1], entry[2]]);
+        match word >> 14 {
+            0 => word == 0,
+            channel => channel as usize <= self.channels && word & 0x3f == 0,
+        }
+    }
+
+    // The written stream. `None` is a stream that grew too long.
+
+    fn show(&self, store: &[u8], text: &mut Text) -> Option<()> {
+        text.put(b"IDENT 3:0\r\nCLEAR ALL\r\n");
+        self.patch(store, text);
+        for (kind, name) in [(Kind::Cue, &b"CUE "[..]), (Kind::Group, b"GROUP ")] {
+            let mut order = [0; MOST_CUES];
+            let mut count = 0;
+            for (i, slot) in store[self.bytes(kind)].chunks_exact(self.slot()).enumerate().filter(|(_, slot)| used(slot)) {
+                order[count] = slot_key(slot) << 10 | i as u32;
+                count += 1;
+            }
+            let order = &mut order[..count];
+            order.sort_unstable();
+            for word in order {
+                let from = (self.places(kind).start + (*word as usize & 0x3ff)) * self.slot();
+                memory(name, &store[from..from + self.slot()], text)?;
+            }
+        }
+        for slot in store[self.bytes(Kind::Sub)].chunks_exact(self.slot()).filter(|slot| used(slot)) {
+            memory(b"SUB ", slot, text)?;
+        }
+        text.put(b"ENDDATA\r\n");
+        text.fits()
+    }
+
+    fn patch(&self, store: &[u8], text: &mut Text) {
+        for (i, entry) in store[self.slots() * self.slot()..].chunks_exact(ENTRY).enumerate() {
+            let word = u32::from_be_bytes([0, entry[0], entry[1], entry[2]]);
+            if word != 0 {
+                text.put(b"PATCH ");
+                text.integer((i / self.dimmers + 1) as u32);
+                text.put(b" ");
+                text.integer(word >> 14);
+                text.put(b"<");
+                text.integer((i % self.dimmers + 1) as u32);
+                text.level((word >> 6) as u8);
+                text.put(b"\r\n");
+            }
+        }
+    }
+}
+
+fn memory(name: &[u8], slot: &[u8], text: &mut Text) -> Option<()> {
+    let head = head_of(slot);
+    text.put(name);
+    text.number(Number { whole: get(head, WHOLE), tenths: get(head, TENTHS) });
+    text.put(b" ");
+    text.integer(get(head, PAGE));
+    text.put(b"\r\n");
+    for (name, fade) in [(&b"UP "[..], UP), (b"DOWN ", DOWN)] {
+        if get(head, fade.given) != 0 {
+            text.put(name);
+            text.time(get(head, fade.fade));
+            let delay = get(head, fade.delay);
+            if delay != 0 {
+                text.put(b" ");
+                text.time(delay);
+            }
+            text.put(b"\r\n");
+        }
+    }
+    if get(head, FOLLOWON) != 0 {
+        text.put(b"FOLLOWON ");
+        text.time(get(head, FOLLOWON_TIME));
+        text.put(b"\r\n");
+    }
+    if get(head, LINK) != 0 {
+        text.put(b"LINK ");
+        text.number(Number { whole: get(head, LINK_WHOLE), tenths: get(head, LINK_TENTHS) });
+        text.put(b"\r\n");
+    }
+    let mut pairs = 0;
+    for (i, &level) in slot[HEAD..].iter().enumerate() {
+        if level != 0 {
+            text.put(match pairs % 8 {
+                0 if pairs == 0 => b"CHAN ",
+                0 => b"\r\nCHAN ",
+                _ => b" ",
+            });
+            text.integer(i as u32 + 1);
+            text.level(level);
+            pairs += 1;
+        }
+    }
+    if pairs != 0 {
+        text.put(b"\r\n");
+    }
+    text.fits()
+}
+
+struct Text(Vec<u8>);
+
+impl Text {
+    fn put(&mut self, text: &[u8]) {
+        self.0.extend_from_slice(text);
+    }
+
+    fn fits(&self) -> Option<()> {
+        (self.0.len() <= LONGEST).then_some(())
+    }
+
+    /// Of at most three digits.
+    fn integer(&mut self, n: u32) {
+        let digit = |d| b'0' + (d % 10) as u8;
+        if n >= 100 {
+            self.put(&[digit(n / 100), digit(n / 10), digit(n)]);
+        } else if n >= 10 {
+            self.put(&[digit(n / 10), digit(n)]);
+        } else {
+            self.put(&[digit(n)]);
+        }
+    }
+
+    fn two_digits(&mut self, n: u32) {
+        self.put(&[b'0' + (n / 10) as u8, b'0' + (n % 10) as u8]);
+    }
+
+    fn tenths(&mut self, tenths: u32) {
+        if tenths != 0 {
+            self.put(&[b'.', b'0' + tenths as u8]);
+        }
+    }
+
+    fn number(&mut self, number: Number) {
+        self.integer(number.whole);
+        self.tenths(number.tenths);
+    }
+
+    fn level(&mut self, level: u8) {
+        const DIGITS: &[u8; 16] = b"0123456789ABCDEF";
+        self.put(&[b'@', b'H', DIGITS[(level >> 4) as usize], DIGITS[(level & 15) as usize]]);
+    }
+
+    fn time(&mut self, time: u32) {
+        let (hours, minutes, seconds) = (time / 36_000, time / 600 % 60, time / 10 % 60);
+        if hours != 0 {
+            self.integer(hours);
+            self.put(b":");
+            self.two_digits(minutes);
+            self.put(b":");
+            self.two_digits(seconds);
+        } else if minutes != 0 {
+            self.integer(minutes);
+            self.put(b":");
+            self.two_digits(seconds);
+        } else {
+            self.integer(seconds);
+        }
+        self.tenths(time % 10);
+    }
+}
+
+// A slot's head: fields as their first bit and their width, most significant bit first.
+
+type Field = (usize, usize);
+
+#[derive(Clone, Copy)]
+struct Fade {
+    given: Field,
+    fade: Field,
+    delay: Field,
+}
+
+const PAGE: Field = (1, 6);
+const WHOLE: Field = (7, 10);
+const TENTHS: Field = (17, 4);
+const LINK: Field = (21, 1);
+const LINK_WHOLE: Field = (22, 10);
+const LINK_TENTHS: Field = (32, 4);
+const UP: Fade = Fade { given: (36, 1), fade: (37, 26), delay: (63, 26) };
+const DOWN: Fade = Fade { given: (89, 1), fade: (90, 26), delay: (116, 26) };
+const FOLLOWON: Field = (142, 1);
+const FOLLOWON_TIME: Field = (143, 26);
+const ZERO: Field = (169, 23);
+
+fn head_of(slot: &[u8]) -> &[u8; HEAD] {
+    slot.first_chunk().expect("a slot begins with its head")
+}
+
+fn used(slot: &[u8]) -> bool {
+    slot[0] & 0x80 != 0
+}
+
+/// The first 21 bits: used, page, number.
+fn slot_key(slot: &[u8]) -> u32 {
+    u32::from_be_bytes([0, slot[0], slot[1], slot[2]]) >> 3
+}
+
+fn key(page: u32, number: Number) -> u32 {
+    1 << 20 | page << 14 | number.whole << 4 | number.tenths
+}
+
+/// The eight bytes that a field lies in, and how far it is from their end.
+#[inline]
+fn window((at, width): Field) -> (Range<usize>, usize) {
+    let from = (at / 8).min(HEAD - 8);
+    (from..from + 8, 64 - (at - from * 8) - width)
+}
+
+#[inline]
+fn get(head: &[u8; HEAD], field: Field) -> u32 {
+    let (bytes, shift) = window(field);
+    let word = u64::from_be_bytes(head[bytes].try_into().expect("eight bytes"));
+    (word >> shift) as u32 & ((1 << field.1) - 1)
+}
+
+#[inline]
+fn set(head: &mut [u8; HEAD], field: Field, value: u32) {
+    let (bytes, shift) = window(field);
+    let word = u64::from_be_bytes(head[bytes.clone()].try_into().expect("eight bytes"));
+    let mask = ((1u64 << field.1) - 1) << shift;
+    head[bytes].copy_from_slice(&(word & !mask | (value as u64) << shift).to_be_bytes());
+}
+
+// Records and fields.
+
+struct Records<'a>(&'a [u8]);
+
+impl<'a> Iterator for Records<'a> {
+    type Item = &'a [u8];
+
+    fn next(&mut self) -> Option<&'a [u8]> {
+        if self.0.is_empty() {
+            return None;
+        }
+        let Some(end) = self.0.iter().position(|&b| b == b'\r' || b == b'\n') else {
+            return Some(std::mem::take(&mut self.0));
+        };
+        let (record, rest) = self.0.split_at(end);
+        self.0 = match rest {
+            [b'\r', b'\n', rest @ ..] | [b'\n', b'\r', rest @ ..] | [_, rest @ ..] => rest,
+            [] => rest,
+        };
+        Some(record)
+    }
+}
+
+fn is_delimiter(b: u8) -> bool {
+    matches!(b, b'\t' | b' ' | b',' | b'/' | b';' | b'<' | b'=' | b'>' | b'@')
+}
+
+fn is_control(b: u8) -> bool {
+    b < 0x20 && b != b'\t' || b == 0x7f
+}
+
+/// A record's fields, then empty words without end: every reader of a value calls an empty word malformed.
+struct Fields<'a>(&'a [u8]);
+
+impl<'a> Fields<'a> {
+    fn next(&mut self) -> &'a [u8] {
+        let from = self.0.iter().position(|&b| !is_delimiter(b)).unwrap_or(self.0.len());
+        let rest = &self.0[from..];
+        let (field, rest) = rest.split_at(rest.iter().position(|&b| is_delimiter(b)).unwrap_or(rest.len()));
+        self.0 = rest;
+        field
+    }
+}
+
+// Values.
+
+#[derive(Clone, Copy, PartialEq, Eq)]
+struct Number {
+    whole: u32,
+    tenths: u32,
+}
+
+impl Number {
+    fn is_good(self) -> bool {
+        self.whole <= 999 && self.tenths <= 9 && (self.whole, self.tenths) != (0, 0)
+    }
+}
+
+/// A long integer is too large for every use, never wrapped.
+fn integer(field: &[u8]) -> Option<u32> {
+    if field.is_empty() {
+        return None;
+    }
+    field.iter().try_fold(0u32, |n, b| b.is_ascii_digit().then(|| n.saturating_mul(10).saturating_add((b - b'0') as u32)))
+}
+
+/// The parts of a field before and after the first of a character.
+fn split_once(field: &[u8], at: u8) -> Option<(&[u8], &[u8])> {
+    let i = field.iter().position(|&b| b == at)?;
+    Some((&field[..i], &field[i + 1..]))
+}
+
+/// An integer and one digit after a point, if there is a point.
+fn with_tenths(field: &[u8]) -> Option<(u32, u32)> {
+    match split_once(field, b'.') {
+        None => Some((integer(field)?, 0)),
+        Some((whole, &[tenth])) if tenth.is_ascii_digit() => Some((integer(whole)?, (tenth - b'0') as u32)),
+        Some(_) => None,
+    }
+}
+
+fn number(field: &[u8]) -> Result<Number, Condition> {
+    match with_tenths(field) {
+        None | Some((0, 0)) => Err(Condition::BadNumber),
+        Some((whole, _)) if whole > 999 => Err(Condition::LargeNumber),
+        Some((whole, tenths)) => Ok(Number { whole, tenths }),
+    }
+}
+
+fn page(field: &[u8], pages: usize) -> Result<u32, Condition> {
+    integer(field).filter(|page| (1..=pages as u32).contains(page)).ok_or(Condition::Page)
+}
+
+/// Channels and dimmers.
+fn place(field: &[u8], most: usize, out_of_range: Condition) -> Result<usize, Condition> {
+    match integer(field) {
+        None => Err(Condition::BadInteger),
+        Some(n) if n == 0 || n as usize > most => Err(out_of_range),
+        Some(n) => Ok(n as usize),
+    }
+}
+
+fn level(field: &[u8]) -> Result<u8, Condition> {
+    if let [b'H' | b'h', digits @ ..] = field {
+        if !(1..=4).contains(&digits.len()) {
+            return Err(Condition::BadHexadecimal);
+        }
+        let mut value = 0;
+        for &b in digits {
+            value = value << 4 | (b as char).to_digit(16).ok_or(Condition::BadHexadecimal)?;
+        }
+        return Ok(if digits.len() > 2 { value >> 8 } else { value } as u8);
+    }
+    match integer(field) {
+        Some(percent @ 0..=999) => Ok(((percent.min(100) * 255 + 50) / 100) as u8),
+        _ => Err(Condition::BadLevel),
+    }
+}
+
+/// `[[h:]m:]s[.t]` in tenths of a second.
+fn time(field: &[u8]) -> Result<u32, Condition> {
+    tenths_of(field).ok_or(Condition::BadTime)
+}
+
+fn tenths_of(field: &[u8]) -> Option<u32> {
+    let up_to = |n: u32, most| (n <= most).then_some(n);
+    let Some((first, rest)) = split_once(field, b':') else {
+        let (seconds, tenths) = with_tenths(field)?;
+        return Some(up_to(seconds, 999)? * 10 + tenths);
+    };
+    let (hours, minutes, last) = match split_once(rest, b':') {
+        None => (0, up_to(integer(first)?, 999)?, rest),
+        Some((minutes, last)) => (up_to(integer(first)?, 999)?, up_to(integer(minutes)?, 59)?, last),
+    };
+    let (seconds, tenths) = with_tenths(last)?;
+    Some(hours * 36_000 + minutes * 600 + up_to(seconds, 59)? * 10 + tenths)
+}
+
+// The load.
+
+#[derive(Clone, Copy, PartialEq, Eq)]
+enum Condition {
+    CueRoom = 21,
+    GroupRoom = 22,
+    BadNumber = 41,
+    LargeNumber = 42,
+    Page = 43,
+    Submaster = 44,
+    NoGroups = 51,
+    NoSubmasters = 52,
+    TooLong = 91,
+    Ident = 99,
+    NoEnd = 100,
+    Unknown = 151,
+    WrongSecondary = 152,
+    BadInteger = 171,
+    BadHexadecimal = 172,
+    Channel = 201,
+    Dimmer = 203,
+    BadLevel = 221,
+    PatchPage = 231,
+    BadTime = 241,
+    HighBit = 701,
+    NonPrinting = 702,
+}
+
+struct Log<'a> {
+    list: &'a mut [u32],
+    count: u32,
+    record: u32,
+    error: u32,
+    warning: u32,
+}
+
+impl Log<'_> {
+    fn report(&mut self, condition: Condition) {
+        if let Some(entry) = self.list.get_mut(self.count as usize) {
+            *entry = self.record << 14 | condition as u32;
+        }
+        self.count += 1;
+        match condition {
+            Condition::TooLong | Condition::Ident | Condition::NoEnd => self.error = condition as u32,
+            _ => self.warning = condition as u32,
+        }
+    }
+}
+
+enum Outcome {
+    Blank,
+    Obeyed,
+    Passed,
+    Dropped(Condition),
+    End,
+}
+
+#[derive(Clone, Copy)]
+enum Open {
+    Nothing,
+    Skipping,
+    /// With the number of its slot.
+    Memory(Kind, usize),
+}
+
+struct Load<'a> {
+    desk: Desk,
+    store: &'a mut [u8],
+    open: Open,
+    log: Log<'a>,
+}
+
+/// The first ten characters in capitals.
+fn keyword<'a>(field: &[u8], room: &'a mut [u8; 10]) -> &'a [u8] {
+    let n = field.len().min(10);
+    room[..n].copy_from_slice(&field[..n]);
+    room[..n].make_ascii_uppercase();
+    &room[..n]
+}
+
+impl Load<'_> {
+    fn record(&mut self, record: &[u8]) -> Outcome {
+        if record.len() > LONGEST_RECORD {
+            return Outcome::Dropped(Condition::TooLong);
+        }
+        let mut kept = [0; LONGEST_RECORD];
+        let high = record.iter().fold(false, |any, &b| any | (b >= 0x80));
+        let control = record.iter().fold(false, |any, &b| any | is_control(b));
+        let text = if high || control {
+            if high {
+                self.log.report(Condition::HighBit);
+            }
+            if control {
+                self.log.report(Condition::NonPrinting);
+            }
+            let mut n = 0;
+            for &b in record.iter().filter(|&&b| b < 0x80 && !is_control(b)) {
+                kept[n] = b;
+                n += 1;
+            }
+            &kept[..n]
+        } else {
+            record
+        };
+        let text = match split_once(text, b'!') {
+            Some((text, _)) => text,
+            None => text,
+        };
+        let mut fields = Fields(text);
+        let first = fields.next();
+        if first.is_empty() {
+            return Outcome::Blank;
+        }
+        self.obey(first, fields).unwrap_or_else(Outcome::Dropped)
+    }
+
+    fn obey(&mut self, first: &[u8], mut fields: Fields) -> Result<Outcome, Condition> {
+        let mut room = [0; 10];
+        match keyword(first, &mut room) {
+            b"CHAN" => self.secondary(|_| true, |load, slot| load.chan(slot, fields)),
+            b"CUE" => self.primary(Kind::Cue, fields),
+            b"UP" => self.fade(UP, fields),
+            b"DOWN" => self.fade(DOWN, fields),
+            b"PATCH" => self.patch(fields),
+            b"GROUP" => self.primary(Kind::Group, fields),
+            b"SUB" => self.primary(Kind::Sub, fields),
+            b"FOLLOWON" => self.secondary(
+                |kind| kind == Kind::Cue,
+                |load, slot| {
+                    let time = time(fields.next())?;
+                    let head = load.head(slot);
+                    set(head, FOLLOWON, 1);
+                    set(head, FOLLOWON_TIME, time);
+                    Ok(())
+                },
+            ),
+            b"LINK" => self.secondary(
+                |kind| kind == Kind::Cue,
+                |load, slot| {
+                    let number = number(fields.next())?;
+                    let head = load.head(slot);
+                    set(head, LINK, 1);
+                    set(head, LINK_WHOLE, number.whole);
+                    set(head, LINK_TENTHS, number.tenths);
+                    Ok(())
+                },
+            ),
+            b"CLEAR" => self.clear(fields),
+            b"IDENT" => match split_once(fields.next(), b':') {
+                Some((version, revision)) if integer(version) == Some(3) && integer(revision) == Some(0) => Ok(Outcome::Obeyed),
+                _ => Err(Condition::Ident),
+            },
+            b"ENDDATA" => Ok(Outcome::End),
+            b"MANUFACTUR" | b"CONSOLE" | b"SET" | b"TEXT" | b"PART" => Ok(Outcome::Passed),
+            [b'$', b'$', ..] => Ok(Outcome::Passed),
+            [b'$', ..] => {
+                self.open = Open::Skipping;
+                Ok(Outcome::Passed)
+            }
+            _ => Err(Condition::Unknown),
+        }
+    }
+
+    fn primary(&mut self, kind: Kind, fields: Fields) -> Result<Outcome, Condition> {
+        self.open = Open::Skipping;
+        let slot = self.start(kind, fields)?;
+        self.open = Open::Memory(kind, slot);
+        Ok(Outcome::Obeyed)
+    }
+
+    /// Starts the named memory afresh and tells its slot.
+    fn start(&mut self, kind: Kind, mut fields: Fields) -> Result<usize, Condition> {
+        let desk = self.desk;
+        if !desk.supports(kind) {
+            return Err(if kind == Kind::Group { Condition::NoGroups } else { Condition::NoSubmasters });
+        }
+        let number = match kind {
+            Kind::Sub => Number { whole: place(fields.next(), desk.subs, Condition::Submaster)? as u32, tenths: 0 },
+            _ => number(fields.next())?,
+        };
+        let page = match fields.next() {
+            [] => 1,
+            given => page(given, desk.pages(kind))?,
+        };
+        let key = key(page, number);
+        let found = match kind {
+            Kind::Sub => Some(desk.places(kind).start + (page as usize - 1) * desk.subs + number.whole as usize - 1),
+            _ => desk.find(self.store, kind, key).or_else(|| desk.unused(self.store, kind)),
+        };
+        let slot = found.ok_or(if kind == Kind::Cue { Condition::CueRoom } else { Condition::GroupRoom })?;
+        let bytes = self.slot(slot);
+        bytes.fill(0);
+        bytes[..3].copy_from_slice(&(key << 3).to_be_bytes()[1..]);
+        Ok(slot)
+    }
+
+    fn slot(&mut self, slot: usize) -> &mut [u8] {
+        let length = self.desk.slot();
+        &mut self.store[slot * length..(slot + 1) * length]
+    }
+
+    fn head(&mut self, slot: usize) -> &mut [u8; HEAD] {
+        self.slot(slot).first_chunk_mut().expect("a slot begins with its head")
+    }
+
+    fn secondary(
+        &mut self,
+        applies: impl FnOnce(Kind) -> bool,
+        act: impl FnOnce(&mut Self, usize) -> Result<(), Condition>,
+    ) -> Result<Outcome, Condition> {
+        match self.open {
+            Open::Skipping => Ok(Outcome::Passed),
+            Open::Memory(kind, slot) if applies(kind) => act(self, slot).map(|()| Outcome::Obeyed),
+            _ => Err(Condition::WrongSecondary),
+        }
+    }
+
+    fn fade(&mut self, fade: Fade, mut fields: Fields) -> Result<Outcome, Condition> {
+        self.secondary(
+            |kind| kind != Kind::Group,
+            |load, slot| {
+                let up = time(fields.next())?;
+                let delay = match fields.next() {
+                    [] => 0,
+                    given => time(given)?,
+                };
+                let head = load.head(slot);
+                set(head, fade.given, 1);
+                set(head, fade.fade, up);
+                set(head, fade.delay, delay);
+                Ok(())
+            },
+        )
+    }
+
+    fn chan(&mut self, slot: usize, mut fields: Fields) -> Result<(), Condition> {
+        let channels = self.desk.channels;
+        let from = slot * self.desk.slot() + HEAD;
+        let levels = &mut self.store[from..from + channels];
+        loop {
+            let channel = fields.next();
+            if channel.is_empty() {
+                return Ok(());
+            }
+            let given = fields.next();
+            match place(channel, channels, Condition::Channel).and_then(|channel| Ok((channel, level(given)?))) {
+                Ok((channel, level)) => levels[channel - 1] = level,
+                Err(condition) => self.log.report(condition),
+            }
+        }
+    }
+
+    fn patch(&mut self, mut fields: Fields) -> Result<Outcome, Condition> {
+        let desk = self.desk;
+        let page = page(fields.next(), desk.patch_pages).map_err(|_| Condition::PatchPage)? as usize;
+        let from = desk.slots() * desk.slot() + (page - 1) * desk.dimmers * ENTRY;
+        loop {
+            let channel = fields.next();
+            if channel.is_empty() {
+                return Ok(Outcome::Obeyed);
+            }
+            let (dimmer, given) = (fields.next(), fields.next());
+            let triple = || {
+                let channel = place(channel, desk.channels, Condition::Channel)?;
+                let dimmer = place(dimmer, desk.dimmers, Condition::Dimmer)?;
+                Ok((channel, dimmer, level(given)?))
+            };
+            match triple() {
+                Ok((channel, dimmer, level)) => {
+                    let word = (channel as u32) << 14 | (level as u32) << 6;
+                    let at = from + (dimmer - 1) * ENTRY;
+                    self.store[at..at + ENTRY].copy_from_slice(&word.to_be_bytes()[1..]);
+                }
+                Err(condition) => self.log.report(condition),
+            }
+        }
+    }
+
+    fn clear(&mut self, mut fields: Fields) -> Result<Outcome, Condition> {
+        let desk = self.desk;
+        let mut room = [0; 10];
+        let item = keyword(fields.next(), &mut room);
+        let (kinds, patch): (&[Kind], bool) = match item {
+            b"ALL" => (&[Kind::Cue, Kind::Group, Kind::Sub], true),
+            b"CUES" => (&[Kind::Cue], false),
+            b"GROUPS" => (&[Kind::Group], false),
+            b"SUBMASTERS" => (&[Kind::Sub], false),
+            b"PATCH" => (&[], true),
+            [b'$', ..] => return Ok(Outcome::Obeyed),
+            _ => return Err(Condition::Unknown),
+        };
+        let pages = kinds.iter().filter(|&&kind| desk.supports(kind)).map(|&kind| desk.pages(kind));
+        let Some(pages) = pages.chain(patch.then_some(desk.patch_pages)).max() else {
+            return Ok(Outcome::Obeyed);
+        };
+        let page = match fields.next() {
+            [] => None,
+            given => Some(page(given, pages)?),
+        };
+        for &kind in kinds {
+            for slot in self.store[desk.bytes(kind)].chunks_exact_mut(desk.slot()) {
+                if used(slot) && page.is_none_or(|page| get(head_of(slot), PAGE) == page) {
+                    slot.fill(0);
+                }
+            }
+        }
+        if patch {
+            let entries = &mut self.store[desk.slots() * desk.slot()..];
+            match page {
+                None => entries.fill(0),
+                Some(page) => {
+                    if let Some(entries) = entries.chunks_exact_mut(desk.dimmers * ENTRY).nth(page as usize - 1) {
+                        entries.fill(0);
+                    }
+                }
+            }
+        }
+        if let Open::Memory(_, slot) = self.open {
+            if !used(self.slot(slot)) {
+                self.open = Open::Nothing;
+            }
+        }
+        Ok(Outcome::Obeyed)
+    }
+}

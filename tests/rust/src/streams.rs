@@ -1,0 +1,482 @@
+//! Desks, streams and stores for the benchmark and the differential run, all drawn from one number.
+
+use crate::{Limits, LONGEST};
+use std::io::Write;
+
+/// The house small desk.
+pub const HOUSE: Limits = [96, 192, 200, 40, 24, 2, 1, 2, 1];
+
+/// The largest desk.
+pub const LARGE: Limits = [512, 512, 600, 200, 96, 63, 63, 8, 4];
+
+/// Splitmix: small, and the same on every machine.
+#[derive(Clone)]
+pub struct Dice(pub u64);
+
+impl Dice {
+    pub fn word(&mut self) -> u64 {
+        self.0 = self.0.wrapping_add(0x9e37_79b9_7f4a_7c15);
+        let mut z = self.0;
+        z = (z ^ (z >> 30)).wrapping_mul(0xbf58_476d_1ce4_e5b9);
+        z = (z ^ (z >> 27)).wrapping_mul(0x94d0_49bb_1331_11eb);
+        z ^ (z >> 31)
+    }
+
+    /// Below `n`, which is not 0.
+    pub fn below(&mut self, n: usize) -> usize {
+        (self.word() % n as u64) as usize
+    }
+
+    pub fn range(&mut self, from: u32, to: u32) -> u32 {
+        from + self.below((to - from) as usize + 1) as u32
+    }
+
+    pub fn one_in(&mut self, n: usize) -> bool {
+        self.below(n) == 0
+    }
+
+    pub fn pick<T: Copy>(&mut self, list: &[T]) -> T {
+        list[self.below(list.len())]
+    }
+}
+
+// Shows as a writer puts them, for the benchmark.
+
+/// A canonical stream of nearly `size` bytes: an empty table is filled with memories that each light one channel in `sparse`, ascending
+/// by page and number, so that writing it back gives the same bytes.
+pub fn show(limits: &Limits, size: usize, sparse: usize, dice: &mut Dice) -> Vec<u8> {
+    let [channels, dimmers, cues, groups, subs, .., sub_pages, patch_pages] = *limits;
+    let end: &[u8] = b"ENDDATA\r\n";
+    let mut out = b"IDENT 3:0\r\nCLEAR ALL\r\n".to_vec();
+    let fits = |out: &Vec<u8>, more: &Vec<u8>| out.len() + more.len() + end.len() <= size;
+    let mut more = Vec::new();
+    // The patch takes at most a quarter.
+    'patch: for page in 1..=patch_pages {
+        for dimmer in 1..=dimmers {
+            more.clear();
+            put(&mut more, format_args!("PATCH {page} {}<{dimmer}@H{:02X}\r\n", dice.range(1, channels), dice.range(0, 255)));
+            if out.len() + more.len() > size / 4 {
+                break 'patch;
+            }
+            out.extend_from_slice(&more);
+        }
+    }
+    let memories = (1..=cues)
+        .map(|n| ("CUE", n, 1))
+        .chain((1..=groups).map(|n| ("GROUP", n, 1)))
+        .chain((1..=sub_pages).flat_map(|page| (1..=subs).map(move |n| ("SUB", n, page))));
+    for (kind, number, page) in memories {
+        more.clear();
+        put(&mut more, format_args!("{kind} {number} {page}\r\n"));
+        if kind != "GROUP" {
+            put(&mut more, format_args!("UP {}.{}\r\nDOWN {} {}\r\n", dice.range(0, 59), dice.range(1, 9), dice.range(0, 59), dice.range(1, 59)));
+        }
+        if kind == "CUE" {
+            put(&mut more, format_args!("FOLLOWON {}:{:02}\r\nLINK {}\r\n", dice.range(1, 59), dice.range(0, 59), dice.range(1, 999)));
+        }
+        let mut pairs = 0;
+        for channel in 1..=channels {
+            if dice.one_in(sparse) {
+                let before: &str = if pairs % 8 == 0 { if pairs == 0 { "CHAN" } else { "\r\nCHAN" } } else { "" };
+                put(&mut more, format_args!("{before} {channel}@H{:02X}", dice.range(1, 255)));
+                pairs += 1;
+            }
+        }
+        if pairs > 0 {
+            more.extend_from_slice(b"\r\n");
+        }
+        if !fits(&out, &more) {
+            break;
+        }
+        out.extend_from_slice(&more);
+    }
+    out.extend_from_slice(end);
+    out
+}
+
+fn put(out: &mut Vec<u8>, text: std::fmt::Arguments) {
+    out.write_fmt(text).expect("a vector takes everything");
+}
+
+/// Every cue and group slot taken, whole numbers in order on page 1, and every submaster; no levels, no patch.
+pub fn full(limits: &Limits) -> Vec<u8> {
+    let [_, _, cues, groups, subs, _, _, sub_pages, _] = *limits;
+    let mut out = b"CLEAR ALL\n".to_vec();
+    for n in 1..=cues {
+        put(&mut out, format_args!("CUE {n}\n"));
+    }
+    for n in 1..=groups {
+        put(&mut out, format_args!("GROUP {n}\n"));
+    }
+    for page in 1..=sub_pages {
+        for n in 1..=subs {
+            put(&mut out, format_args!("SUB {n} {page}\n"));
+        }
+    }
+    out.extend_from_slice(b"ENDDATA");
+    out
+}
+
+/// A canonical stream of exactly `length` bytes for the largest desk: a sparse show, then one submaster that makes up what is wanting.
+pub fn show_of(length: usize) -> Vec<u8> {
+    const TIMES: [&str; 7] = ["3", "13", "3.5", "1:30", "10:30", "1:30.5", "10:30.5"];
+    let mut out = show(&LARGE, length - 200, 16, &mut Dice(length as u64));
+    out.truncate(out.len() - b"ENDDATA\r\n".len());
+    for pairs in 0..89 {
+        for time in TIMES {
+            let mut more = Vec::new();
+            put(&mut more, format_args!("SUB 96 8\r\nUP {time}\r\n"));
+            for i in 0..pairs {
+                put(&mut more, format_args!("{} {}@HFF{}", if i % 8 == 0 { "CHAN" } else { "" }, i + 10, if i % 8 == 7 { "\r\n" } else { "" }));
+            }
+            if pairs % 8 != 0 {
+                more.extend_from_slice(b"\r\n");
+            }
+            more.extend_from_slice(b"ENDDATA\r\n");
+            if out.len() + more.len() == length {
+                out.extend_from_slice(&more);
+                return out;
+            }
+        }
+    }
+    panic!("no show of {length} bytes")
+}
+
+/// `first` once, then `again` as often as it fits into `size` bytes.
+pub fn repeated(first: &[u8], again: &[u8], size: usize) -> Vec<u8> {
+    let mut out = first.to_vec();
+    while out.len() + again.len() <= size.min(LONGEST) {
+        out.extend_from_slice(again);
+    }
+    out
+}
+
+// Desks, stores and streams of every sort, for the differential run.
+
+const LEAST: Limits = [1, 1, 1, 0, 0, 1, 1, 1, 1];
+
+/// Small most of the time, with limits at the ends of their ranges or just past them at times.
+pub fn desk(dice: &mut Dice) -> Limits {
+    let mut limits = match dice.below(4_000) {
+        0 => LARGE,
+        1 => LARGE.map(|most| dice.range(1, most)),
+        2..=40 => HOUSE,
+        _ => [12, 9, 6, 5, 4, 3, 3, 3, 3].map(|most| dice.range(1, most)),
+    };
+    if dice.one_in(6) {
+        limits[dice.pick(&[3, 4])] = 0;
+    }
+    if dice.one_in(12) {
+        let i = dice.below(9);
+        let small = limits[0] < 64;
+        limits[i] = match dice.below(6) {
+            0 => LEAST[i],
+            1 if !small || i > 4 => LARGE[i],
+            2 => LARGE[i] + 1,
+            3 => LEAST[i].wrapping_sub(1),
+            4 => dice.word() as u32,
+            _ => limits[i],
+        };
+    }
+    limits
+}
+
+/// A stream in the grammar with faults of every sort in it, or one that is hardly in the grammar at all.
+pub fn stream(limits: &Limits, dice: &mut Dice) -> Vec<u8> {
+    let mut out = Vec::new();
+    if dice.one_in(30) {
+        out.extend((0..dice.below(200)).map(|_| dice.word() as u8));
+        return out;
+    }
+    let faults = dice.pick(&[4, 12, 40, 1_000_000]);
+    let mut talk = Talk { limits, dice, faults, out };
+    talk.stream();
+    let Talk { mut out, .. } = talk;
+    if dice.one_in(8) {
+        for _ in 0..=dice.below(4) {
+            if !out.is_empty() {
+                let at = dice.below(out.len());
+                match dice.below(4) {
+                    0 => out[at] ^= 1 << dice.below(8),
+                    1 => out[at] = dice.word() as u8,
+                    2 => drop(out.remove(at)),
+                    _ => out.insert(at, dice.word() as u8),
+                }
+            }
+        }
+    }
+    if dice.one_in(10) {
+        out.truncate(dice.below(out.len() + 1));
+    }
+    if dice.one_in(3_000) {
+        // At the longest, and past it.
+        let length = LONGEST - 1 + dice.below(3);
+        let filler: &[u8] = dice.pick(&[&b"\r\n"[..], b"\n", b"! act two\r\n", b"UP 3\n", b"SET CHANNELS 9\n"]);
+        while out.len() + filler.len() <= length {
+            out.extend_from_slice(filler);
+        }
+        out.resize(length, b'\n');
+    }
+    out
+}
+
+struct Talk<'a> {
+    limits: &'a Limits,
+    dice: &'a mut Dice,
+    /// One value in so many is odd.
+    faults: usize,
+    out: Vec<u8>,
+}
+
+impl Talk<'_> {
+    fn odd(&mut self) -> bool {
+        self.dice.one_in(self.faults)
+    }
+
+    fn put(&mut self, text: &[u8]) {
+        self.out.extend_from_slice(text);
+    }
+
+    fn stream(&mut self) {
+        if !self.dice.one_in(3) {
+            self.record(b"IDENT", |talk| talk.field("3:0"));
+        }
+        for _ in 0..self.dice.below(40) {
+            self.any_record();
+        }
+        if !self.dice.one_in(3) {
+            self.record(b"ENDDATA", |_| ());
+        }
+        for _ in 0..self.dice.below(3) {
+            self.any_record();
+        }
+    }
+
+    fn any_record(&mut self) {
+        match self.dice.below(48) {
+            0..=14 => self.record(b"CHAN", |talk| {
+                for _ in 0..talk.dice.below(9) {
+                    talk.integer(talk.limits[0]);
+                    talk.level();
+                }
+            }),
+            15..=18 => self.record(b"CUE", |talk| {
+                talk.number();
+                talk.page(talk.limits[5]);
+            }),
+            19..=21 => self.record(b"GROUP", |talk| {
+                talk.number();
+                talk.page(talk.limits[6]);
+            }),
+            22..=24 => self.record(b"SUB", |talk| {
+                talk.integer(talk.limits[4]);
+                talk.page(talk.limits[7]);
+            }),
+            25..=30 => {
+                let name: &[u8] = self.dice.pick(&[&b"UP"[..], b"DOWN"]);
+                self.record(name, |talk| {
+                    talk.time();
+                    if talk.dice.one_in(2) {
+                        talk.time();
+                    }
+                });
+            }
+            31..=32 => self.record(b"FOLLOWON", |talk| talk.time()),
+            33..=34 => self.record(b"LINK", |talk| talk.number()),
+            35..=39 => self.record(b"PATCH", |talk| {
+                talk.integer(talk.limits[8]);
+                for _ in 0..talk.dice.below(5) {
+                    talk.integer(talk.limits[0]);
+                    talk.integer(talk.limits[1]);
+                    talk.level();
+                }
+            }),
+            40..=41 => self.record(b"CLEAR", |talk| {
+                let items = ["ALL", "CUES", "GROUPS", "PATCH", "SUBMASTERS", "$LOOKS", "FOO", "cues", "Submasters", "SUBMASTERSX", "CUE", "$"];
+                let item = talk.dice.pick(&items);
+                if !talk.dice.one_in(12) {
+                    talk.field(item);
+                    let table = 5 + talk.dice.below(4);
+                    talk.page(talk.limits[table]);
+                }
+            }),
+            42 => {
+                let faults = std::mem::replace(&mut self.faults, 3);
+                self.record(b"IDENT", |talk| {
+                    let odd = talk.odd();
+                    let version = talk.dice.pick(&["3", "3:", ":0", "3:0:0", "3.0", "2:0", "3:1", "", "03:00", "3:0x", "3:00000000000", "4294967299:0"]);
+                    talk.field(if odd { version } else { "3:0" });
+                });
+                self.faults = faults;
+            }
+            43..=44 => {
+                let names = ["MANUFACTURER", "MANUFACTURED", "CONSOLE", "SET", "TEXT", "PART", "$LOOK", "$", "$$", "$$X", "$5", "$(", "MANUFACTU", "MANUFACTUR("];
+                let name = self.dice.pick(&names);
+                self.record(name.as_bytes(), |talk| talk.field("CHAN 1 2"));
+            }
+            45 => {
+                let names = ["CUEX", "ENDDATAX", "ENDDAT", "C", "9", "(", "UPP", "FOLLOWONS", "LINKS", "CHANNEL", "3:0", "PATC", "GROUPS", "SUBMASTERS"];
+                let name = self.dice.pick(&names);
+                self.record(name.as_bytes(), |talk| talk.field("1"));
+            }
+            46 => {
+                let text: &[u8] = self.dice.pick(&[&b""[..], b"!", b"! CUE 1", b" ", b"\t,/;<=>@", b" !\x80\x01", b"\x7f", b"\xff", b"\x00"]);
+                self.put(text);
+                self.end();
+            }
+            _ => {
+                if self.dice.one_in(20) {
+                    self.record(b"ENDDATA", |talk| talk.field("1"));
+                }
+            }
+        }
+    }
+
+    fn record(&mut self, keyword: &[u8], fields: impl FnOnce(&mut Self)) {
+        let from = self.out.len();
+        if self.odd() {
+            self.delimiter();
+        }
+        let case = self.dice.below(4);
+        for (i, &b) in keyword.iter().enumerate() {
+            self.out.push(match case {
+                0 => b.to_ascii_lowercase(),
+                1 if i > 0 => b.to_ascii_lowercase(),
+                2 if self.dice.one_in(2) => b.to_ascii_lowercase(),
+                _ => b,
+            });
+        }
+        if self.odd() {
+            match self.dice.below(3) {
+                0 => drop(self.out.pop()),
+                1 => self.out.push(b'A' + self.dice.below(26) as u8),
+                _ => self.put(b"ABCDEFGHIJ"),
+            }
+        }
+        fields(self);
+        if self.odd() {
+            let text = self.dice.pick(&["! a comment", "!", " ", "\t ", " extra 1 2", " !\u{7f}", "$"]);
+            self.put(text.as_bytes());
+        }
+        if self.odd() {
+            // A stray character somewhere in the record.
+            let at = from + self.dice.below(self.out.len() - from + 1);
+            let stray = match self.dice.below(4) {
+                0 => 0x80 | self.dice.word() as u8,
+                1 => self.dice.below(32) as u8,
+                2 => self.dice.pick(b"!$H:.\x7f-(@"),
+                _ => self.dice.word() as u8,
+            };
+            self.out.insert(at, stray);
+        }
+        if self.odd() && self.odd() {
+            // Around 80 characters.
+            let length = from + 78 + self.dice.below(5);
+            let filler = self.dice.pick(b" \x010!\xffx");
+            while self.out.len() < length {
+                self.out.push(filler);
+            }
+        }
+        self.end();
+    }
+
+    fn end(&mut self) {
+        let end: &[u8] = if self.odd() {
+            self.dice.pick(&[&b"\r"[..], b"\n", b"\n\r", b"\r\n\r", b"\r\r", b"\n\n", b"\n\r\r\n", b""])
+        } else {
+            b"\r\n"
+        };
+        self.put(end);
+    }
+
+    fn delimiter(&mut self) {
+        if self.odd() {
+            for _ in 0..=self.dice.below(3) {
+                let one = self.dice.pick(b"\t ,/;<=>@");
+                self.out.push(one);
+            }
+        } else {
+            let one = self.dice.pick(b" <@/");
+            self.out.push(one);
+        }
+    }
+
+    fn field(&mut self, text: &str) {
+        self.delimiter();
+        self.put(text.as_bytes());
+    }
+
+    fn integer(&mut self, most: u32) {
+        if !self.odd() {
+            let n = self.dice.range(1, most.max(1));
+            return self.field(&n.to_string());
+        }
+        let n = self.dice.range(0, most.saturating_add(1));
+        let text = match self.dice.below(8) {
+            0 => format!("{n:06}"),
+            1 => format!("{n}x"),
+            2 => self.dice.pick(&["", "x", "-1", "+1", "1.0", ".", "$", "1:2", "0x1"]).to_string(),
+            3 => (u32::MAX as u64 + 1 + n as u64).to_string(),
+            4 => (u64::MAX as u128 + 1 + n as u128).to_string(),
+            5 => self.dice.pick(&["99999999999999999999", "65537", "262144", "1000", "10000", "00000000000000000000000001", "000"]).to_string(),
+            _ => n.to_string(),
+        };
+        self.field(&text);
+    }
+
+    fn page(&mut self, pages: u32) {
+        if !self.dice.one_in(3) {
+            self.integer(pages);
+        }
+    }
+
+    fn number(&mut self) {
+        if self.odd() {
+            let odd = [
+                "0", "0.0", "5.", ".5", "2.55", "2.50", "1000", "1000.5", "1000.55", "1000.", "1000x", "9999.9", "999.9", "999.10", "00001.5", "1..2", "1.x", "x.1",
+                "4294967297", "4294967296.5", "", ".", "0.1", "000.1", "1.2.3",
+            ];
+            let text = self.dice.pick(&odd);
+            return self.field(text);
+        }
+        let whole = if self.dice.one_in(8) { self.dice.range(1, 999) } else { self.dice.range(1, 7) };
+        let text = if self.dice.one_in(3) { format!("{whole}.{}", self.dice.range(0, 9)) } else { whole.to_string() };
+        self.field(&text);
+    }
+
+    fn level(&mut self) {
+        if self.odd() {
+            let odd = [
+                "H", "Hello", "h0g", "H12345", "H9ABC", "H009F", "HABC", "HF", "hfff", "FF", "5H", "101", "999", "1000", "99999999999", "0999", "00001000", "4294967296", "x", "-5",
+                "+5", "1.5", "50%", "H-1", "H+1", "H 1", "HG", "H:", "H/", "H`", "h@",
+            ];
+            let text = self.dice.pick(&odd);
+            return self.field(text);
+        }
+        let text = match self.dice.below(3) {
+            0 => self.dice.range(0, 100).to_string(),
+            1 => format!("H{:02X}", self.dice.range(0, 255)),
+            _ => format!("h{:x}", self.dice.range(0, 0xffff)),
+        };
+        self.field(&text);
+    }
+
+    fn time(&mut self) {
+        if self.odd() {
+            let odd = [
+                "1:60", "60:1", "1:60:00", "1:2:3:4", ":3", "3:", "1::2", "", ".5", "5.", "5.55", "1.5:3", "1000", "1000:00", "1000:00:00", "999:59:59.9", "999:59", "999.9", "1:003",
+                "00.5", "0:90", "59:59.9", "00999:00059", "4294967296", "4294967297:1", "1:4294967297", "x", "1:x", "1:2:x", "1:2.x", "-1", "1:2:3.45", "0:0:0.0", "1:1000",
+            ];
+            let text = self.dice.pick(&odd);
+            return self.field(text);
+        }
+        let text = match self.dice.below(5) {
+            0 => self.dice.range(0, 999).to_string(),
+            1 => format!("{}.{}", self.dice.range(0, 99), self.dice.range(0, 9)),
+            2 => format!("{}:{:02}", self.dice.range(0, 999), self.dice.range(0, 59)),
+            3 => format!("{}:{:02}:{:02}.{}", self.dice.range(0, 999), self.dice.range(0, 59), self.dice.range(0, 59), self.dice.range(0, 9)),
+            _ => format!("{}:{}:{}", self.dice.range(0, 12), self.dice.range(0, 59), self.dice.range(0, 59)),
+        };
+        self.field(&text);
+    }
+}
