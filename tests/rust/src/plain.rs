@@ -668,10 +668,10 @@ struct Load<'a> {
 
 /// The first ten characters in capitals.
 fn keyword<'a>(field: &[u8], room: &'a mut [u8; 10]) -> &'a [u8] {
-    let n = field.len().min(10);
-    room[..n].copy_from_slice(&field[..n]);
-    room[..n].make_ascii_uppercase();
-    &room[..n]
+    for (to, from) in room.iter_mut().zip(field) {
+        *to = from.to_ascii_uppercase();
+    }
+    &room[..field.len().min(10)]
 }
 
 impl Load<'_> {
@@ -679,7 +679,7 @@ impl Load<'_> {
         if record.len() > LONGEST_RECORD {
             return Outcome::Dropped(Condition::TooLong);
         }
-        let mut kept = [0; LONGEST_RECORD];
+        let mut kept;
         let high = record.iter().fold(false, |any, &b| any | (b >= 0x80));
         let control = record.iter().fold(false, |any, &b| any | is_control(b));
         let text = if high || control {
@@ -689,6 +689,7 @@ impl Load<'_> {
             if control {
                 self.log.report(Condition::NonPrinting);
             }
+            kept = [0; LONGEST_RECORD];
             let mut n = 0;
             for &b in record.iter().filter(|&&b| b < 0x80 && !is_control(b)) {
                 kept[n] = b;
