@@ -210,9 +210,7 @@ impl Desk {
         let page = get(head, PAGE) as usize;
         let number = Number { whole: get(head, WHOLE), tenths: get(head, TENTHS) };
         let named = match kind {
-            Kind::Sub => {
-                page == place / self.subs + 1 && number.whole as usize == place % self.subs + 1 && number.tenths == 0
-            }
+            Kind::Sub => page == place / self.subs + 1 && number.whole as usize == place % self.subs + 1 && number.tenths == 0,
             _ => (1..=self.pages(kind)).contains(&page) && number.is_good(),
         };
         let link = Number { whole: get(head, LINK_WHOLE), tenths: get(head, LINK_TENTHS) };

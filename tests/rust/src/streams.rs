@@ -77,7 +77,15 @@ pub fn show(limits: &Limits, size: usize, sparse: usize, dice: &mut Dice) -> Vec
         let mut pairs = 0;
         for channel in 1..=channels {
             if dice.one_in(sparse) {
-                let before: &str = if pairs % 8 == 0 { if pairs == 0 { "CHAN" } else { "\r\nCHAN" } } else { "" };
+                let before: &str = if pairs % 8 == 0 {
+                    if pairs == 0 {
+                        "CHAN"
+                    } else {
+                        "\r\nCHAN"
+                    }
+                } else {
+                    ""
+                };
                 put(&mut more, format_args!("{before} {channel}@H{:02X}", dice.range(1, 255)));
                 pairs += 1;
             }
@@ -304,18 +312,23 @@ impl Talk<'_> {
                 let faults = std::mem::replace(&mut self.faults, 3);
                 self.record(b"IDENT", |talk| {
                     let odd = talk.odd();
-                    let version = talk.dice.pick(&["3", "3:", ":0", "3:0:0", "3.0", "2:0", "3:1", "", "03:00", "3:0x", "3:00000000000", "4294967299:0"]);
+                    let version =
+                        talk.dice.pick(&["3", "3:", ":0", "3:0:0", "3.0", "2:0", "3:1", "", "03:00", "3:0x", "3:00000000000", "4294967299:0"]);
                     talk.field(if odd { version } else { "3:0" });
                 });
                 self.faults = faults;
             }
             43..=44 => {
-                let names = ["MANUFACTURER", "MANUFACTURED", "CONSOLE", "SET", "TEXT", "PART", "$LOOK", "$", "$$", "$$X", "$5", "$(", "MANUFACTU", "MANUFACTUR("];
+                let names = [
+                    "MANUFACTURER", "MANUFACTURED", "CONSOLE", "SET", "TEXT", "PART", "$LOOK", "$", "$$", "$$X", "$5", "$(", "MANUFACTU",
+                    "MANUFACTUR(",
+                ];
                 let name = self.dice.pick(&names);
                 self.record(name.as_bytes(), |talk| talk.field("CHAN 1 2"));
             }
             45 => {
-                let names = ["CUEX", "ENDDATAX", "ENDDAT", "C", "9", "(", "UPP", "FOLLOWONS", "LINKS", "CHANNEL", "3:0", "PATC", "GROUPS", "SUBMASTERS"];
+                let names =
+                    ["CUEX", "ENDDATAX", "ENDDAT", "C", "9", "(", "UPP", "FOLLOWONS", "LINKS", "CHANNEL", "3:0", "PATC", "GROUPS", "SUBMASTERS"];
                 let name = self.dice.pick(&names);
                 self.record(name.as_bytes(), |talk| talk.field("1"));
             }
@@ -381,11 +394,8 @@ impl Talk<'_> {
     }
 
     fn end(&mut self) {
-        let end: &[u8] = if self.odd() {
-            self.dice.pick(&[&b"\r"[..], b"\n", b"\n\r", b"\r\n\r", b"\r\r", b"\n\n", b"\n\r\r\n", b""])
-        } else {
-            b"\r\n"
-        };
+        let end: &[u8] =
+            if self.odd() { self.dice.pick(&[&b"\r"[..], b"\n", b"\n\r", b"\r\n\r", b"\r\r", b"\n\n", b"\n\r\r\n", b""]) } else { b"\r\n" };
         self.put(end);
     }
 
@@ -433,8 +443,8 @@ impl Talk<'_> {
     fn number(&mut self) {
         if self.odd() {
             let odd = [
-                "0", "0.0", "5.", ".5", "2.55", "2.50", "1000", "1000.5", "1000.55", "1000.", "1000x", "9999.9", "999.9", "999.10", "00001.5", "1..2", "1.x", "x.1",
-                "4294967297", "4294967296.5", "", ".", "0.1", "000.1", "1.2.3",
+                "0", "0.0", "5.", ".5", "2.55", "2.50", "1000", "1000.5", "1000.55", "1000.", "1000x", "9999.9", "999.9", "999.10", "00001.5",
+                "1..2", "1.x", "x.1", "4294967297", "4294967296.5", "", ".", "0.1", "000.1", "1.2.3",
             ];
             let text = self.dice.pick(&odd);
             return self.field(text);
@@ -447,8 +457,8 @@ impl Talk<'_> {
     fn level(&mut self) {
         if self.odd() {
             let odd = [
-                "H", "Hello", "h0g", "H12345", "H9ABC", "H009F", "HABC", "HF", "hfff", "FF", "5H", "101", "999", "1000", "99999999999", "0999", "00001000", "4294967296", "x", "-5",
-                "+5", "1.5", "50%", "H-1", "H+1", "H 1", "HG", "H:", "H/", "H`", "h@",
+                "H", "Hello", "h0g", "H12345", "H9ABC", "H009F", "HABC", "HF", "hfff", "FF", "5H", "101", "999", "1000", "99999999999", "0999",
+                "00001000", "4294967296", "x", "-5", "+5", "1.5", "50%", "H-1", "H+1", "H 1", "HG", "H:", "H/", "H`", "h@",
             ];
             let text = self.dice.pick(&odd);
             return self.field(text);
@@ -464,8 +474,9 @@ impl Talk<'_> {
     fn time(&mut self) {
         if self.odd() {
             let odd = [
-                "1:60", "60:1", "1:60:00", "1:2:3:4", ":3", "3:", "1::2", "", ".5", "5.", "5.55", "1.5:3", "1000", "1000:00", "1000:00:00", "999:59:59.9", "999:59", "999.9", "1:003",
-                "00.5", "0:90", "59:59.9", "00999:00059", "4294967296", "4294967297:1", "1:4294967297", "x", "1:x", "1:2:x", "1:2.x", "-1", "1:2:3.45", "0:0:0.0", "1:1000",
+                "1:60", "60:1", "1:60:00", "1:2:3:4", ":3", "3:", "1::2", "", ".5", "5.", "5.55", "1.5:3", "1000", "1000:00", "1000:00:00",
+                "999:59:59.9", "999:59", "999.9", "1:003", "00.5", "0:90", "59:59.9", "00999:00059", "4294967296", "4294967297:1", "1:4294967297",
+                "x", "1:x", "1:2:x", "1:2.x", "-1", "1:2:3.45", "0:0:0.0", "1:1000",
             ];
             let text = self.dice.pick(&odd);
             return self.field(text);

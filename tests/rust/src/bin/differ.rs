@@ -43,7 +43,11 @@ fn first_difference<T: PartialEq + Debug>(a: &Lent<T>, b: &Lent<T>) -> Option<St
 type Verdict = Result<(), String>;
 
 fn compare<A: PartialEq + Debug>(ours: &A, plain: &A) -> Verdict {
-    if ours == plain { Ok(()) } else { Err(format!("ours answers {ours:?}, plain {plain:?}")) }
+    if ours == plain {
+        Ok(())
+    } else {
+        Err(format!("ours answers {ours:?}, plain {plain:?}"))
+    }
 }
 
 fn same<T: PartialEq + Debug>(what: &str, ours: &Lent<T>, plain: &Lent<T>) -> Verdict {
@@ -90,13 +94,17 @@ fn hex(bytes: &[u8]) -> String {
     bytes.iter().map(|b| format!("{b:02x}")).collect()
 }
 
-/// Cuts pieces out of a stream as long as the two sides still differ on it.
+/// Cuts pieces out of a stream as long as the two sides still differ on it, for at most five seconds.
 fn shortened(limits: &Limits, store: &[u8], stream: &[u8], reports: &[u32]) -> Vec<u8> {
+    let begun = std::time::Instant::now();
     let mut best = stream.to_vec();
     let mut piece = best.len().div_ceil(2);
     while piece > 0 {
         let mut at = 0;
         while at < best.len() {
+            if begun.elapsed().as_secs() >= 5 {
+                return best;
+            }
             let mut less = best.clone();
             less.drain(at..(at + piece).min(best.len()));
             if load(limits, store, &less, reports).0.is_err() {
@@ -292,10 +300,64 @@ impl Case<'_> {
     }
 }
 
-/// A few bits turned over or bytes replaced, mostly in heads and patch entries; or a slot copied over another.
+type Field = (usize, usize);
+
+const FLAG: &[u32] = &[0, 1];
+const WHOLE: &[u32] = &[0, 1, 999, 1_000, 1_023];
+const TENTHS: &[u32] = &[0, 1, 9, 10, 15];
+const TIME: &[u32] = &[0, 1, 35_999_999, 36_000_000, (1 << 26) - 1];
+
+/// The fields of a head as their first bit and width, with values at and past the ends of their ranges.
+const EDGES: [(Field, &[u32]); 16] = [
+    ((0, 1), FLAG),
+    ((1, 6), &[0, 1, 2, 3, 4, 63]),
+    ((7, 10), WHOLE),
+    ((17, 4), TENTHS),
+    ((21, 1), FLAG),
+    ((22, 10), WHOLE),
+    ((32, 4), TENTHS),
+    ((36, 1), FLAG),
+    ((37, 26), TIME),
+    ((63, 26), TIME),
+    ((89, 1), FLAG),
+    ((90, 26), TIME),
+    ((116, 26), TIME),
+    ((142, 1), FLAG),
+    ((143, 26), TIME),
+    ((169, 23), &[0, 1, 1 << 22]),
+];
+
+/// Bits are counted from the most significant one of the first byte.
+fn set_bits(bytes: &mut [u8], (at, width): Field, value: u32) {
+    for i in 0..width {
+        let bit = (value as u64) >> (width - 1 - i) & 1;
+        let (byte, shift) = ((at + i) / 8, 7 - (at + i) % 8);
+        bytes[byte] = bytes[byte] & !(1 << shift) | (bit as u8) << shift;
+    }
+}
+
+/// A few bits turned over or bytes replaced, mostly in heads and patch entries; a value at the end of its range, or just past it; or a slot
+/// copied over another.
 fn damage(limits: &Limits, store: &mut [u8], dice: &mut Dice) {
     let slot = 24 + limits[0] as usize % 1_000;
     if store.is_empty() {
+        return;
+    }
+    if dice.one_in(2) && plain::needed(limits).is_ok_and(|n| n <= store.len()) {
+        let slots = (limits[2] + limits[3] + limits[4] * limits[7]) as usize;
+        if dice.one_in(4) {
+            let at = slots * slot + 3 * dice.below((limits[8] * limits[1]) as usize);
+            let field = dice.pick(&[(0, 10), (10, 8), (18, 6)]);
+            let value = dice.pick(&[0, 1, limits[0], limits[0] + 1, 32, 255, 1_023]);
+            set_bits(&mut store[at..at + 3], field, value);
+            return;
+        }
+        let at = dice.below(slots) * slot;
+        for _ in 0..=dice.below(2) {
+            let (field, edges) = dice.pick(&EDGES);
+            let value = dice.pick(edges);
+            set_bits(&mut store[at..at + 24], field, value);
+        }
         return;
     }
     if dice.one_in(4) && store.len() > 2 * slot {

@@ -1,0 +1,193 @@
+/* Calls of the library on inputs that a fuzzer makes up; a broken promise aborts.
+ *
+ * Nine bytes choose the desk, three the room for reports, the bytes past the store, and a byte to spoil; the rest is the stream.
+ * Then: load; the totals against the reports and the stream; write with too little room, just enough and more; the written stream read back
+ * into this store and into an empty one; every kept cue found; the store spoilt, and then refused or not, by every call alike. */
+#include <stdint.h>
+#include <stdio.h>
+#include <stdlib.h>
+#include <string.h>
+
+uint32_t sphairune_needed(const uint32_t *limits, size_t limits_n, size_t *length, size_t length_n);
+uint32_t sphairune_empty(const uint32_t *limits, size_t limits_n, uint8_t *store, size_t store_n);
+uint32_t sphairune_load(const uint32_t *limits, size_t limits_n, uint8_t *store, size_t store_n, const uint8_t *stream, size_t stream_n,
+                        uint32_t *reports, size_t reports_n, uint32_t *totals, size_t totals_n);
+uint32_t sphairune_write(const uint32_t *limits, size_t limits_n, const uint8_t *store, size_t store_n, uint8_t *out, size_t out_n,
+                         size_t *length, size_t length_n);
+uint32_t sphairune_find(const uint32_t *limits, size_t limits_n, const uint8_t *store, size_t store_n, uint32_t page, uint32_t whole,
+                        uint32_t tenths, size_t *place, size_t place_n);
+
+#define HOLDS(x) do { if (!(x)) { fprintf(stderr, "broken promise, line %d: %s\n", __LINE__, #x); abort(); } } while (0)
+
+enum { COUNT, BLANK, OBEYED, PASSED, DROPPED, CLOSING, TOTALS };
+
+enum { MARK = 0xa5, STRIP = 16, FULL = 300 };
+
+/* A lent list lies between two strips that nobody may touch. */
+static void *lend(size_t bytes) {
+    uint8_t *room = malloc(bytes + 2 * STRIP);
+    HOLDS(room);
+    memset(room, MARK, bytes + 2 * STRIP);
+    return room + STRIP;
+}
+
+static int all_marked(const void *part, size_t bytes) {
+    const uint8_t *b = part;
+    for (size_t i = 0; i < bytes; i++)
+        if (b[i] != MARK) return 0;
+    return 1;
+}
+
+static void take_back(void *part, size_t bytes) {
+    uint8_t *b = part;
+    HOLDS(all_marked(b - STRIP, STRIP) && all_marked(b + bytes, STRIP));
+    free(b - STRIP);
+}
+
+static uint32_t records_in(const uint8_t *s, size_t n) {
+    uint32_t records = 0;
+    size_t i = 0;
+    while (i < n) {
+        while (i < n && s[i] != '\r' && s[i] != '\n') i++;
+        records++;
+        if (i + 1 < n && (s[i + 1] == '\r' || s[i + 1] == '\n') && s[i + 1] != s[i]) i++;
+        i++;
+    }
+    return records;
+}
+
+static int is_error(uint32_t condition) { return condition == 91 || condition == 99 || condition == 100; }
+
+/* The totals against the reports, where all are stored, and against the stream. */
+static void check_totals(const uint32_t *t, const uint32_t *reports, size_t room, const uint8_t *stream, size_t n) {
+    uint32_t read = t[BLANK] + t[OBEYED] + t[PASSED] + t[DROPPED], records = records_in(stream, n);
+    HOLDS(read <= records && read <= n && t[COUNT] <= n + 1);
+    uint32_t stored = t[COUNT] < room ? t[COUNT] : (uint32_t)room, last = 0, error = 0, warning = 0;
+    for (uint32_t i = 0; i < stored; i++) {
+        uint32_t record = reports[i] >> 14, condition = reports[i] & 0x3fff;
+        HOLDS(record >= last && record <= read && condition != 0);
+        if (is_error(condition)) error = condition;
+        else warning = condition;
+        if (condition == 91 || condition == 99) HOLDS(record == read && i + 1 == t[COUNT]);
+        if (condition == 100) HOLDS(record == read && i + 1 == t[COUNT] && read == records);
+        last = record;
+    }
+    HOLDS(all_marked(reports + stored, (room - stored) * sizeof *reports));
+    if (stored == t[COUNT]) HOLDS(t[CLOSING] == (error ? error : warning));
+    if (read == 0) HOLDS(t[COUNT] == 1 && t[CLOSING] == 100);
+}
+
+/* What is written, read into a store, gives no report and only obeyed records, and is written again the same. */
+static void check_back(const uint32_t *limits, const uint8_t *store, size_t n, const uint8_t *text, size_t length, int from_empty) {
+    uint8_t *other = lend(n), *again = lend(length);
+    uint32_t totals[TOTALS];
+    size_t wrote = 77;
+    memcpy(other, store, n);
+    if (from_empty) HOLDS(sphairune_empty(limits, 9, other, n) == 0);
+    HOLDS(sphairune_load(limits, 9, other, n, text, length, NULL, 0, totals, TOTALS) == 0);
+    HOLDS(totals[COUNT] == 0 && totals[CLOSING] == 0 && totals[BLANK] == 0 && totals[PASSED] == 0 && totals[DROPPED] == 0);
+    HOLDS(totals[OBEYED] == records_in(text, length));
+    HOLDS(sphairune_write(limits, 9, other, n, again, length, &wrote, 1) == 0);
+    HOLDS(wrote == length && !memcmp(again, text, length));
+    take_back(other, n), take_back(again, length);
+}
+
+static void check_written(const uint32_t *limits, const uint8_t *store, size_t n) {
+    size_t length = 77, told = 77;
+    HOLDS(sphairune_write(limits, 9, store, n, NULL, 0, &length, 1) == 6);
+    HOLDS(length >= 31 && length <= 262143);
+    uint8_t *out = lend(length + 9);
+    HOLDS(sphairune_write(limits, 9, store, n, out, length - 1, &told, 1) == 6 && told == length);
+    HOLDS(all_marked(out, length + 9));
+    HOLDS(sphairune_write(limits, 9, store, n, out, length + 9, &told, 1) == 0 && told == length);
+    HOLDS(all_marked(out + length, 9));
+    uint8_t *exact = lend(length);
+    HOLDS(sphairune_write(limits, 9, store, n, exact, length, &told, 1) == 0 && !memcmp(exact, out, length));
+    for (size_t i = 0, from = 0; i < length; i++) {
+        HOLDS(out[i] == '\r' || out[i] == '\n' || (out[i] >= 0x20 && out[i] <= 0x7e));
+        if (out[i] == '\n') {
+            HOLDS(i > from && out[i - 1] == '\r' && i - 1 - from <= 80);
+            from = i + 1;
+        }
+    }
+    check_back(limits, store, n, out, length, 0);
+    check_back(limits, store, n, out, length, 1);
+    take_back(exact, length), take_back(out, length + 9);
+}
+
+static void check_found(const uint32_t *limits, const uint8_t *store, size_t n) {
+    size_t slot = 24 + limits[0], place = 77;
+    for (size_t i = 0; i < limits[2]; i++) {
+        const uint8_t *h = store + i * slot;
+        uint32_t word = ((uint32_t)h[0] << 16 | h[1] << 8 | h[2]) >> 3;
+        if (word >> 20)
+            HOLDS(sphairune_find(limits, 9, store, n, word >> 14 & 63, word >> 4 & 1023, word & 15, &place, 1) == 0 && place == i * slot + 24);
+    }
+    place = 77;
+    HOLDS(sphairune_find(limits, 9, store, n, 0, 0, 0, &place, 1) == 1 && place == 77);
+}
+
+/* Every call refuses with `why`, and touches nothing. */
+static void check_refused(const uint32_t *limits, const uint8_t *store, size_t n, const uint8_t *stream, size_t m, uint32_t why) {
+    uint8_t *kept = lend(n), *out = lend(64);
+    uint32_t *reports = lend(4 * sizeof *reports), *totals = lend(TOTALS * sizeof *totals);
+    size_t *word = lend(sizeof *word);
+    memcpy(kept, store, n);
+    HOLDS(sphairune_load(limits, 9, kept, n, stream, m, reports, 4, totals, TOTALS) == why);
+    HOLDS(sphairune_write(limits, 9, kept, n, out, 64, word, 1) == why);
+    HOLDS(sphairune_find(limits, 9, kept, n, 1, 1, 0, word, 1) == why);
+    if (why != 4) HOLDS(sphairune_empty(limits, 9, kept, n) == why);
+    HOLDS(!memcmp(kept, store, n) && all_marked(out, 64) && all_marked(reports, 16) && all_marked(totals, 24) && all_marked(word, sizeof *word));
+    take_back(kept, n), take_back(out, 64), take_back(reports, 16), take_back(totals, 24), take_back(word, sizeof *word);
+}
+
+int LLVMFuzzerTestOneInput(const uint8_t *data, size_t size) {
+    static const uint32_t least[9] = {1, 1, 1, 0, 0, 1, 1, 1, 1}, most[9] = {512, 512, 600, 200, 96, 63, 63, 8, 4};
+    if (size < 12) return 0;
+    uint32_t limits[9];
+    int in_range = 1;
+    for (int i = 0; i < 9; i++) {
+        /* Small, or with 250 and above an end of the range or just past it. */
+        uint32_t ends[6] = {least[i], most[i], most[i] + 1, least[i] - 1, UINT32_MAX, 1u << 31};
+        uint32_t small = least[i] + data[i] % 16;
+        limits[i] = data[i] >= 250 ? ends[data[i] - 250] : small < most[i] ? small : most[i];
+        in_range &= limits[i] >= least[i] && limits[i] <= most[i];
+    }
+    const uint8_t *stream = data + 12;
+    size_t m = size - 12, room = data[9] % 8 == 7 ? FULL : data[9] % 8, past = data[10] % 4, needed = 77;
+    uint32_t answer = sphairune_needed(limits, 9, &needed, 1);
+    HOLDS(answer == (in_range ? 0 : 2));
+    if (!in_range) {
+        HOLDS(needed == 77);
+        uint8_t small[40] = {0};
+        check_refused(limits, small, sizeof small, stream, m, 2);
+        return 0;
+    }
+    HOLDS(needed == (limits[2] + limits[3] + limits[4] * limits[7]) * (24 + limits[0]) + limits[8] * limits[1] * 3);
+    size_t n = needed + past;
+    uint8_t *store = lend(n);
+    memset(store, 0, needed);
+    check_refused(limits, store, needed - 1, stream, m, 3);
+    uint32_t *reports = lend(room * sizeof *reports), totals[TOTALS], other_totals[TOTALS];
+    uint8_t *other = lend(n);
+    memset(other, 0, needed);
+    HOLDS(sphairune_load(limits, 9, store, n, stream, m, reports, room, totals, TOTALS) == 0);
+    HOLDS(all_marked(store + needed, past));
+    check_totals(totals, reports, room, stream, m);
+    /* Nothing depends on the room for reports, nor on the totals' list. */
+    HOLDS(sphairune_load(limits, 9, other, n, stream, m, NULL, 0, other_totals, TOTALS) == 0);
+    HOLDS(!memcmp(store, other, n) && !memcmp(totals, other_totals, sizeof totals));
+    check_written(limits, store, n);
+    check_found(limits, store, n);
+    /* A spoilt byte: in good form still, or refused by every call. */
+    size_t at = ((size_t)data[11] << 8 | data[10]) % needed;
+    store[at] ^= (uint8_t)(1 << data[9] / 8 % 8);
+    size_t place = 77;
+    if (sphairune_find(limits, 9, store, n, 1, 1, 0, &place, 1) == 4) check_refused(limits, store, n, stream, m, 4);
+    else {
+        check_written(limits, store, n);
+        check_found(limits, store, n);
+    }
+    take_back(store, n), take_back(other, n), take_back(reports, room * sizeof *reports);
+    return 0;
+}
