@@ -77,7 +77,21 @@ static void check_totals(const uint32_t *t, const uint32_t *reports, size_t room
     if (read == 0) HOLDS(t[COUNT] == 1 && t[CLOSING] == 100);
 }
 
-/* What is written, read into a store, gives no report and only obeyed records, and is written again the same. */
+/* Each used slot of one store is a slot of the other, among the slots from `first` to `end`, and there are as many. */
+static void check_slots(const uint8_t *a, const uint8_t *b, size_t slot, size_t first, size_t end) {
+    size_t used = 0, others = 0;
+    for (size_t i = first; i < end; i++) {
+        others += b[i * slot] >> 7;
+        if (!(a[i * slot] >> 7)) continue;
+        used++;
+        size_t j = first;
+        while (j < end && memcmp(a + i * slot, b + j * slot, slot)) j++;
+        HOLDS(j < end);
+    }
+    HOLDS(used == others);
+}
+
+/* What is written, read into a store, gives no report and only obeyed records, the same show, and is written again the same. */
 static void check_back(const uint32_t *limits, const uint8_t *store, size_t n, const uint8_t *text, size_t length, int from_empty) {
     uint8_t *other = lend(n), *again = lend(length);
     uint32_t totals[TOTALS];
@@ -87,6 +101,10 @@ static void check_back(const uint32_t *limits, const uint8_t *store, size_t n, c
     HOLDS(sphairune_load(limits, 9, other, n, text, length, NULL, 0, totals, TOTALS) == 0);
     HOLDS(totals[COUNT] == 0 && totals[CLOSING] == 0 && totals[BLANK] == 0 && totals[PASSED] == 0 && totals[DROPPED] == 0);
     HOLDS(totals[OBEYED] == records_in(text, length));
+    size_t slot = 24 + limits[0], groups = limits[2], subs = limits[2] + limits[3];
+    check_slots(store, other, slot, 0, groups);
+    check_slots(store, other, slot, groups, subs);
+    HOLDS(!memcmp(store + subs * slot, other + subs * slot, n - subs * slot));
     HOLDS(sphairune_write(limits, 9, other, n, again, length, &wrote, 1) == 0);
     HOLDS(wrote == length && !memcmp(again, text, length));
     take_back(other, n), take_back(again, length);
