@@ -54,13 +54,14 @@ fn timed<T>(call: impl FnOnce() -> T) -> Duration {
 }
 
 fn line(what: &str, bytes: usize, [ours, plain]: [f64; 2]) {
-    let per = bytes.max(1) as f64;
+    // A refused call has no bytes to share its time among.
+    let each = |time: f64| if bytes == 0 { "-".to_string() } else { format!("{:.2}", time / bytes as f64) };
     println!(
-        "{what:<44} {bytes:>7} B  ours {:>10.1} us {:>8.2} ns/B   plain {:>10.1} us {:>8.2} ns/B   ratio {:>5.2}",
+        "{what:<44} {bytes:>7} B  ours {:>10.1} us {:>8} ns/B   plain {:>10.1} us {:>8} ns/B   ratio {:>5.2}",
         ours / 1e3,
-        ours / per,
+        each(ours),
         plain / 1e3,
-        plain / per,
+        each(plain),
         ours / plain
     );
 }
@@ -153,7 +154,7 @@ fn worst(name: &str, limits: &Limits) {
     for slot in lit[..slots * (24 + limits[0] as usize)].chunks_exact_mut(24 + limits[0] as usize) {
         slot[24..].fill(0xff);
     }
-    race_write(&format!("write, {name}, full, all at full (R5 if 0 B)"), limits, &lit);
+    race_write(&format!("write, {name}, full, all at full (0 B: R5)"), limits, &lit);
 }
 
 fn form(name: &str, limits: &Limits) {
