@@ -152,3 +152,16 @@ span-same p q (c ∷ s) f =
     by-bool (p c)
     (λ t. span-hit p c s t ∙ ap suc (span-same p q s (λ k h. f (suc k) (suc-le-suc h))) ∙ sym (span-hit q c s (sym e ∙ t)))
     (λ t. span-miss p c s t ∙ sym (span-miss q c s (sym e ∙ t)))
+
+-- what a scan passes within a front
+pub span-take : (p : ℕ → Bool) (n : ℕ) (s : List ℕ) → span p s ≤ n → span p (take n s) ≡ span p s
+unfolding span
+span-take p zero s h = omega (arith, h)
+span-take p (suc n) [] h = refl
+span-take p (suc n) (c ∷ s) h =
+    by-bool (p c)
+    (λ e.
+    let a : span p (c ∷ s) ≡ suc (span p s) = span-hit p c s e in
+    let l : span p s ≤ n = omega arith in
+    span-hit p c (take n s) e ∙ ap suc (span-take p n s l) ∙ sym a)
+    (λ e. span-miss p c (take n s) e ∙ sym (span-miss p c s e))

@@ -29,7 +29,8 @@ use Rattle.load.specs.Condition.{badPage}
 use Rattle.load.specs.Step.{name, numberedBy, subBy, numeralOf, pageAt, namedBy, namedOf}
 use Rattle.naming.specs.Line.{Line}
 use Rattle.naming.proofs.Fields.{head-at, tail-at}
-use Rattle.naming.proofs.Numbers.{NumberOk, number-ok, SubOk, sub-ok, PageIn, page-at-in}
+use Rattle.load.proofs.Ranges.{NumberOk, number-ok}
+use Rattle.naming.proofs.Numbers.{SubOk, sub-ok, PageIn, page-at-in}
 
 -- ---- the number of a kind
 module _ (d : Desk) {k : Kind} (w : Word) {cs : List ℕ} {r : Numeral} where

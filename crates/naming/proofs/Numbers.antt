@@ -1,4 +1,4 @@
--- What can be read lies in its range: a cue's number, a submaster's, a page, a time. By the bounds on runs of digits.
+-- What can be read lies in its range: a submaster's number, a page, a time in its 26 bits. By cases, and from the ranges of what is read.
 -- Assumes nothing.
 use mathlib.Core.Path.{_≡_, refl, sym, ap, _∙_, subst}
 use mathlib.Core.Bool.{true, cond}
@@ -17,66 +17,18 @@ use Rattle.desk.proofs.Name.{number-low}
 use Rattle.fields.specs.Words.{Word}
 use Rattle.value.specs.declared.Integer.{Integer}
 use Rattle.value.specs.declared.Integer.the-variants.{Malformed, Value}
-use Rattle.value.specs.declared.Numbered.{Numbered}
-use Rattle.value.specs.declared.Numbered.the-variants.{Malformed as BadNumber, TooLarge, Value as IsNumber}
 use Rattle.value.specs.declared.Timed.{Timed}
 use Rattle.value.specs.declared.Timed.the-variants.{Malformed as BadTime, Value as IsTime}
 use Rattle.value.specs.declared.Paged.{Paged}
 use Rattle.value.specs.declared.Paged.the-variants.{Bad, Value as IsPage}
-use Rattle.value.specs.Integer.{cap, integerOf, AtMost}
-use Rattle.value.specs.Parts.{point, cutAt, before, after, decimalsOf}
-use Rattle.value.specs.Number.{wholeMax, fractionDigits, number, numberedOf, numberOf}
-use Rattle.value.specs.Time.{tenthsDigits, joinOf, clockOf, timedOf, timeOf}
+use Rattle.value.specs.Integer.{integerOf}
+use Rattle.value.specs.Time.{timeOf}
 use Rattle.value.specs.Field.{pagedOf, pageOf}
-use Rattle.value.proofs.Digits.{run-below}
-use Rattle.value.proofs.Cuts.{decimals-none, decimals-many, decimals-few, decimals-capped}
-use Rattle.value.proofs.Times.{join-most, clock-most}
 use Rattle.load.specs.declared.Numeral.{Numeral}
 use Rattle.load.specs.declared.Numeral.the-variants.{Wrong, Number}
 use Rattle.load.specs.Condition.{badSub, malformedSub}
 use Rattle.load.specs.Step.{subBy, pageAt}
-
--- ---- one digit behind a point
-one-digit : (s : List ℕ) (i : Integer) → integerOf s ≡ i → length s ≤ 1 → AtMost 9 i
-unfolding integerOf
-one-digit s Malformed e h = tt
-one-digit [] (Value v) e h = let l : v < 1 = run-below 10 [] e in omega arith
-one-digit (c ∷ []) (Value v) e h = let l : v < 10 = run-below 10 (c ∷ []) e in omega arith
-one-digit (c ∷ (b ∷ s)) (Value v) e h = absurd (omega arith)
-
-decimals-nine : (s : List ℕ) (n : ℕ) → AtMost 9 (decimalsOf fractionDigits s n)
-decimals-nine s n =
-    by-lt n (length s)
-    (λ h.
-    by-le (length (after n s)) fractionDigits
-    (λ g. subst (λ (i : Integer). AtMost 9 i) (sym (decimals-few fractionDigits s n h g)) (one-digit (after n s) _ refl g))
-    (λ g. subst (λ (i : Integer). AtMost 9 i) (sym (decimals-many fractionDigits s n h g)) tt))
-    (λ h. subst (λ (i : Integer). AtMost 9 i) (sym (decimals-none fractionDigits s n h)) (let z : 0 ≤ 9 = omega arith in z))
-
--- ---- a cue's number is one that a cue can have
-abbrev pub NumberOk : Numbered → Type 0
-NumberOk BadNumber = Unit {0}
-NumberOk TooLarge = Unit {0}
-NumberOk (IsNumber n) = okNumber (n .whole) (n .fraction) ≡ true
-
-numbered-ok : (i j : Integer) → AtMost 9 j → NumberOk (numberedOf i j)
-unfolding numberedOf
-numbered-ok Malformed j h = tt
-numbered-ok (Value w) Malformed h = tt
-numbered-ok (Value w) (Value f) h =
-    by-test NumberOk (ltb wholeMax w) TooLarge (cond (eqb (w + f) 0) BadNumber (IsNumber (number w f)))
-    (λ e. tt)
-    (λ e.
-    by-test NumberOk (eqb (w + f) 0) BadNumber (IsNumber (number w f))
-    (λ g. tt)
-    (λ g.
-    let l : w ≤ 999 = ltb-false wholeMax w e in
-    let z : w + f ≡ 0 → ⊥ = eqb-false (w + f) 0 g in
-    sym (number-low w f l h) ∙ lt-ltb 0 (w + f) (omega arith)))
-
-pub number-ok : (s : List ℕ) → NumberOk (numberOf s)
-unfolding numberOf
-number-ok s = numbered-ok (integerOf (before (cutAt point s) s)) _ (decimals-nine s (cutAt point s))
+use Rattle.load.proofs.Ranges.{TimeOk, time-ok}
 
 -- ---- a submaster's number: 1 to the highest
 sub-within : (d : Desk) (n : ℕ) → Within 1 n (d .subs) → okSub d n 0 ≡ true
@@ -152,14 +104,9 @@ abbrev pub TimeFits : Timed → Type 0
 TimeFits BadTime = Unit {0}
 TimeFits (IsTime t) = t < 67108864
 
-timed-fits : (i : Integer) → AtMost 36099990 i → TimeFits (timedOf i)
-unfolding timedOf
-timed-fits Malformed h = tt
-timed-fits (Value t) h = omega arith
+fits-by : (x : Timed) → TimeOk x → TimeFits x
+fits-by BadTime h = tt
+fits-by (IsTime t) h = omega arith
 
 pub time-fits : (s : List ℕ) → TimeFits (timeOf s)
-unfolding timeOf
-time-fits s =
-    let n : ℕ = cutAt point s in
-    timed-fits (joinOf (clockOf (before n s)) 10 (decimalsOf tenthsDigits s n))
-    (join-most 3599999 cap 10 (clockOf (before n s)) (decimalsOf tenthsDigits s n) (clock-most (before n s)) (decimals-capped tenthsDigits s n))
+time-fits s = fits-by (timeOf s) (time-ok s)

@@ -11,7 +11,7 @@ use lib.Dec.{eqb}
 use lib.ListN.{length, getD, take, drop, length-drop, length-map, drop-of-length-le, take-append-drop}
 use lib.Seq.{drop-cons, drop-drop, take-take, getD-drop}
 use Rattle.cells.specs.Scan.{span}
-use Rattle.cells.proofs.Scan.{span-hit, span-miss, span-within}
+use Rattle.cells.proofs.Scan.{span-hit, span-miss, span-within, span-take}
 use Rattle.cells.proofs.Split.{by-test, by-bool, by-or, clash, not-of-true, not-of-false}
 use Rattle.records.specs.Stream.{CR, LF, isEnd, isText, terminated, terminatorOf, recordEnd, nextStart, pieceLength, piecesIn, piecesOf, bare, recordsOf}
 
@@ -121,18 +121,6 @@ records-count s =
     subst (λ (k : ℕ). k ≤ length s) (sym (length-map (piecesIn (length s) s) bare)) (pieces-few (length s) s)
 
 -- a piece without its terminator is what the scan passes
-span-take : (p : ℕ → Bool) (n : ℕ) (s : List ℕ) → span p s ≤ n → span p (take n s) ≡ span p s
-unfolding span
-span-take p zero s h = omega (arith, h)
-span-take p (suc n) [] h = refl
-span-take p (suc n) (c ∷ s) h =
-    by-bool (p c)
-    (λ e.
-    let a : span p (c ∷ s) ≡ suc (span p s) = span-hit p c s e in
-    let l : span p s ≤ n = omega arith in
-    span-hit p c (take n s) e ∙ ap suc (span-take p n s l) ∙ sym a)
-    (λ e. span-miss p c (take n s) e ∙ sym (span-miss p c s e))
-
 bare-piece : (s : List ℕ) → bare (take (pieceLength s) s) ≡ take (span isText s) s
 unfolding bare
 bare-piece s =

@@ -24,18 +24,11 @@ use Rattle.value.specs.declared.Integer.{Integer}
 use Rattle.value.specs.declared.Integer.the-variants.{Malformed, Value}
 use Rattle.value.specs.declared.Numbered.{Numbered}
 use Rattle.value.specs.declared.Numbered.the-variants.{Malformed as BadNumber, TooLarge, Value as IsNumber}
-use Rattle.value.specs.declared.Timed.{Timed}
-use Rattle.value.specs.declared.Timed.the-variants.{Malformed as BadTime, Value as IsTime}
 use Rattle.value.specs.declared.Paged.{Paged}
 use Rattle.value.specs.declared.Paged.the-variants.{Bad, Value as IsPage}
-use Rattle.value.specs.Integer.{integerOf, AtMost}
-use Rattle.value.specs.Parts.{point, cutAt, before, after, decimalsOf}
-use Rattle.value.specs.Number.{wholeMax, number, numberedOf, numberOf}
-use Rattle.value.specs.Time.{joinOf, clockOf, timedOf, timeOf, tenthsDigits}
+use Rattle.value.specs.Integer.{integerOf}
+use Rattle.value.specs.Number.{numberOf}
 use Rattle.value.specs.Field.{pagedOf, pageOf}
-use Rattle.value.proofs.Digits.{run-below}
-use Rattle.value.proofs.Cuts.{decimals-none, decimals-many, decimals-few}
-use Rattle.value.proofs.Times.{join-most, clock-most}
 use Rattle.store.specs.Change.{everyPage}
 use Rattle.load.specs.declared.Numeral.{Numeral}
 use Rattle.load.specs.declared.Numeral.the-variants.{Wrong, Number}
@@ -43,49 +36,8 @@ use Rattle.load.specs.declared.Named.{Named}
 use Rattle.load.specs.declared.Named.the-variants.{Refused, Name as Accepted}
 use Rattle.load.specs.Condition.{badPage, badSub, malformedSub}
 use Rattle.load.specs.Step.{name, numberedBy, subBy, numeralOf, pageAt, namedBy, namedOf, tablePages, mostPages}
+use Rattle.load.proofs.Ranges.{NumberOk, number-ok}
 use Rattle.rehearse.specs.Rehearse.{Larger}
-
--- ---- one digit behind a point
-one-digit : (s : List ℕ) (i : Integer) → integerOf s ≡ i → length s ≤ 1 → AtMost 9 i
-unfolding integerOf
-one-digit s Malformed e h = tt
-one-digit [] (Value v) e h = let l : v < 1 = run-below 10 [] e in omega arith
-one-digit (c ∷ []) (Value v) e h = let l : v < 10 = run-below 10 (c ∷ []) e in omega arith
-one-digit (c ∷ (b ∷ s)) (Value v) e h = absurd (omega arith)
-
-decimals-nine : (s : List ℕ) (n : ℕ) → AtMost 9 (decimalsOf 1 s n)
-decimals-nine s n =
-    by-lt n (length s)
-    (λ h.
-    by-le (length (after n s)) 1
-    (λ g. subst (λ (i : Integer). AtMost 9 i) (sym (decimals-few 1 s n h g)) (one-digit (after n s) _ refl g))
-    (λ g. subst (λ (i : Integer). AtMost 9 i) (sym (decimals-many 1 s n h g)) tt))
-    (λ h. subst (λ (i : Integer). AtMost 9 i) (sym (decimals-none 1 s n h)) (let z : 0 ≤ 9 = omega arith in z))
-
--- ---- a number is 0.1 to 999.9
-abbrev NumberOk : Numbered → Type 0
-NumberOk BadNumber = Unit {0}
-NumberOk TooLarge = Unit {0}
-NumberOk (IsNumber n) = okNumber (n .whole) (n .fraction) ≡ true
-
-numbered-ok : (i j : Integer) → AtMost 9 j → NumberOk (numberedOf i j)
-unfolding numberedOf
-numbered-ok Malformed j h = tt
-numbered-ok (Value w) Malformed h = tt
-numbered-ok (Value w) (Value f) h =
-    by-test NumberOk (ltb wholeMax w) TooLarge (cond (eqb (w + f) 0) BadNumber (IsNumber (number w f)))
-    (λ e. tt)
-    (λ e.
-    by-test NumberOk (eqb (w + f) 0) BadNumber (IsNumber (number w f))
-    (λ g. tt)
-    (λ g.
-    let l : w ≤ 999 = ltb-false wholeMax w e in
-    let z : w + f ≡ 0 → ⊥ = eqb-false (w + f) 0 g in
-    sym (number-low w f l h) ∙ lt-ltb 0 (w + f) (omega arith)))
-
-number-ok : (s : List ℕ) → NumberOk (numberOf s)
-unfolding numberOf
-number-ok s = numbered-ok (integerOf (before (cutAt point s) s)) _ (decimals-nine s (cutAt point s))
 
 abbrev pub NumeralOk : Numeral → Type 0
 NumeralOk (Wrong c) = Unit {0}
@@ -99,23 +51,6 @@ numeral-by (IsNumber n) h = h
 
 pub numeral-ok : (s : List ℕ) → NumeralOk (numberedBy (numberOf s))
 numeral-ok s = numeral-by (numberOf s) (number-ok s)
-
--- ---- a time is at most 999:59:59.9
-abbrev pub TimeOk : Timed → Type 0
-TimeOk BadTime = Unit {0}
-TimeOk (IsTime t) = t ≤ 35999999
-
-timed-ok : (i : Integer) → AtMost 35999999 i → TimeOk (timedOf i)
-unfolding timedOf
-timed-ok Malformed h = tt
-timed-ok (Value t) h = h
-
-pub time-ok : (s : List ℕ) → TimeOk (timeOf s)
-unfolding timeOf
-time-ok s =
-    let n : ℕ = cutAt point s in
-    timed-ok (joinOf (clockOf (before n s)) 10 (decimalsOf tenthsDigits s n))
-    (join-most 3599999 9 10 (clockOf (before n s)) (decimalsOf tenthsDigits s n) (clock-most (before n s)) (decimals-nine s n))
 
 -- ---- a page on two desks: `other` is the one where no field gives any
 pub data Pages (lo limit Limit : ℕ) : Paged → Paged → Type 0 where

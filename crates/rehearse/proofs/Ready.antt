@@ -61,7 +61,8 @@ use Rattle.load.specs.Step.{Step, ended, opened, name, namedOf, refused, opened
 use Rattle.load.specs.Step.{augments, onTime, delayOf, fadeOf, linkBy, numberedBy, timesOf, changedBy, obeyedBy, secondaryBy}
 use Rattle.load.specs.Step.{clearedBy, pageAt, clearKindOf, clearPatchOf, tablePages, mostPages, clearTable, clearDimmers, clearTables, clearAllOf, clearBy}
 use Rattle.load.specs.Step.{patchBy, isThree, identBy, keywordStep, stepOf, isOverLong, recordStep}
-use Rattle.rehearse.proofs.Fields.{TimeOk, time-ok, NumeralOk, numeral-ok, Pages, bad-pages, beyond-page, same-page, pages, pages-here, NamedOk, named-ok}
+use Rattle.load.proofs.Ranges.{TimeOk, time-ok}
+use Rattle.rehearse.proofs.Fields.{NumeralOk, numeral-ok, Pages, bad-pages, beyond-page, same-page, pages, pages-here, NamedOk, named-ok}
 use Rattle.rehearse.proofs.Items.{Triples, triple-faults, beyond-triple, same-patch, Each, none, next, triples}
 
 -- ---- what UP, DOWN, FOLLOWON and LINK read is a change that the kind can have, with values in range, and no level

@@ -37,7 +37,8 @@ use Rattle.load.specs.declared.Reading.the-variants.{Wrong as Misread, Change}
 use Rattle.load.specs.Condition.{wrongSecondary}
 use Rattle.load.specs.Item.{pairsOf, entriesIn, faultsOf, faultsHeld, memory, allDone}
 use Rattle.load.specs.Step.{Step, ended, name, numberedBy, augments, onTime, delayOf, fadeOf, linkBy, timesOf, changedBy, obeyedBy, secondaryBy}
-use Rattle.naming.proofs.Numbers.{TimeFits, time-fits, NumberOk, number-ok}
+use Rattle.load.proofs.Ranges.{NumberOk, number-ok}
+use Rattle.naming.proofs.Numbers.{TimeFits, time-fits}
 use Rattle.items.specs.Take.{Taken, takenAs, takenOf}
 use Rattle.items.proofs.Done.{pairs-slot, pairs-find}
 use Rattle.step.specs.declared.Held.{Held}

@@ -13,7 +13,7 @@ use lib.ListN.{length, getD, take, drop, length-append, length-take, length-drop
 use lib.Seq.{length-take-le, take-all, take-nil, take-take, getD-drop}
 use borrow.Author.Tests.{lt-ltb, le-ltb, not-false}
 use Rattle.cells.specs.Scan.{span}
-use Rattle.cells.proofs.Scan.{span-hit, span-miss, span-le, span-at}
+use Rattle.cells.proofs.Scan.{span-hit, span-miss, span-le, span-at, span-take}
 use Rattle.cells.proofs.Put.{part-of-front}
 use Rattle.cells.proofs.Split.{by-test, by-bool, by-lt, by-le, by-or, clash, cond-true, cond-false}
 use Rattle.records.specs.Stream.{CR, LF, isEnd, isText, terminated, terminatorOf, recordEnd, pieceLength, piecesIn, piecesOf, bare, recordsOf}
@@ -21,18 +21,6 @@ use Rattle.records.proofs.Stream.{pieces-some, records-at, records-end, start-f
 use Rattle.told.specs.Cut.{endsBefore, endedIn, endedBefore, startOf, textEnd, startedBefore, ifAny, cutRecord}
 
 -- ---- the text of a record in a front
-span-front : (p : ℕ → Bool) (k : ℕ) (s : List ℕ) → span p s ≤ k → span p (take k s) ≡ span p s
-unfolding span
-span-front p zero s h = omega (arith, h)
-span-front p (suc k) [] h = refl
-span-front p (suc k) (c ∷ s) h =
-    by-bool (p c)
-    (λ e.
-    let a : span p (c ∷ s) ≡ suc (span p s) = span-hit p c s e in
-    let l : span p s ≤ k = omega arith in
-    span-hit p c (take k s) e ∙ ap suc (span-front p k s l) ∙ sym a)
-    (λ e. span-miss p c (take k s) e ∙ sym (span-miss p c s e))
-
 -- a front of passing elements passes
 span-part : (p : ℕ → Bool) (k : ℕ) (s : List ℕ) → k ≤ span p s → span p (take k s) ≡ length (take k s)
 unfolding span
@@ -112,7 +100,7 @@ bare-first : (s : List ℕ) → bare (take (pieceLength s) s) ≡ take (span isT
 unfolding bare
 bare-first s =
     let l : span isText s ≤ pieceLength s = omega arith in
-    ap (λ (j : ℕ). take j (take (pieceLength s) s)) (span-front isText (pieceLength s) s l) ∙ take-take (span isText s) (pieceLength s) s l
+    ap (λ (j : ℕ). take j (take (pieceLength s) s)) (span-take isText (pieceLength s) s l) ∙ take-take (span isText s) (pieceLength s) s l
 
 -- a stream of text alone is one record, if it has a character
 text-records : (s : List ℕ) → span isText s ≡ length s → recordsOf s ≡ ifAny s
@@ -150,7 +138,7 @@ module _ (s : List ℕ) (k : ℕ) (h : 0 < length s) (g : span isText s < k) whe
   front-piece : pieceLength (take k s) ≡ min k (pieceLength s)
   front-piece =
       let a = span isText s in
-      let e : span isText (take k s) ≡ a = span-front isText k s (omega arith) in
+      let e : span isText (take k s) ≡ a = span-take isText k s (omega arith) in
       let d : drop (span isText (take k s)) (take k s) ≡ take (k - a) (drop a s) =
       ap (λ (j : ℕ). drop j (take k s)) e ∙ front-drop s a k (omega arith) in
       let t : terminatorOf (drop (span isText (take k s)) (take k s)) ≡ min (k - a) (terminatorOf (drop a s)) =
@@ -162,7 +150,7 @@ module _ (s : List ℕ) (k : ℕ) (h : 0 < length s) (g : span isText s < k) whe
       let a = span isText s in
       let l : length (take k s) ≡ min k (length s) = length-take k s in
       let m : 0 < length (take k s) = omega arith in
-      let e : span isText (take k s) ≡ a = span-front isText k s (omega arith) in
+      let e : span isText (take k s) ≡ a = span-take isText k s (omega arith) in
       let r : drop (pieceLength (take k s)) (take k s) ≡ take (k - pieceLength s) (drop (pieceLength s) s) =
       ap (λ (j : ℕ). drop j (take k s)) front-piece ∙ front-rest s (pieceLength s) k in
       records-first (take k s) m
