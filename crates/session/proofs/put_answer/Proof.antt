@@ -1,0 +1,24 @@
+use native.Mathlib.Omega.{arith}
+use Rattle.session.proofs.Told.{tallies, told-room, shown-room, told-then}
+use borrow.Author.Needs.{needs}
+use Rattle.session.proofs.put_answer.Statement.{statement}
+use Rattle.session.proofs.put_answer.Tie as tie
+use Rattle.session.proofs.put_answer.Reads as reads
+use Rattle.session.proofs.put_answer.Lts as lts
+use Rattle.printed.proofs.put_told.Reads as put-told-reads
+use Rattle.session.proofs.put_shown.Reads as put-shown-reads
+
+put-told-requires : tie.Need-put-told-requires
+put-told-requires c κs = told-room _ (c .before .before .before .before .args .reports .now) (c .before .before .before .before .args .t) (tallies (c .before .before .before .before .args .t) (omega arith) (omega arith) (omega arith) (omega arith)) (c .before .before .before .before .pre .1 .0) (c .before .before .before .before .pre .1 .1)
+
+put-shown-requires : tie.Need-put-shown-requires
+put-shown-requires c κs = (c .before .before .before .before .before .before .before .before .pre .0, shown-room _ (c .before .before .before .before .before .before .before .before .args .reports .now) (c .before .before .before .before .before .before .before .before .args .t) (tallies (c .before .before .before .before .before .before .before .before .args .t) (omega arith) (omega arith) (omega arith) (omega arith)) (c .before .before .before .before .before .before .before .before .pre .1 .0) (c .before .before .before .before .before .before .before .before .pre .1 .1) (c .before .before .before .put-told .ensures))
+
+same-length : tie.Need-same-length
+same-length c = search needs
+
+returns : tie.Need-returns
+returns c = told-then _ _ _ (c .before .before .before .before .before .before .put-told .ensures) (c .before .before .put-shown .ensures)
+
+pub put-answer-spec : {M : Type 1} → statement M
+put-answer-spec = tie.close (tie.spec put-told-requires put-shown-requires same-length returns)
