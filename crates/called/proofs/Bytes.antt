@@ -1,8 +1,8 @@
 -- A load into a store of bytes leaves a store of bytes: every change puts heads, patch entries, zeros or a level in place, and these are bytes.
 -- Keyword by keyword, for any desk, whatever the store holds.
 -- Assumes nothing.
-use mathlib.Core.Path.{_≡_, refl}
-use mathlib.Core.Bool.{true, cond}
+use mathlib.Core.Path.{_≡_}
+use mathlib.Core.Bool.{true}
 use mathlib.Core.List.{List, [], _∷_, _++_}
 use Prim.Native.Nat.{ℕ, zero, suc, _+_, _-_, _*_, _<_}
 use native.Mathlib.Omega.{arith}
@@ -36,8 +36,8 @@ use Rattle.value.specs.Field.{versionOf, pageOf}
 use Rattle.store.specs.declared.Edit.{Edit}
 use Rattle.store.specs.declared.Edit.the-variants.{Up as SetUp, Down as SetDown, Followon as SetFollowon, Link as SetLink, Level as SetLevel}
 use Rattle.store.specs.Slots.{slotAt, putSlot, putEntry, levelPlace, find, onFound}
-use Rattle.store.specs.Change.{seat, blankHead, blankSlot, started, withHead, editSlot, editAt, edited, patchEntry, patched, everyPage, hitsAt, clearFrom, cleared}
-use Rattle.store.specs.Change.{patchPageLength, clearedPatch}
+use Rattle.store.specs.Change.{seat, blankHead, blankSlot, started, withHead, editSlot, editAt, edited, patchEntry, patched}
+use Rattle.store.specs.Change.{everyPage, hitsAt, clearFrom, cleared, patchPageLength, clearedPatch}
 use Rattle.store.proofs.Loss.{bytes-take, bytes-drop}
 use Rattle.load.specs.declared.Entry.{Entry}
 use Rattle.load.specs.declared.Entry.the-variants.{Level, Patch, Fault}
@@ -55,7 +55,8 @@ use Rattle.load.specs.Condition.{fullOf, unsupportedOf, wrongSecondary, overLon
 use Rattle.load.specs.Item.{memory, page, done, allDone, pairsOf, triplesOf}
 use Rattle.load.specs.Step.{Step, ended, nothingOpen, opened, name, namedOf, refused, openedBy, primaryOf}
 use Rattle.load.specs.Step.{augments, timesOf, changedBy, obeyedBy, secondaryBy}
-use Rattle.load.specs.Step.{clearedBy, pageAt, clearKindOf, clearPatchOf, tablePages, mostPages, clearTable, clearDimmers, clearTables, clearAllOf, clearBy}
+use Rattle.load.specs.Step.{clearedBy, pageAt, clearKindOf, clearPatchOf, tablePages, mostPages}
+use Rattle.load.specs.Step.{clearTable, clearDimmers, clearTables, clearAllOf, clearBy}
 use Rattle.load.specs.Step.{patchBy, isThree, identBy, keywordStep, stepOf, isOverLong, recordStep}
 use Rattle.load.specs.Run.{Run, loadOf, runFrom, stops, only, andThen}
 use Rattle.items.specs.Each.{EntryFits}

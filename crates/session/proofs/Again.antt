@@ -10,15 +10,13 @@ use Rattle.cells.proofs.Split.{cond-false}
 use Rattle.desk.specs.Size.{house, storeLength}
 use Rattle.head.specs.Pack.{Bytes}
 use Rattle.records.specs.Stream.{recordsOf}
-use Rattle.load.specs.declared.Totals.{Totals}
 use Rattle.load.specs.Run.{totalsOf, storedIn, allReports}
-use Rattle.save.specs.Lines.{linesOf, streamOf}
 use Rattle.same_show.specs.Show.{ReadBack, allObeyed}
 use Rattle.same_show.proofs.Theorem.{written-reads-back, records-written}
 use Rattle.called.proofs.Bytes.{zero-bytes, load-bytes}
 use Rattle.printed.specs.Text.{reportsText, toldText, endText}
-use Rattle.session.specs.Session.{mostInput, mostShown, emptyStore, readIn, reportList, shownText, answerText, tidyText}
-use Rattle.session.specs.Again.{keptStream, PrintsAgain, Again}
+use Rattle.session.specs.Session.{mostInput, mostShown, emptyStore, readIn, reportList, answerText, tidyText}
+use Rattle.session.specs.Again.{keptStream, Again}
 use Rattle.session.proofs.Shown.{shown-short}
 use Rattle.session.proofs.Told.{empty-ready, read-ready}
 
@@ -59,8 +57,9 @@ module _ (input : List ℕ) where
   unfolding keptStream
   told-again =
       let x = read-back in
+      let n = records-written house _ (read-ready input) (read-bytes input) in
       ap (λ (z : List ℕ). toldText z (totalsOf (readIn (keptStream input)))) (x .list reportList)
-      ∙ ap (toldText reportList) (x .told ∙ ap (λ (ls : List (List ℕ)). allObeyed (length ls)) (sym (records-written house _ (read-ready input) (read-bytes input))))
+      ∙ ap (toldText reportList) (x .told ∙ ap (λ (ls : List (List ℕ)). allObeyed (length ls)) (sym n))
       ∙ told-none reportList (length (recordsOf (keptStream input)))
 
 pub prints-again : Again

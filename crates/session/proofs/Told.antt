@@ -2,10 +2,10 @@
 -- form, and the input is short.
 -- Assumes nothing.
 use mathlib.Core.Path.{_≡_, refl, sym, ap, _∙_, subst}
-use mathlib.Core.List.{List, [], _++_, append-nil}
+use mathlib.Core.List.{List, _++_, append-nil}
 use Prim.Native.Nat.{ℕ, zero, _+_, _≤_, _<_}
 use native.Mathlib.Omega.{arith}
-use lib.ListN.{length, drop, replicate, length-replicate, drop-of-length-le}
+use lib.ListN.{length, drop, replicate, length-append, length-replicate, drop-of-length-le}
 use borrow.Author.Tests.{lt-ltb, le-ltb}
 use Rattle.cells.specs.Put.{put}
 use Rattle.cells.specs.Text.{bytes}
@@ -19,7 +19,7 @@ use Rattle.store.proofs.Empty.{empty-good}
 use Rattle.load.specs.declared.Totals.{Totals}
 use Rattle.load.specs.Run.{Run, totalsOf, storedIn, allReports}
 use Rattle.written.specs.Wrote.{wrote, wroteAt}
-use Rattle.written.proofs.Writes.{wrote-as, wrote-then, next-is}
+use Rattle.written.proofs.Writes.{wrote-as, wrote-then, next-is, out-is}
 use Rattle.lines.specs.Room.{Room}
 use Rattle.lines.proofs.Chain.{wrote-length}
 use Rattle.show.specs.declared.Loaded.{Loaded}
@@ -116,7 +116,8 @@ module _ (o reps : List ℕ) (t : Totals) (f : Tallies t) (few : length reps ≤
       omega arith
 
 -- ---- the whole
-pub told-then : (o xs ys : List ℕ) {m n : ℕ} {y z : List ℕ} → wrote m y ≡ wroteAt o 0 xs → wrote n z ≡ wroteAt y m ys → wrote n z ≡ wroteAt o 0 (xs ++ ys)
+pub told-then : (o xs ys : List ℕ) {m n : ℕ} {y z : List ℕ} → wrote m y ≡ wroteAt o 0 xs → wrote n z ≡ wroteAt y m ys
+    → wrote n z ≡ wroteAt o 0 (xs ++ ys)
 told-then o xs ys e f = wrote-then o 0 xs ys (omega arith) e f
 
 module _ (o input : List ℕ) {n : ℕ} {z : List ℕ} where
@@ -127,3 +128,11 @@ module _ (o input : List ℕ) {n : ℕ} {z : List ℕ} where
   pub read : length input ≤ mostInput → wrote n z ≡ wroteAt o 0 (answerText (readIn input)) → wrote n z ≡ wroteAt o 0 (tidyText input)
   unfolding tidyText
   read h e = wrote-as o 0 (sym (cond-false _ _ _ (le-ltb _ _ h))) e
+
+-- what was written at the start ends within the output
+pub ends-within : (o xs : List ℕ) {n : ℕ} {z : List ℕ} → wrote n z ≡ wroteAt o 0 xs → n ≤ length z
+ends-within o xs {n} {z} e =
+    let f : n ≡ 0 + length xs = next-is o 0 xs e in
+    let g : length z ≡ length xs + length (drop (length xs) o) =
+    ap length (out-is o 0 xs e ∙ put-zero o xs) ∙ length-append xs (drop (length xs) o) in
+    omega arith

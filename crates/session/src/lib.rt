@@ -66,8 +66,15 @@ fn put_load(stream: &[u8], out: &mut [u8]) -> usize
     }
 }
 
-// Writes what `tidy` prints at the start of `out`, and answers its length. Room for all that it can be: 13 bytes for each of the 1,024
-// reports that the list holds, 96 for the END line, and 65,535 for the stream.
+// Room for all that `tidy` can print: 13 bytes for each of the 1,024 reports that the list holds, 96 for the END line, and 65,535 for the
+// stream.
+pub fn buffer() -> [u8; 78943]
+    ensures { λ r. ⌜ 78943 ≡ length r ⌝ }
+{
+    [0; 78943]
+}
+
+// Writes what `tidy` prints at the start of `out`, and answers its length.
 pub fn tidy(input: &[u8], out: &mut [u8]) -> usize
     requires { ⌜ 78943 ≤ length (now out) ⌝ }
     ensures { λ r. ⌜ wrote r (now (out .exit)) ≡ wroteAt (now (out .entry)) 0 (tidyText (now (input .entry))) ⌝ }

@@ -1,12 +1,10 @@
+-- `put_answer` meets its contract: what is told, and the show behind it; there is room for both.
+-- Assumes nothing.
 use native.Mathlib.Omega.{arith}
 use Rattle.session.proofs.Told.{tallies, told-room, shown-room, told-then}
 use borrow.Author.Needs.{needs}
 use Rattle.session.proofs.put_answer.Statement.{statement}
 use Rattle.session.proofs.put_answer.Tie as tie
-use Rattle.session.proofs.put_answer.Reads as reads
-use Rattle.session.proofs.put_answer.Lts as lts
-use Rattle.printed.proofs.put_told.Reads as put-told-reads
-use Rattle.session.proofs.put_shown.Reads as put-shown-reads
 
 put-told-requires : tie.Need-put-told-requires
 put-told-requires c κs = told-room _ (c .before .before .before .before .args .reports .now) (c .before .before .before .before .args .t) (tallies (c .before .before .before .before .args .t) (omega arith) (omega arith) (omega arith) (omega arith)) (c .before .before .before .before .pre .1 .0) (c .before .before .before .before .pre .1 .1)

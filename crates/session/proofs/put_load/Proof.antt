@@ -1,12 +1,10 @@
+-- `put_load` meets its contract: the load is answered, and its text is what is told of it and the show that it leaves.
+-- Assumes nothing.
 use Rattle.written.proofs.Writes.{wrote-as}
 use Rattle.session.proofs.Told.{never-r1, never-r2, never-r3, never-r4, loaded-ready, answer-is}
 use borrow.Author.Needs.{needs}
 use Rattle.session.proofs.put_load.Statement.{statement}
 use Rattle.session.proofs.put_load.Tie as tie
-use Rattle.session.proofs.put_load.Reads as reads
-use Rattle.session.proofs.put_load.Lts as lts
-use Rattle.session.proofs.put_answer.Reads as put-answer-reads
-use Rattle.show.proofs.load.Reads as load-reads
 
 slice-aggregate-load : tie.Need-slice-aggregate-load
 slice-aggregate-load c = search needs

@@ -1,12 +1,10 @@
+-- `put_shown` meets its contract: the written stream, or the line with the length needed; `write` gives no other answer.
+-- Assumes nothing.
 use native.Mathlib.Omega.{arith}
 use Rattle.session.proofs.Shown.{done-most, done-shown, needed-most, needed-room, needed-shown, never-r2, never-r3, never-r4, never-r5}
 use borrow.Author.Needs.{needs}
 use Rattle.session.proofs.put_shown.Statement.{statement}
 use Rattle.session.proofs.put_shown.Tie as tie
-use Rattle.session.proofs.put_shown.Reads as reads
-use Rattle.session.proofs.put_shown.Lts as lts
-use Rattle.printed.proofs.put_needed.Reads as put-needed-reads
-use Rattle.show.proofs.write.Reads as write-reads
 
 add-write : tie.Need-add-write
 add-write c = search needs

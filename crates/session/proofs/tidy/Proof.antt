@@ -1,11 +1,9 @@
+-- `tidy` meets its contract, by the cases of the text: too much input, or what is read.
+-- Assumes nothing.
 use Rattle.session.proofs.Told.{too-long, read}
 use borrow.Author.Needs.{needs}
 use Rattle.session.proofs.tidy.Statement.{statement}
 use Rattle.session.proofs.tidy.Tie as tie
-use Rattle.session.proofs.tidy.Reads as reads
-use Rattle.session.proofs.tidy.Lts as lts
-use Rattle.lines.proofs.put_text.Reads as put-text-reads
-use Rattle.session.proofs.put_load.Reads as put-load-reads
 
 slice-aggregate-put-text : tie.Need-slice-aggregate-put-text
 slice-aggregate-put-text c = search needs
