@@ -33,7 +33,6 @@ use Rattle.session.specs.Session.{mostInput, mostShown, emptyStore, read
 -- ---- the empty store
 zeros-in-zeros : (k : ℕ) → put (replicate k 0) 0 (replicate k 0) ≡ replicate k 0
 zeros-in-zeros k =
-    let e : length (replicate k zero) ≡ k = length-replicate k (zero) in
     let f : length (replicate k zero) ≤ length (replicate k zero) = omega arith in
     put-zero (replicate k 0) (replicate k 0)
     ∙ ap (λ (z : List ℕ). replicate k 0 ++ z) (drop-of-length-le (replicate k 0) f)
@@ -133,6 +132,6 @@ module _ (o input : List ℕ) {n : ℕ} {z : List ℕ} where
 pub ends-within : (o xs : List ℕ) {n : ℕ} {z : List ℕ} → wrote n z ≡ wroteAt o 0 xs → n ≤ length z
 ends-within o xs {n} {z} e =
     let f : n ≡ 0 + length xs = next-is o 0 xs e in
-    let g : length z ≡ length xs + length (drop (length xs) o) =
-    ap length (out-is o 0 xs e ∙ put-zero o xs) ∙ length-append xs (drop (length xs) o) in
+    let g : length z ≡ length (xs ++ drop (length xs) o) = ap length (out-is o 0 xs e ∙ put-zero o xs) in
+    let l : length (xs ++ drop (length xs) o) ≡ length xs + length (drop (length xs) o) = length-append xs (drop (length xs) o) in
     omega arith

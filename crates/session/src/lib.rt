@@ -7,7 +7,7 @@ use show::Written;
 ghost use mathlib.Core.Path.{_≡_};
 ghost use mathlib.Core.List.{_++_};
 ghost use Prim.Native.Nat.{_+_, _≤_};
-ghost use lib.ListN.{length};
+ghost use lib.ListN.{length, replicate};
 ghost use Rattle.desk.specs.Size.{house};
 ghost use Rattle.store.specs.Good.{Ready};
 ghost use Rattle.written.specs.Wrote.{wrote, wroteAt};
@@ -70,6 +70,7 @@ fn put_load(stream: &[u8], out: &mut [u8]) -> usize
 // stream.
 pub fn buffer() -> [u8; 78943]
     ensures { λ r. ⌜ 78943 ≡ length r ⌝ }
+    ensures { λ r. ⌜ r ≡ replicate 78943 0 ⌝ }
 {
     [0; 78943]
 }

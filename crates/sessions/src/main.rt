@@ -5,7 +5,7 @@ use libc::STDOUT_FILENO;
 use value::Integer;
 ghost use mathlib.Core.Path.{_≡_};
 ghost use Prim.Native.Nat.{_<_, _≤_};
-ghost use lib.ListN.{length};
+ghost use lib.ListN.{length, replicate};
 ghost use Rattle.sessions.specs.Case.{lengthIn, caseAt};
 
 // Where a session's header line ends, and where its input begins and ends.
@@ -18,6 +18,7 @@ pub struct Case {
 // Room for all the sessions of the file.
 fn buffer() -> [u8; 131072]
     ensures { λ r. ⌜ 131072 ≡ length r ⌝ }
+    ensures { λ r. ⌜ r ≡ replicate 131072 0 ⌝ }
 {
     [0; 131072]
 }
