@@ -5,6 +5,7 @@ use mathlib.Core.Path.{_≡_, refl, sym, ap, _∙_}
 use mathlib.Core.Bool.{Bool, false, cond}
 use mathlib.Core.List.{List, [], _∷_, _++_, append-assoc}
 use Prim.Native.Nat.{ℕ, zero, suc, _+_, _-_, _*_, _≤_, _<_}
+use native.Mathlib.Nat.{add-zero}
 use native.Mathlib.Numerals.{add-one}
 use native.Mathlib.Omega.{arith}
 use lib.Dec.{eqb}
@@ -12,13 +13,15 @@ use lib.ListN.{length, getD, take, drop, length-append, length-drop, drop-of-len
 use lib.Seq.{drop-cons}
 use borrow.Author.Tests.{eq-eqb, ne-eqb}
 use Rattle.cells.specs.Text.{bytes}
-use Rattle.cells.proofs.Split.{by-eq, cond-true, cond-false}
+use Rattle.cells.specs.Scan.{span}
+use Rattle.cells.proofs.Scan.{span-hit, span-miss}
+use Rattle.cells.proofs.Split.{by-bool, by-eq, cond-true, cond-false}
 use Rattle.written.specs.Text.{integerText, levelText}
 use Rattle.written.proofs.Texts.{integer-ten, level-length}
 use Rattle.lines.specs.Line.{crlf, joined, Lit, litFrom, pairText, pairsText, mostPairs, chanLinesIn, chanLines}
 use Rattle.lines.specs.Room.{markedText, atLevelText}
 use Rattle.lines.proofs.Lengths.{pair-length}
-use Rattle.chans.specs.Chan.{lit, leadText, channelText, pairsAfter, endText, channelsText}
+use Rattle.chans.specs.Chan.{lit, leadText, channelText, pairsAfter, endText, channelsText, isDark}
 
 -- ---- the parts of a channel's text
 pub pair-parts : (channel level : ℕ) → markedText (bytes " ") channel ++ atLevelText level ≡ pairText (lit channel level)
@@ -135,6 +138,26 @@ levels-rest pairs channel (v ∷ vs) =
     ∙ append-assoc (leadText pairs) (pairText (lit channel v)) (channelsText (pairsAfter pairs v) (channel + 1) vs)
     ∙ ap (λ (z : List ℕ). leadText pairs ++ (pairText (lit channel v) ++ z)) (ih ∙ ap (λ (z : ℕ). chanRest z r) (after-some pairs v e))
     ∙ ap (chanRest pairs) (sym (cond-false (eqb v 0) r (lit channel v ∷ r) (ne-eqb v 0 e))))
+
+-- dark channels add nothing: what is lit from a channel on is what is lit after them
+pub lit-dark : (n channel : ℕ) (vs : List ℕ) → n ≤ span isDark vs → litFrom channel vs ≡ litFrom (channel + n) (drop n vs)
+unfolding litFrom isDark
+lit-dark zero channel vs h = ap (λ (k : ℕ). litFrom k vs) (sym (add-zero channel))
+lit-dark (suc n) channel [] h = refl
+lit-dark (suc n) channel (v ∷ vs) h =
+    let r = litFrom (channel + 1) vs in
+    by-bool (eqb v 0)
+    (λ t.
+    let m : span isDark (v ∷ vs) ≡ suc (span isDark vs) = span-hit isDark v vs t in
+    let k : channel + 1 + n ≡ channel + suc n = omega arith in
+    cond-true (eqb v 0) r (lit channel v ∷ r) t
+    ∙ lit-dark n (channel + 1) vs (omega arith)
+    ∙ ap (λ (c : ℕ). litFrom c (drop n vs)) k)
+    (λ f. absurd (let m : span isDark (v ∷ vs) ≡ 0 = span-miss isDark v vs f in omega arith))
+
+pub channels-dark : (n pairs channel : ℕ) (vs : List ℕ) → n ≤ span isDark vs → channelsText pairs channel vs ≡ channelsText pairs (channel + n) (drop n vs)
+channels-dark n pairs channel vs h =
+    levels-rest pairs channel vs ∙ ap (chanRest pairs) (lit-dark n channel vs h) ∙ sym (levels-rest pairs (channel + n) (drop n vs))
 
 pub channels-are : (vs : List ℕ) → joined (chanLines (litFrom 1 vs)) ≡ channelsText 0 1 vs
 unfolding chanLines

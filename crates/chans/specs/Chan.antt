@@ -1,9 +1,9 @@
 -- The CHAN records of a memory as the code writes them, channel by channel (paper 01, "The written stream": "then non-zero channels
 -- ascending, up to eight pairs a CHAN record"). The law `channels-are` says that they are `chanLines`.
 -- Assumes nothing.
-use mathlib.Core.Bool.{cond}
+use mathlib.Core.Bool.{Bool, cond}
 use mathlib.Core.List.{List, [], _∷_, _++_}
-use Prim.Native.Nat.{ℕ, _+_}
+use Prim.Native.Nat.{ℕ, _+_, _*_}
 use lib.Dec.{eqb}
 use Rattle.cells.specs.Text.{bytes}
 use Rattle.lines.specs.Line.{crlf, pairText, mostPairs, Lit}
@@ -33,3 +33,14 @@ channelsText pairs channel [] = endText pairs
 channelsText pairs channel (v ∷ vs) =
     let r = channelsText (pairsAfter pairs v) (channel + 1) vs in
     channelText pairs channel v ++ r
+
+-- ---- passing over dark channels
+
+-- a level of zero
+unfoldable pub isDark : ℕ → Bool
+isDark level = eqb level 0
+
+-- levels as a number, the first of the least weight
+unfoldable pub weighed : List ℕ → ℕ
+weighed [] = 0
+weighed (v ∷ vs) = let r = weighed vs in v + 256 * r
