@@ -2,12 +2,13 @@
 // ignored characters and comments.
 
 ghost use mathlib.Core.Path.{_≡_};
+ghost use mathlib.Core.Bool.{true};
 ghost use Prim.Native.Nat.{_+_, _-_, _≤_, _<_, min};
 ghost use lib.ListN.{length, take, drop};
 ghost use Rattle.records.specs.Stream.{isEnd, terminated, recordEnd, nextStart};
 ghost use Rattle.records.specs.Received.{recordOf, overLong, textOf};
 ghost use Rattle.records.specs.Cleaning.{cleanedOf};
-ghost use Rattle.records.specs.Kinds.{kindOf, seenFrom};
+ghost use Rattle.records.specs.Kinds.{kindOf, isOther, allPlain, seenFrom};
 use cells::byte;
 
 // How many characters a record may have.
@@ -148,8 +149,60 @@ fn kind(c: u8) -> u8
     HIGH
 }
 
-// The record's text, from its characters.
-fn clean_text(s: &[u8]) -> Cleaned
+// A character that is not plain: it may be ignored, or end the text. A tab is rare, and counts as such.
+fn is_other(c: u8) -> bool
+    ensures { λ r. ⌜ r ≡ isOther c ⌝ }
+{
+    if c < SPACE {
+        return true;
+    }
+    if DELETE <= c {
+        return true;
+    }
+    c == MARK
+}
+
+// Whether every character is plain; counted to the end, so that the loop goes many characters a step.
+fn is_plain(s: &[u8]) -> bool
+    requires { ⌜ length (now s) ≤ 80 ⌝ }
+    ensures { λ r. ⌜ r ≡ allPlain (now (s .entry)) ⌝ }
+{
+    let mut others: u8 = 0;
+    let mut i = 0;
+    while i < s.len() {
+        if is_other(s[i]) {
+            others += 1;
+        }
+        i += 1;
+    }
+    others == 0
+}
+
+// The text of plain characters: all of them are kept, each in its own column.
+fn plain_text(s: &[u8]) -> Cleaned
+    requires { ⌜ length (now s) ≤ 80 ⌝ }
+    requires { ⌜ allPlain (now s) ≡ true ⌝ }
+    ensures { λ r. ⌜ r ≡ cleanedOf (now (s .entry)) ⌝ }
+{
+    let mut text = [0u8; 80];
+    let mut columns = [0u8; 80];
+    let mut i = 0;
+    while i < s.len() {
+        text[i] = s[i];
+        columns[i] = (i + 1) as u8;
+        i += 1;
+    }
+    Cleaned {
+        text,
+        columns,
+        count: i,
+        high: false,
+        control: false,
+    }
+}
+
+// The text of any characters, one by one.
+fn clean_each(s: &[u8]) -> Cleaned
     requires { ⌜ length (now s) ≤ 80 ⌝ }
     ensures { λ r. ⌜ r ≡ cleanedOf (now (s .entry)) ⌝ }
 {
@@ -220,6 +273,17 @@ fn comment(s: &[u8], at: usize, high: bool, control: bool) -> Seen
         high: seen_high,
         control: seen_control,
     }
+}
+
+// The record's text, from its characters: those of most records are plain.
+fn clean_text(s: &[u8]) -> Cleaned
+    requires { ⌜ length (now s) ≤ 80 ⌝ }
+    ensures { λ r. ⌜ r ≡ cleanedOf (now (s .entry)) ⌝ }
+{
+    if is_plain(s) {
+        return plain_text(s);
+    }
+    clean_each(s)
 }
 
 // The text of a record that is not over-long.
