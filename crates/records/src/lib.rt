@@ -14,6 +14,9 @@ use cells::byte;
 // How many characters a record may have.
 const LONGEST: usize = 80;
 
+// From how many characters on it pays to look whether all are plain.
+const MANY: usize = 16;
+
 // A record as received: its first characters, and how many it has in all. A count above 80 tells an over-long record.
 pub struct Record {
     pub bytes: [u8; 80],
@@ -275,13 +278,15 @@ fn comment(s: &[u8], at: usize, high: bool, control: bool) -> Seen
     }
 }
 
-// The record's text, from its characters: those of most records are plain.
+// The record's text, from its characters: those of most long records are plain.
 fn clean_text(s: &[u8]) -> Cleaned
     requires { ⌜ length (now s) ≤ 80 ⌝ }
     ensures { λ r. ⌜ r ≡ cleanedOf (now (s .entry)) ⌝ }
 {
-    if is_plain(s) {
-        return plain_text(s);
+    if MANY <= s.len() {
+        if is_plain(s) {
+            return plain_text(s);
+        }
     }
     clean_each(s)
 }

@@ -9,7 +9,7 @@ is-plain-requires : tie.Need-is-plain-requires
 is-plain-requires c κs = search needs
 
 plain-text-requires : tie.Need-plain-text-requires
-plain-text-requires c κs = (c .before .before .before .pre, sym (c .before .is-plain .ensures) ∙ c .if1 .taken)
+plain-text-requires c κs = (c .before .before .before .before .pre, sym (c .before .is-plain .ensures) ∙ c .if2 .taken)
 
 returns : tie.Need-returns
 returns c = search needs
