@@ -8,14 +8,7 @@
 #include <stdlib.h>
 #include <string.h>
 
-uint32_t sphairune_needed(const uint32_t *limits, size_t limits_n, size_t *length, size_t length_n);
-uint32_t sphairune_empty(const uint32_t *limits, size_t limits_n, uint8_t *store, size_t store_n);
-uint32_t sphairune_load(const uint32_t *limits, size_t limits_n, uint8_t *store, size_t store_n, const uint8_t *stream, size_t stream_n,
-                        uint32_t *reports, size_t reports_n, uint32_t *totals, size_t totals_n);
-uint32_t sphairune_write(const uint32_t *limits, size_t limits_n, const uint8_t *store, size_t store_n, uint8_t *out, size_t out_n,
-                         size_t *length, size_t length_n);
-uint32_t sphairune_find(const uint32_t *limits, size_t limits_n, const uint8_t *store, size_t store_n, uint32_t page, uint32_t whole,
-                        uint32_t tenths, size_t *place, size_t place_n);
+#include "sphairune.h"
 
 #define HOLDS(x) do { if (!(x)) { fprintf(stderr, "broken promise, line %d: %s\n", __LINE__, #x); abort(); } } while (0)
 

@@ -1,5 +1,6 @@
-//! The five calls of the library, each as a safe function; the only unsafe code. A slice of Rust is what the library asks of a list: a
-//! pointer that is aligned and not null, to as many entries as the length says; and a slice lent as `&mut` overlaps no other.
+//! The five calls of the library as they are, with numbers and lists; the only unsafe code. A slice of Rust is what the library asks of a
+//! list: a pointer that is aligned and not null, to as many entries as the length says; and a slice lent as `&mut` overlaps no other.
+//! Each answers 0 or the number of the refusal, and then every lent list is as it was ([`find`] answers 1 where the cue is not kept).
 #![allow(unsafe_code)]
 
 mod library {
@@ -42,14 +43,17 @@ mod library {
     }
 }
 
+/// The bytes that a store needs, in `length`.
 pub fn needed(limits: &[u32], length: &mut [usize]) -> u32 {
     unsafe { library::sphairune_needed(limits.as_ptr(), limits.len(), length.as_mut_ptr(), length.len()) }
 }
 
+/// Makes a store's needed bytes zero.
 pub fn empty(limits: &[u32], store: &mut [u8]) -> u32 {
     unsafe { library::sphairune_empty(limits.as_ptr(), limits.len(), store.as_mut_ptr(), store.len()) }
 }
 
+/// Reads a stream into a store; in `totals` the count of reports, the four tallies and the closing number.
 pub fn load(limits: &[u32], store: &mut [u8], stream: &[u8], reports: &mut [u32], totals: &mut [u32]) -> u32 {
     unsafe {
         library::sphairune_load(
@@ -67,6 +71,7 @@ pub fn load(limits: &[u32], store: &mut [u8], stream: &[u8], reports: &mut [u32]
     }
 }
 
+/// Puts a store's show into `out`; its length in `length`, or with 6 the length needed.
 pub fn write(limits: &[u32], store: &[u8], out: &mut [u8], length: &mut [usize]) -> u32 {
     unsafe {
         library::sphairune_write(
@@ -82,6 +87,7 @@ pub fn write(limits: &[u32], store: &[u8], out: &mut [u8], length: &mut [usize])
     }
 }
 
+/// Where the levels of a kept cue begin, in `place`.
 pub fn find(limits: &[u32], store: &[u8], page: u32, whole: u32, tenths: u32, place: &mut [usize]) -> u32 {
     unsafe {
         library::sphairune_find(

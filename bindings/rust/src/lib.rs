@@ -20,7 +20,7 @@
 #![cfg_attr(not(test), no_std)]
 #![deny(missing_docs, unsafe_code)]
 
-mod calls;
+pub mod calls;
 mod store;
 
 pub use store::{Fade, Memories, Memory, Number, Patched, Patches};
@@ -113,7 +113,7 @@ impl fmt::Display for Refused {
 impl core::error::Error for Refused {}
 
 /// What a load tells. Each record read is in one of the four tallies.
-#[derive(Clone, Copy, Debug, PartialEq, Eq)]
+#[derive(Clone, Copy, Debug, Default, PartialEq, Eq)]
 pub struct Totals {
     /// How many conditions were reported, those that found no room in the list too.
     pub reports: u32,
