@@ -21,7 +21,7 @@ use Rattle.written.proofs.Texts.{integer-ten, level-length}
 use Rattle.lines.specs.Line.{crlf, joined, Lit, litFrom, pairText, pairsText, mostPairs, chanLinesIn, chanLines}
 use Rattle.lines.specs.Room.{markedText, atLevelText}
 use Rattle.lines.proofs.Lengths.{pair-length}
-use Rattle.chans.specs.Chan.{lit, leadText, channelText, pairsAfter, endText, channelsText, isDark}
+use Rattle.chans.specs.Chan.{lit, leadText, channelText, pairsWith, pairsAfter, endText, channelsText, isDark}
 
 -- ---- the parts of a channel's text
 pub pair-parts : (channel level : ℕ) → markedText (bytes " ") channel ++ atLevelText level ≡ pairText (lit channel level)
@@ -43,13 +43,16 @@ module _ (pairs : ℕ) (ne : pairs ≡ 0 → ⊥) where
   pub lead-within : (pairs ≡ 8 → ⊥) → leadText pairs ≡ []
   lead-within e = lead-later ∙ cond-false (eqb pairs mostPairs) (bytes "\r\nCHAN") [] (ne-eqb pairs mostPairs e)
 
-pub channel-none : (pairs channel level : ℕ) → level ≡ 0 → channelText pairs channel level ≡ []
+channel-none : (pairs channel level : ℕ) → level ≡ 0 → channelText pairs channel level ≡ []
 unfolding channelText
 channel-none pairs channel level e = cond-true (eqb level 0) [] (leadText pairs ++ pairText (lit channel level)) (eq-eqb level 0 e)
 
 pub channel-some : (pairs channel level : ℕ) → (level ≡ 0 → ⊥) → leadText pairs ++ pairText (lit channel level) ≡ channelText pairs channel level
 unfolding channelText
 channel-some pairs channel level e = sym (cond-false (eqb level 0) [] (leadText pairs ++ pairText (lit channel level)) (ne-eqb level 0 e))
+
+pub lit-level : {level : ℕ} → 0 < level → level ≡ 0 → ⊥
+lit-level h e = omega arith
 
 pub end-none : (pairs : ℕ) → pairs ≡ 0 → endText pairs ≡ []
 unfolding endText
@@ -60,34 +63,30 @@ unfolding endText
 end-some pairs e = sym (cond-false (eqb pairs 0) [] crlf (ne-eqb pairs 0 e))
 
 -- ---- the pairs of a record
-pub after-none : (pairs level : ℕ) → level ≡ 0 → pairs ≡ pairsAfter pairs level
+after-none : (pairs level : ℕ) → level ≡ 0 → pairs ≡ pairsAfter pairs level
 unfolding pairsAfter
-after-none pairs level e = sym (cond-true (eqb level 0) pairs (cond (eqb pairs mostPairs) 1 (pairs + 1)) (eq-eqb level 0 e))
+after-none pairs level e = sym (cond-true (eqb level 0) pairs (pairsWith pairs) (eq-eqb level 0 e))
 
-module _ (pairs level : ℕ) (ne : level ≡ 0 → ⊥) where
-  after-some : pairsAfter pairs level ≡ cond (eqb pairs mostPairs) 1 (pairs + 1)
-  unfolding pairsAfter
-  after-some = cond-false (eqb level 0) pairs (cond (eqb pairs mostPairs) 1 (pairs + 1)) (ne-eqb level 0 ne)
+pub after-some : (pairs level : ℕ) → (level ≡ 0 → ⊥) → pairsAfter pairs level ≡ pairsWith pairs
+unfolding pairsAfter
+after-some pairs level ne = cond-false (eqb level 0) pairs (pairsWith pairs) (ne-eqb level 0 ne)
 
-  pub after-full : pairs ≡ 8 → 1 ≡ pairsAfter pairs level
-  after-full e = sym (after-some ∙ cond-true (eqb pairs mostPairs) 1 (pairs + 1) (eq-eqb pairs mostPairs e))
+pub with-full : (pairs : ℕ) → pairs ≡ 8 → 1 ≡ pairsWith pairs
+with-full pairs e = sym (cond-true (eqb pairs mostPairs) 1 (pairs + 1) (eq-eqb pairs mostPairs e))
 
-  pub after-more : (pairs ≡ 8 → ⊥) → pairs + 1 ≡ pairsAfter pairs level
-  after-more e = sym (after-some ∙ cond-false (eqb pairs mostPairs) 1 (pairs + 1) (ne-eqb pairs mostPairs e))
+pub with-more : (pairs : ℕ) → (pairs ≡ 8 → ⊥) → pairs + 1 ≡ pairsWith pairs
+with-more pairs e = sym (cond-false (eqb pairs mostPairs) 1 (pairs + 1) (ne-eqb pairs mostPairs e))
 
-pub after-most : (pairs level : ℕ) → pairs ≤ 8 → pairsAfter pairs level ≤ 8
-after-most pairs level h =
-    by-eq level 0
-    (λ e. let a = after-none pairs level e in omega arith)
-    (λ e.
+pub with-most : (pairs : ℕ) → pairs ≤ 8 → pairsWith pairs ≤ 8
+with-most pairs h =
     by-eq pairs 8
-    (λ q. let a = after-full pairs level e q in omega arith)
-    (λ q. let a = after-more pairs level e q in omega arith))
+    (λ q. let a : 1 ≡ pairsWith pairs = with-full pairs q in omega arith)
+    (λ q. let a : pairs + 1 ≡ pairsWith pairs = with-more pairs q in omega arith)
 
 -- ---- pair by pair, in a record that has so many
 chanRest : ℕ → List Lit → List ℕ
 chanRest pairs [] = endText pairs
-chanRest pairs (p ∷ ps) = leadText pairs ++ (pairText p ++ chanRest (cond (eqb pairs mostPairs) 1 (pairs + 1)) ps)
+chanRest pairs (p ∷ ps) = leadText pairs ++ (pairText p ++ chanRest (pairsWith pairs) ps)
 
 -- a record that has some pairs takes the others that it may, and ends
 rest-record : (k pairs : ℕ) (ps : List Lit) → suc pairs + k ≡ 8 → chanRest (suc pairs) ps ≡ pairsText (take k ps) ++ (crlf ++ chanRest 0 (drop k ps))
@@ -101,7 +100,7 @@ rest-record (suc k) pairs (p ∷ ps) e =
     let ne : eqb (suc pairs) mostPairs ≡ false = ne-eqb (suc pairs) 8 (λ q. omega arith) in
     let n : suc pairs + 1 ≡ suc (suc pairs) = add-one (suc pairs) in
     let ih = rest-record k (suc pairs) ps (omega arith) in
-    ap (λ (z : List ℕ). z ++ (pairText p ++ chanRest (cond (eqb (suc pairs) mostPairs) 1 (suc pairs + 1)) ps))
+    ap (λ (z : List ℕ). z ++ (pairText p ++ chanRest (pairsWith (suc pairs)) ps))
     (lead-within (suc pairs) (λ q. omega arith) (λ q. omega arith))
     ∙ ap (λ (b : Bool). pairText p ++ chanRest (cond b 1 (suc pairs + 1)) ps) ne
     ∙ ap (λ (z : ℕ). pairText p ++ chanRest z ps) n
@@ -140,7 +139,7 @@ levels-rest pairs channel (v ∷ vs) =
     ∙ ap (chanRest pairs) (sym (cond-false (eqb v 0) r (lit channel v ∷ r) (ne-eqb v 0 e))))
 
 -- dark channels add nothing: what is lit from a channel on is what is lit after them
-pub lit-dark : (n channel : ℕ) (vs : List ℕ) → n ≤ span isDark vs → litFrom channel vs ≡ litFrom (channel + n) (drop n vs)
+lit-dark : (n channel : ℕ) (vs : List ℕ) → n ≤ span isDark vs → litFrom channel vs ≡ litFrom (channel + n) (drop n vs)
 unfolding litFrom isDark
 lit-dark zero channel vs h = ap (λ (k : ℕ). litFrom k vs) (sym (add-zero channel))
 lit-dark (suc n) channel [] h = refl
@@ -155,7 +154,8 @@ lit-dark (suc n) channel (v ∷ vs) h =
     ∙ ap (λ (c : ℕ). litFrom c (drop n vs)) k)
     (λ f. absurd (let m : span isDark (v ∷ vs) ≡ 0 = span-miss isDark v vs f in omega arith))
 
-pub channels-dark : (n pairs channel : ℕ) (vs : List ℕ) → n ≤ span isDark vs → channelsText pairs channel vs ≡ channelsText pairs (channel + n) (drop n vs)
+pub channels-dark : (n pairs channel : ℕ) (vs : List ℕ) → n ≤ span isDark vs
+    → channelsText pairs channel vs ≡ channelsText pairs (channel + n) (drop n vs)
 channels-dark n pairs channel vs h =
     levels-rest pairs channel vs ∙ ap (chanRest pairs) (lit-dark n channel vs h) ∙ sym (levels-rest pairs (channel + n) (drop n vs))
 
@@ -186,7 +186,7 @@ lead-long pairs =
     (λ q. let l : 6 ≡ length (leadText pairs) = ap length (lead-full pairs e q) in omega arith)
     (λ q. let l : length (leadText pairs) ≡ 0 = ap length (lead-within pairs e q) in omega arith))
 
-pub channel-length-none : (pairs channel level : ℕ) → level ≡ 0 → 0 ≡ length (channelText pairs channel level)
+channel-length-none : (pairs channel level : ℕ) → level ≡ 0 → 0 ≡ length (channelText pairs channel level)
 channel-length-none pairs channel level e = sym (ap length (channel-none pairs channel level e))
 
 pub channel-length-some : (pairs channel level : ℕ) {a b c : ℕ} → a ≡ length (leadText pairs) → b ≡ length (integerText channel) → c ≡ length (levelText level)

@@ -8,7 +8,6 @@ use Prim.Native.Nat.{ℕ, zero, suc, _+_, _-_, _*_, _/_, _%_, _≤_, _<_}
 use native.Mathlib.Numerals.{add-one}
 use native.Mathlib.Omega.{arith}
 use lib.Count.{under, trailingZeros, trailing-of-zero}
-use lib.Dec.{eqb}
 use lib.ListN.{length, getD, take, drop, length-drop, take-append-drop, List·getD-eq-default}
 use lib.Seq.{drop-cons, drop-drop, length-take-le, getD-take, getD-drop}
 use borrow.Author.Tests.{eq-eqb, ne-eqb}
@@ -26,7 +25,8 @@ unfolding isDark
 lit-of level e = ne-eqb level 0 e
 
 -- ---- levels as a number
-weighed-at : (n : ℕ) (s : List ℕ) (i j : ℕ) → i < length s → j ≡ i + 1 → weighed (take (suc n) (drop i s)) ≡ getD s i 0 + 256 * weighed (take n (drop j s))
+weighed-at : (n : ℕ) (s : List ℕ) (i j : ℕ) → i < length s → j ≡ i + 1
+    → weighed (take (suc n) (drop i s)) ≡ getD s i 0 + 256 * weighed (take n (drop j s))
 unfolding weighed
 weighed-at n s i j h e =
     ap (λ (l : List ℕ). weighed (take (suc n) l)) (drop-cons s i 0 h)
@@ -38,8 +38,12 @@ pub weighed-four : (s : List ℕ) (i : ℕ) {a b c d : ℕ} → i + 4 ≤ length
 unfolding weighed
 weighed-four s i h ea eb ec ed =
     let p₀ : weighed (take 4 (drop i s)) ≡ getD s i 0 + 256 * weighed (take 3 (drop (i + 1) s)) = weighed-at 3 s i (i + 1) (omega arith) refl in
-    let p₁ : weighed (take 3 (drop (i + 1) s)) ≡ getD s (i + 1) 0 + 256 * weighed (take 2 (drop (i + 2) s)) = weighed-at 2 s (i + 1) (i + 2) (omega arith) (omega arith) in
-    let p₂ : weighed (take 2 (drop (i + 2) s)) ≡ getD s (i + 2) 0 + 256 * weighed (take 1 (drop (i + 3) s)) = weighed-at 1 s (i + 2) (i + 3) (omega arith) (omega arith) in
+    let p₁ : weighed (take 3 (drop (i + 1) s)) ≡ getD s (i + 1) 0 + 256 * weighed (take 2 (drop (i + 2) s)) =
+    weighed-at 2 s (i + 1) (i + 2) (omega arith) (omega arith)
+    in
+    let p₂ : weighed (take 2 (drop (i + 2) s)) ≡ getD s (i + 2) 0 + 256 * weighed (take 1 (drop (i + 3) s)) =
+    weighed-at 1 s (i + 2) (i + 3) (omega arith) (omega arith)
+    in
     let p₃ : weighed (take 1 (drop (i + 3) s)) ≡ getD s (i + 3) 0 + 256 * 0 = weighed-at 0 s (i + 3) (i + 4) (omega arith) (omega arith) in
     omega arith
 
@@ -48,9 +52,15 @@ pub weighed-eight : (s : List ℕ) (i : ℕ) {a b : ℕ} → i + 8 ≤ length s 
 weighed-eight s i h ea eb =
     let low = weighed-four s i (omega arith) refl refl refl refl in
     let p₀ : weighed (take 8 (drop i s)) ≡ getD s i 0 + 256 * weighed (take 7 (drop (i + 1) s)) = weighed-at 7 s i (i + 1) (omega arith) refl in
-    let p₁ : weighed (take 7 (drop (i + 1) s)) ≡ getD s (i + 1) 0 + 256 * weighed (take 6 (drop (i + 2) s)) = weighed-at 6 s (i + 1) (i + 2) (omega arith) (omega arith) in
-    let p₂ : weighed (take 6 (drop (i + 2) s)) ≡ getD s (i + 2) 0 + 256 * weighed (take 5 (drop (i + 3) s)) = weighed-at 5 s (i + 2) (i + 3) (omega arith) (omega arith) in
-    let p₃ : weighed (take 5 (drop (i + 3) s)) ≡ getD s (i + 3) 0 + 256 * weighed (take 4 (drop (i + 4) s)) = weighed-at 4 s (i + 3) (i + 4) (omega arith) (omega arith) in
+    let p₁ : weighed (take 7 (drop (i + 1) s)) ≡ getD s (i + 1) 0 + 256 * weighed (take 6 (drop (i + 2) s)) =
+    weighed-at 6 s (i + 1) (i + 2) (omega arith) (omega arith)
+    in
+    let p₂ : weighed (take 6 (drop (i + 2) s)) ≡ getD s (i + 2) 0 + 256 * weighed (take 5 (drop (i + 3) s)) =
+    weighed-at 5 s (i + 2) (i + 3) (omega arith) (omega arith)
+    in
+    let p₃ : weighed (take 5 (drop (i + 3) s)) ≡ getD s (i + 3) 0 + 256 * weighed (take 4 (drop (i + 4) s)) =
+    weighed-at 4 s (i + 3) (i + 4) (omega arith) (omega arith)
+    in
     omega arith
 
 -- ---- the lowest zero digits of a number
@@ -121,7 +131,9 @@ zeros-dark (v ∷ vs) f =
     omega arith)
     (λ ne.
     let m : span isDark (v ∷ vs) ≡ 0 = span-miss isDark v vs (lit-of v ne) in
-    let z : trailingZeros (further 8 (digits vs)) (v + 256 * w) < 8 = zeros-by 8 (digits vs) (v + 256 * w) (λ l. l) (λ n e. absurd (ne (omega arith))) in
+    let z : trailingZeros (further 8 (digits vs)) (v + 256 * w) < 8 =
+    zeros-by 8 (digits vs) (v + 256 * w) (λ l. l) (λ n e. absurd (ne (omega arith)))
+    in
     omega arith)
 
 -- ---- a scan that goes eight levels at a step

@@ -12,17 +12,17 @@ use Rattle.written.specs.Wrote.{wrote, wroteAt}
 use Rattle.lines.specs.Line.{joined, litFrom, chanLines}
 use Rattle.lines.specs.Room.{Room}
 use Rattle.lines.proofs.Chain.{Writing, writing-start, writing-room, writing-more, writing-end}
-use Rattle.chans.specs.Chan.{channelText, pairsAfter, endText, channelsText, isDark}
-use Rattle.chans.proofs.Channels.{channels-are, channels-dark, channels-turn, channels-end, channels-long, after-most, total-turn}
+use Rattle.chans.specs.Chan.{channelText, pairsWith, endText, channelsText, isDark}
+use Rattle.chans.proofs.Channels.{channels-are, channels-dark, channels-turn, channels-end, channels-long, after-some, with-most, total-turn}
 use Rattle.chans.proofs.Dark.{dark-of}
 
 abbrev pub chansText : List ℕ → List ℕ
 chansText vs = joined (chanLines (litFrom 1 vs))
 
 -- ---- a dark channel, and those after it, up to the place of the next lit one
-module _ (vs : List ℕ) {i j : ℕ} (h : i < length vs) (z : getD vs i 0 ≡ 0) (e : j ≡ i + 1 + span isDark (drop (i + 1) vs)) where
-  dark-text : (pairs : ℕ) → channelsText pairs (i + 1) (drop i vs) ≡ channelsText pairs (j + 1) (drop j vs)
-  dark-text pairs =
+module _ (vs : List ℕ) {i j : ℕ} (h : i < length vs) (e : j ≡ i + 1 + span isDark (drop (i + 1) vs)) where
+  dark-text : (pairs : ℕ) → getD vs i 0 ≡ 0 → channelsText pairs (i + 1) (drop i vs) ≡ channelsText pairs (j + 1) (drop j vs)
+  dark-text pairs z =
       let n = suc (span isDark (drop (i + 1) vs)) in
       let m : span isDark (drop i vs) ≡ n = span-more isDark vs i h refl (dark-of (getD vs i 0) z) in
       let q : i + n ≡ j = omega arith in
@@ -31,7 +31,7 @@ module _ (vs : List ℕ) {i j : ℕ} (h : i < length vs) (z : getD vs i 0 ≡ 0)
       ∙ ap (channelsText pairs (i + 1 + n)) (drop-drop n i vs ∙ ap (λ (k : ℕ). drop k vs) q)
       ∙ ap (λ (k : ℕ). channelsText pairs k (drop j vs)) c
 
-  pub dark-within : j ≤ length vs
+  dark-within : j ≤ length vs
   dark-within = let w : i + 1 + span isDark (drop (i + 1) vs) ≤ length vs = span-within isDark vs (i + 1) (omega arith) in omega arith
 
 -- ---- writing
@@ -48,15 +48,16 @@ module _ {t : List ℕ} {a : ℕ} {vs o : List ℕ} {next pairs i : ℕ} (p : Pu
   putting-room h e =
       subst (λ (k : ℕ). Room o next (channelText pairs k (getD vs i 0))) (sym e) (writing-room _ (channels-turn pairs (i + 1) i vs h refl) (p .writing))
 
-  pub putting-turn : i < length vs → {channel s q : ℕ} {z : List ℕ} → channel ≡ i + 1 → wrote s z ≡ wroteAt o next (channelText pairs channel (getD vs i 0))
-      → q ≡ pairsAfter pairs (getD vs i 0) → Putting t a vs z s q (i + 1)
-  putting-turn h {channel} {s} {q} {z} n f e =
-      let m = after-most pairs (getD vs i 0) (p .most) in
+  pub putting-turn : i < length vs → (getD vs i 0 ≡ 0 → ⊥) → {channel s q : ℕ} {z : List ℕ} → channel ≡ i + 1
+      → wrote s z ≡ wroteAt o next (channelText pairs channel (getD vs i 0))
+      → q ≡ pairsWith pairs → Putting t a vs z s q (i + 1)
+  putting-turn h l {channel} {s} {q} {z} n f e =
+      let m = with-most pairs (p .most) in
       record {
         most = omega arith;
         within = omega arith;
         writing =
-            subst (λ (y : ℕ). Writing t a (chansText vs) z s (channelsText y (i + 1 + 1) (drop (i + 1) vs))) (sym e)
+            subst (λ (y : ℕ). Writing t a (chansText vs) z s (channelsText y (i + 1 + 1) (drop (i + 1) vs))) (after-some pairs (getD vs i 0) l ∙ sym e)
             (writing-more (channelText pairs (i + 1) (getD vs i 0)) (channels-turn pairs (i + 1) i vs h refl) (p .writing)
             (f ∙ ap (λ (k : ℕ). wroteAt o next (channelText pairs k (getD vs i 0))) n));
       }
@@ -65,8 +66,8 @@ module _ {t : List ℕ} {a : ℕ} {vs o : List ℕ} {next pairs i : ℕ} (p : Pu
   putting-dark h z e =
       record {
         most = p .most;
-        within = dark-within vs h z e;
-        writing = subst (λ (y : List ℕ). Writing t a (chansText vs) o next y) (dark-text vs h z e pairs) (p .writing);
+        within = dark-within vs h e;
+        writing = subst (λ (y : List ℕ). Writing t a (chansText vs) o next y) (dark-text vs h e pairs z) (p .writing);
       }
 
   pub putting-last : length vs ≤ i → Room o next (endText pairs)
@@ -94,24 +95,26 @@ chans-long vs h =
     omega arith
 
 module _ {vs : List ℕ} {total pairs i : ℕ} (p : Adding vs total pairs i) where
-  numbered : {channel k : ℕ} → channel ≡ i + 1 → k ≡ length (channelText pairs channel (getD vs i 0)) → k ≡ length (channelText pairs (i + 1) (getD vs i 0))
+  numbered : {channel k : ℕ} → channel ≡ i + 1 → k ≡ length (channelText pairs channel (getD vs i 0))
+      → k ≡ length (channelText pairs (i + 1) (getD vs i 0))
   numbered n e = e ∙ ap (λ (j : ℕ). length (channelText pairs j (getD vs i 0))) n
 
-  pub adding-small : length vs ≤ 1024 → i < length vs → {channel k : ℕ} → channel ≡ i + 1 → k ≡ length (channelText pairs channel (getD vs i 0)) → total + k ≤ 21506
+  pub adding-small : length vs ≤ 1024 → i < length vs → {channel k : ℕ} → channel ≡ i + 1
+      → k ≡ length (channelText pairs channel (getD vs i 0)) → total + k ≤ 21506
   adding-small l h n e =
       let w = total-turn pairs (i + 1) i vs total h refl (numbered n e) (p .sum) in
       let b = chans-long vs l in
       omega arith
 
-  pub adding-turn : i < length vs → {channel q k : ℕ} → channel ≡ i + 1 → k ≡ length (channelText pairs channel (getD vs i 0))
-      → q ≡ pairsAfter pairs (getD vs i 0) → Adding vs (total + k) q (i + 1)
-  adding-turn h {channel} {q} {k} n e f =
-      let m = after-most pairs (getD vs i 0) (p .most) in
+  pub adding-turn : i < length vs → (getD vs i 0 ≡ 0 → ⊥) → {channel q k : ℕ} → channel ≡ i + 1 → k ≡ length (channelText pairs channel (getD vs i 0))
+      → q ≡ pairsWith pairs → Adding vs (total + k) q (i + 1)
+  adding-turn h l {channel} {q} {k} n e f =
+      let m = with-most pairs (p .most) in
       record {
         most = omega arith;
         within = omega arith;
         sum =
-            subst (λ (y : ℕ). total + k + length (channelsText y (i + 1 + 1) (drop (i + 1) vs)) ≡ length (chansText vs)) (sym f)
+            subst (λ (y : ℕ). total + k + length (channelsText y (i + 1 + 1) (drop (i + 1) vs)) ≡ length (chansText vs)) (after-some pairs (getD vs i 0) l ∙ sym f)
             (total-turn pairs (i + 1) i vs total h refl (numbered n e) (p .sum));
       }
 
@@ -119,8 +122,8 @@ module _ {vs : List ℕ} {total pairs i : ℕ} (p : Adding vs total pairs i) whe
   adding-dark h z e =
       record {
         most = p .most;
-        within = dark-within vs h z e;
-        sum = subst (λ (y : List ℕ). total + length y ≡ length (chansText vs)) (dark-text vs h z e pairs) (p .sum);
+        within = dark-within vs h e;
+        sum = subst (λ (y : List ℕ). total + length y ≡ length (chansText vs)) (dark-text vs h e pairs z) (p .sum);
       }
 
   pub adding-end : length vs ≤ i → {k : ℕ} → k ≡ length (endText pairs) → total + k ≡ length (chansText vs)

@@ -19,9 +19,13 @@ leadText pairs = cond (eqb pairs 0) (bytes "CHAN") (cond (eqb pairs mostPairs) (
 unfoldable pub channelText : ℕ → ℕ → ℕ → List ℕ
 channelText pairs channel level = cond (eqb level 0) [] (leadText pairs ++ pairText (lit channel level))
 
+-- the pairs of the record with one more
+abbrev pub pairsWith : ℕ → ℕ
+pairsWith pairs = cond (eqb pairs mostPairs) 1 (pairs + 1)
+
 -- the pairs of the record after a channel
 unfoldable pub pairsAfter : ℕ → ℕ → ℕ
-pairsAfter pairs level = cond (eqb level 0) pairs (cond (eqb pairs mostPairs) 1 (pairs + 1))
+pairsAfter pairs level = cond (eqb level 0) pairs (pairsWith pairs)
 
 -- the record ends, if one is begun
 unfoldable pub endText : ℕ → List ℕ

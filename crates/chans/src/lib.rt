@@ -6,7 +6,7 @@ ghost use Rattle.cells.specs.Scan.{span};
 ghost use Rattle.written.specs.Wrote.{wrote, wroteAt};
 ghost use Rattle.lines.specs.Line.{joined, litFrom, pairText, chanLines};
 ghost use Rattle.lines.specs.Room.{Room};
-ghost use Rattle.chans.specs.Chan.{lit, leadText, channelText, pairsAfter, endText, isDark, weighed};
+ghost use Rattle.chans.specs.Chan.{lit, leadText, channelText, pairsWith, endText, isDark, weighed};
 
 // Up to so many pairs stand in a CHAN record.
 const MOST_PAIRS: usize = 8;
@@ -41,7 +41,8 @@ fn word(levels: &[u8], at: usize) -> u64
     half(levels, at) + half(levels, at + 4) * 4294967296
 }
 
-// How many of eight channels are dark ahead of the first lit one.
+// How many of eight channels are dark ahead of the first lit one. A word of zeros is told by a test, so that the step after it does not wait for
+// the count.
 fn dark_of_eight(levels: &[u8], at: usize) -> usize
     requires { ⌜ at + 8 ≤ length (now levels) ⌝ }
     ensures { λ r. ⌜ r ≡ span isDark (take 8 (drop at (now (levels .entry)))) ⌝ }
@@ -116,25 +117,21 @@ fn put_lead(out: &mut [u8], at: usize, pairs: usize) -> usize
     at
 }
 
+// A lit channel.
 fn put_channel(out: &mut [u8], at: usize, pairs: usize, channel: u32, level: u8) -> usize
     requires { ⌜ Room (now out) at (channelText pairs channel level) ⌝ }
+    requires { ⌜ 0 < level ⌝ }
     ensures { λ r. ⌜ wrote r (now (out .exit)) ≡ wroteAt (now (out .entry)) at (channelText pairs channel level) ⌝ }
 {
-    if level == 0 {
-        return at;
-    }
     let pair = put_lead(out, at, pairs);
     put_pair(out, pair, channel, level)
 }
 
-// How many pairs the record has after this channel.
-fn pairs_after(pairs: usize, level: u8) -> usize
+// How many pairs the record has after a lit channel.
+fn pairs_after(pairs: usize) -> usize
     requires { ⌜ pairs ≤ 8 ⌝ }
-    ensures { λ r. ⌜ r ≡ pairsAfter pairs level ⌝ }
+    ensures { λ r. ⌜ r ≡ pairsWith pairs ⌝ }
 {
-    if level == 0 {
-        return pairs;
-    }
     if pairs == MOST_PAIRS {
         return 1;
     }
@@ -165,7 +162,7 @@ pub fn put_channels(out: &mut [u8], at: usize, levels: &[u8]) -> usize
             i = next_lit(levels, i + 1);
         } else {
             next = put_channel(&mut *out, next, pairs, channel_at(i), level);
-            pairs = pairs_after(pairs, level);
+            pairs = pairs_after(pairs);
             i += 1;
         }
     }
@@ -187,11 +184,9 @@ fn lead_length(pairs: usize) -> usize
 }
 
 fn channel_length(pairs: usize, channel: u32, level: u8) -> usize
+    requires { ⌜ 0 < level ⌝ }
     ensures { λ r. ⌜ r ≡ length (channelText pairs channel level) ⌝ }
 {
-    if level == 0 {
-        return 0;
-    }
     lead_length(pairs) + written::integer_length(channel) + written::level_length(level) + 2
 }
 
@@ -217,7 +212,7 @@ pub fn channels_length(levels: &[u8]) -> usize
             i = next_lit(levels, i + 1);
         } else {
             total += channel_length(pairs, channel_at(i), level);
-            pairs = pairs_after(pairs, level);
+            pairs = pairs_after(pairs);
             i += 1;
         }
     }

@@ -1,14 +1,11 @@
--- `channel_length` meets its contract: nothing at level zero, else the parts' lengths.
+-- `channel_length` meets its contract: the parts' lengths.
 -- Assumes nothing.
 use native.Mathlib.Omega.{arith}
 use Rattle.written.proofs.Texts.{integer-ten, level-length}
-use Rattle.chans.proofs.Channels.{channel-length-none, channel-length-some, lead-long}
+use Rattle.chans.proofs.Channels.{lit-level, channel-length-some, lead-long}
 use borrow.Author.Needs.{needs}
 use Rattle.chans.proofs.channel_length.Statement.{statement}
 use Rattle.chans.proofs.channel_length.Tie as tie
-
-returns : tie.Need-returns
-returns c = channel-length-none _ _ _ (c .if1 .taken)
 
 lead-length-requires : tie.Need-lead-length-requires
 lead-length-requires c κs = search needs
@@ -17,29 +14,28 @@ integer-length-requires : tie.Need-integer-length-requires
 integer-length-requires c κs = search needs
 
 add-result : tie.Need-add-result
-add-result c = omega (arith, c .before .lead-length .ensures, c .integer-length .ensures, lead-long (c .before .before .before .args .pairs), integer-ten (c .before .before .before .args .channel) (omega arith))
+add-result c = omega (arith, c .before .lead-length .ensures, c .integer-length .ensures, lead-long (c .before .before .args .pairs), integer-ten (c .before .before .args .channel) (omega arith))
 
 level-length-requires : tie.Need-level-length-requires
 level-length-requires c κs = search needs
 
 add-result-2 : tie.Need-add-result-2
-add-result-2 c = omega (arith, c .before .before .lead-length .ensures, c .before .integer-length .ensures, lead-long (c .before .before .before .before .args .pairs), integer-ten (c .before .before .before .before .args .channel) (omega arith), c .level-length .ensures, level-length (c .before .before .before .before .args .level))
+add-result-2 c = omega (arith, c .before .before .lead-length .ensures, c .before .integer-length .ensures, lead-long (c .before .before .before .args .pairs), integer-ten (c .before .before .before .args .channel) (omega arith), c .level-length .ensures, level-length (c .before .before .before .args .level))
 
 add-result-3 : tie.Need-add-result-3
-add-result-3 c = omega (arith, c .before .before .lead-length .ensures, c .before .integer-length .ensures, lead-long (c .before .before .before .before .args .pairs), integer-ten (c .before .before .before .before .args .channel) (omega arith), c .level-length .ensures, level-length (c .before .before .before .before .args .level))
+add-result-3 c = omega (arith, c .before .before .lead-length .ensures, c .before .integer-length .ensures, lead-long (c .before .before .before .args .pairs), integer-ten (c .before .before .before .args .channel) (omega arith), c .level-length .ensures, level-length (c .before .before .before .args .level))
 
-returns-2 : tie.Need-returns-2
-returns-2 c = channel-length-some _ _ _ (c .before .before .lead-length .ensures) (c .before .integer-length .ensures) (c .level-length .ensures) (c .before .before .before .if1 .left)
+returns : tie.Need-returns
+returns c = channel-length-some _ _ _ (c .before .before .lead-length .ensures) (c .before .integer-length .ensures) (c .level-length .ensures) (lit-level (c .before .before .before .pre))
 
 pub channel-length-spec : {M : Type 1} → statement M
 channel-length-spec =
     tie.close
     (tie.spec
-    returns
     lead-length-requires
     integer-length-requires
     add-result
     level-length-requires
     add-result-2
     add-result-3
-    returns-2)
+    returns)

@@ -37,7 +37,7 @@ channel-at-requires : tie.Need-channel-at-requires Inv-loop μ-loop
 channel-at-requires c κs = omega (arith, c .before .before .loop-test .taken, c .before .before .before .before .before .pre)
 
 channel-length-requires : tie.Need-channel-length-requires Inv-loop μ-loop
-channel-length-requires c κs = search needs
+channel-length-requires c κs = omega (arith, c .before .if1 .left)
 
 add-total : tie.Need-add-total Inv-loop μ-loop
 add-total c = omega (arith, adding-small (c .before .before .before .before .before .loop .inv) (c .before .before .before .before .before .before .before .pre) (c .before .before .before .before .loop-test .taken) (c .before .channel-at .ensures) (c .channel-length .ensures))
@@ -52,7 +52,7 @@ loop-less-2 : tie.Need-loop-less-2 Inv-loop μ-loop
 loop-less-2 c = omega (arith, c .before .before .before .before .before .loop-test .taken)
 
 loop-again-2 : tie.Need-loop-again-2 Inv-loop μ-loop
-loop-again-2 c = adding-turn (c .before .before .before .before .before .before .loop .inv) (c .before .before .before .before .before .loop-test .taken) (c .before .before .channel-at .ensures) (c .before .channel-length .ensures) (c .pairs-after .ensures)
+loop-again-2 c = adding-turn (c .before .before .before .before .before .before .loop .inv) (c .before .before .before .before .before .loop-test .taken) (c .before .before .before .if1 .left) (c .before .before .channel-at .ensures) (c .before .channel-length .ensures) (c .pairs-after .ensures)
 
 last-length-requires : tie.Need-last-length-requires Inv-loop μ-loop
 last-length-requires c κs = search needs

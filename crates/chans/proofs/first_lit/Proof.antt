@@ -1,7 +1,6 @@
 -- `first_lit` meets its contract. The invariant: the dark channels from here on end where those from the start do. The measure is what is left.
 -- Assumes nothing.
 use mathlib.Core.Path.{_≡_, refl}
-use native.Mathlib.Omega.{arith}
 use lib.ListN.{length, drop}
 use Prim.Native.Nat.{_+_, _-_, _≤_}
 use Rattle.cells.specs.Scan.{span}

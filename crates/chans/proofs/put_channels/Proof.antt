@@ -39,7 +39,7 @@ channel-at-requires : tie.Need-channel-at-requires Inv-loop μ-loop
 channel-at-requires c κs = omega (arith, c .before .before .before .loop-test .taken, c .before .before .before .before .before .before .before .pre .1)
 
 put-channel-requires : tie.Need-put-channel-requires Inv-loop μ-loop
-put-channel-requires c κs = putting-room (c .before .before .before .before .before .loop .inv) (c .before .before .before .before .loop-test .taken) (c .channel-at .ensures)
+put-channel-requires c κs = (putting-room (c .before .before .before .before .before .loop .inv) (c .before .before .before .before .loop-test .taken) (c .channel-at .ensures), omega (arith, c .before .before .if1 .left))
 
 pairs-after-requires : tie.Need-pairs-after-requires Inv-loop μ-loop
 pairs-after-requires c κs = c .before .before .before .before .before .before .before .before .loop .inv .most
@@ -51,7 +51,7 @@ loop-less-2 : tie.Need-loop-less-2 Inv-loop μ-loop
 loop-less-2 c = omega (arith, c .before .before .before .before .before .before .before .before .loop-test .taken)
 
 loop-again-2 : tie.Need-loop-again-2 Inv-loop μ-loop
-loop-again-2 c = putting-turn (c .before .before .before .before .before .before .before .before .before .loop .inv) (c .before .before .before .before .before .before .before .before .loop-test .taken) (c .before .before .before .before .channel-at .ensures) (c .before .before .before .put-channel .ensures) (c .pairs-after .ensures)
+loop-again-2 c = putting-turn (c .before .before .before .before .before .before .before .before .before .loop .inv) (c .before .before .before .before .before .before .before .before .loop-test .taken) (c .before .before .before .before .before .before .if1 .left) (c .before .before .before .before .channel-at .ensures) (c .before .before .before .put-channel .ensures) (c .pairs-after .ensures)
 
 put-last-requires : tie.Need-put-last-requires Inv-loop μ-loop
 put-last-requires c κs = putting-last (c .before .before .loop .inv) (c .before .loop-test .left)
