@@ -10,8 +10,8 @@ use lib.Dec.{eqb, ltb}
 use lib.ListN.{length}
 use borrow.Author.Tests.{lt-ltb, ltb-false, eqb-false}
 use Rattle.cells.proofs.Split.{by-test, by-lt, by-le}
-use Rattle.desk.specs.Name.{okNumber}
-use Rattle.desk.proofs.Name.{number-low}
+use Rattle.store_desk.specs.Name.{okNumber}
+use Rattle.store_desk.proofs.Name.{number-low}
 use Rattle.value.specs.declared.Integer.{Integer}
 use Rattle.value.specs.declared.Integer.the-variants.{Malformed, Value}
 use Rattle.value.specs.declared.Numbered.{Numbered}

@@ -2,9 +2,9 @@
 -- Assumes nothing.
 use mathlib.Core.Bool.{Bool}
 use Prim.Native.Nat.{ℕ}
-use Rattle.desk.specs.declared.Kind.{Kind}
-use Rattle.desk.specs.declared.Kind.the-variants.{Cue, Group, Sub}
-use Rattle.desk.specs.Size.{isWithin}
+use Rattle.store_desk.specs.declared.Kind.{Kind}
+use Rattle.store_desk.specs.declared.Kind.the-variants.{Cue, Group, Sub}
+use Rattle.store_desk.specs.Size.{isWithin}
 
 -- §7.2: no integer. §7.3 and §8.6 take over its rule on characters, and its number with it
 abbrev pub malformedInteger : ℕ

@@ -7,16 +7,16 @@ use mathlib.Core.List.{List, [], _∷_}
 use Prim.Native.Nat.{ℕ}
 use lib.ListN.{length}
 use Rattle.cells.specs.Pad.{padded}
-use Rattle.desk.specs.declared.Desk.{Desk}
-use Rattle.desk.specs.Size.{isWithin}
-use Rattle.desk.specs.Name.{Name}
+use Rattle.store_desk.specs.declared.Desk.{Desk}
+use Rattle.store_desk.specs.Size.{isWithin}
+use Rattle.store_desk.specs.Name.{Name}
 use Rattle.value.specs.declared.Integer.{Integer}
 use Rattle.value.specs.declared.Integer.the-variants.{Malformed, Value}
-use Rattle.level.specs.declared.Leveled.{Leveled}
-use Rattle.level.specs.declared.Leveled.the-variants.{NotPercent, NotHex, Value as IsLevel}
+use Rattle.value_level.specs.declared.Leveled.{Leveled}
+use Rattle.value_level.specs.declared.Leveled.the-variants.{NotPercent, NotHex, Value as IsLevel}
 use Rattle.value.specs.Integer.{integerOf}
-use Rattle.level.specs.Level.{levelOf}
-use Rattle.fields.specs.Words.{Word, missing}
+use Rattle.value_level.specs.Level.{levelOf}
+use Rattle.text_fields.specs.Words.{Word, missing}
 use Rattle.store.specs.declared.Edit.the-variants.{Level as SetLevel}
 use Rattle.store.specs.Change.{edited, editAt, patched}
 use Rattle.load.specs.declared.Entry.{Entry}

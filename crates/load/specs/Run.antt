@@ -7,8 +7,8 @@ use Prim.Native.Nat.{ℕ, suc, _+_, _*_}
 use lib.Dec.{eqb, ltb}
 use lib.ListN.{length, take}
 use Rattle.cells.specs.Put.{put}
-use Rattle.desk.specs.declared.Desk.{Desk}
-use Rattle.records.specs.Stream.{recordsOf}
+use Rattle.store_desk.specs.declared.Desk.{Desk}
+use Rattle.text_records.specs.Stream.{recordsOf}
 use Rattle.load.specs.declared.State.{State}
 use Rattle.load.specs.declared.Outcome.{Outcome}
 use Rattle.load.specs.declared.Totals.{Totals}

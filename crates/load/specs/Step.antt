@@ -6,20 +6,20 @@ use mathlib.Core.List.{List, [], _∷_, _++_}
 use Prim.Native.Nat.{ℕ, max}
 use lib.Dec.{eqb, ltb, leb}
 use lib.ListN.{length}
-use Rattle.desk.specs.declared.Desk.{Desk}
-use Rattle.desk.specs.declared.Key.{Key}
-use Rattle.desk.specs.declared.Kind.{Kind}
-use Rattle.desk.specs.declared.Kind.the-variants.{Cue, Group, Sub}
-use Rattle.desk.specs.Size.{isWithin}
-use Rattle.desk.specs.Name.{Name, pagesOf, supported}
-use Rattle.records.specs.Received.{longest}
-use Rattle.records.specs.Cleaning.{isHigh, isControl, has}
-use Rattle.fields.specs.declared.Keyword.{Keyword}
-use Rattle.fields.specs.declared.Keyword.the-variants as key
-use Rattle.fields.specs.declared.Item.{Item}
-use Rattle.fields.specs.declared.Item.the-variants.{All, Cues, Groups, Patch as Patches, Subs, Local as LocalItem, Other}
-use Rattle.fields.specs.Words.{Word, fieldsOf, headOf, tailOf}
-use Rattle.fields.specs.Keywords.{keywordOf, itemOf}
+use Rattle.store_desk.specs.declared.Desk.{Desk}
+use Rattle.store_desk.specs.declared.Key.{Key}
+use Rattle.store_desk.specs.declared.Kind.{Kind}
+use Rattle.store_desk.specs.declared.Kind.the-variants.{Cue, Group, Sub}
+use Rattle.store_desk.specs.Size.{isWithin}
+use Rattle.store_desk.specs.Name.{Name, pagesOf, supported}
+use Rattle.text_records.specs.Received.{longest}
+use Rattle.text_records.specs.Cleaning.{isHigh, isControl, has}
+use Rattle.text_fields.specs.declared.Keyword.{Keyword}
+use Rattle.text_fields.specs.declared.Keyword.the-variants as key
+use Rattle.text_fields.specs.declared.Item.{Item}
+use Rattle.text_fields.specs.declared.Item.the-variants.{All, Cues, Groups, Patch as Patches, Subs, Local as LocalItem, Other}
+use Rattle.text_fields.specs.Words.{Word, fieldsOf, headOf, tailOf}
+use Rattle.text_fields.specs.Keywords.{keywordOf, itemOf}
 use Rattle.value.specs.declared.Integer.{Integer}
 use Rattle.value.specs.declared.Integer.the-variants.{Malformed, Value}
 use Rattle.value.specs.declared.Numbered.{Numbered}

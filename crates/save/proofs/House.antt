@@ -7,21 +7,21 @@ use Prim.Native.Nat.{ℕ, zero, suc, _+_, _*_, _/_, _^_, _≤_, _<_}
 use native.Mathlib.Omega.{arith}
 use lib.ListN.{length, take, drop, length-append, length-take}
 use Rattle.cells.proofs.Arith.{products}
-use Rattle.desk.specs.declared.Desk.{Desk}
-use Rattle.desk.specs.declared.Kind.{Kind}
-use Rattle.desk.specs.declared.Kind.the-variants.{Cue, Group, Sub}
-use Rattle.desk.specs.Size.{InRange, house, headLength, levelWidth, levelsLength, slotLength, subSlots, slotsOf, entriesOf}
-use Rattle.desk.specs.Name.{slotCount}
-use Rattle.desk.proofs.Size.{in-range, house-in-range}
+use Rattle.store_desk.specs.declared.Desk.{Desk}
+use Rattle.store_desk.specs.declared.Kind.{Kind}
+use Rattle.store_desk.specs.declared.Kind.the-variants.{Cue, Group, Sub}
+use Rattle.store_desk.specs.Size.{InRange, house, headLength, levelWidth, levelsLength, slotLength, subSlots, slotsOf, entriesOf}
+use Rattle.store_desk.specs.Name.{slotCount}
+use Rattle.store_desk.proofs.Size.{in-range, house-in-range}
 use Rattle.store.specs.Slots.{headAt, levelsAt, keyOf}
 use Rattle.store.specs.View.{memoryAt, patchedTo}
 use Rattle.store.specs.Order.{inOrder}
 use Rattle.store.proofs.Places.{levels-part}
 use Rattle.store.proofs.Ordered.{in-order-length}
 use Rattle.store.proofs.Used.{used-le}
-use Rattle.lines.specs.Line.{joined, patchLine, primaryText}
-use Rattle.lines.proofs.Parts.{joined-nil, joined-append}
-use Rattle.lines.proofs.Bounds.{patch-most, primary-most, head-most, chan-most}
+use Rattle.save_lines.specs.Line.{joined, patchLine, primaryText}
+use Rattle.save_lines.proofs.Parts.{joined-nil, joined-append}
+use Rattle.save_lines.proofs.Bounds.{patch-most, primary-most, head-most, chan-most}
 use Rattle.save.specs.Lines.{dimmerLines, pageLines, patchLines, memoryLines, slotLines, kindLines, streamOf}
 use Rattle.save.proofs.Rules.{patched-fits, head-fits}
 use Rattle.save.proofs.Memories.{memory-sum}

@@ -5,16 +5,16 @@ use mathlib.Core.List.{List, [], _++_}
 use Prim.Native.Nat.{ℕ, zero, suc, _+_, _-_, _≤_, _<_}
 use native.Mathlib.Omega.{arith}
 use lib.ListN.{length, length-append}
-use Rattle.desk.specs.declared.Desk.{Desk}
-use Rattle.desk.specs.Size.{InRange, Within}
-use Rattle.head.specs.declared.Patch.{Patch}
+use Rattle.store_desk.specs.declared.Desk.{Desk}
+use Rattle.store_desk.specs.Size.{InRange, Within}
+use Rattle.store_head.specs.declared.Patch.{Patch}
 use Rattle.store.specs.View.{patchedTo}
 use Rattle.store_code.specs.Fits.{OnPatch}
-use Rattle.written.specs.Wrote.{wrote, wroteAt}
-use Rattle.lines.specs.Line.{joined, patchLine}
-use Rattle.lines.specs.Room.{Room}
-use Rattle.lines.proofs.Chain.{Writing, writing-start, writing-room, writing-more, writing-none}
-use Rattle.lines.proofs.Parts.{joined-nil, joined-append}
+use Rattle.value_written.specs.Wrote.{wrote, wroteAt}
+use Rattle.save_lines.specs.Line.{joined, patchLine}
+use Rattle.save_lines.specs.Room.{Room}
+use Rattle.save_lines.proofs.Chain.{Writing, writing-start, writing-room, writing-more, writing-none}
+use Rattle.save_lines.proofs.Parts.{joined-nil, joined-append}
 use Rattle.save.specs.Lines.{dimmerLines, pageLines, patchLines}
 use Rattle.save.proofs.Rules.{patched-fits, dimmers-long, pages-long}
 

@@ -9,22 +9,22 @@ use native.Mathlib.Omega.{arith}
 use lib.ListN.{length, drop, length-append, length-drop}
 use Rattle.cells.specs.Text.{bytes}
 use Rattle.cells.specs.Scan.{span}
-use Rattle.desk.specs.declared.Desk.{Desk}
-use Rattle.desk.specs.declared.Kind.{Kind}
-use Rattle.desk.specs.declared.Kind.the-variants.{Cue, Group, Sub}
-use Rattle.desk.specs.Size.{InRange, headLength, slotsOf, storeLength}
-use Rattle.desk.proofs.Size.{slot-le}
-use Rattle.desk.proofs.Name.{kind-end}
-use Rattle.head.specs.Layout.{HeadFits, PatchFits}
-use Rattle.head.proofs.Laws.{decode-fits, decode-patch-fits}
+use Rattle.store_desk.specs.declared.Desk.{Desk}
+use Rattle.store_desk.specs.declared.Kind.{Kind}
+use Rattle.store_desk.specs.declared.Kind.the-variants.{Cue, Group, Sub}
+use Rattle.store_desk.specs.Size.{InRange, headLength, slotsOf, storeLength}
+use Rattle.store_desk.proofs.Size.{slot-le}
+use Rattle.store_desk.proofs.Name.{kind-end}
+use Rattle.store_head.specs.Layout.{HeadFits, PatchFits}
+use Rattle.store_head.proofs.Laws.{decode-fits, decode-patch-fits}
 use Rattle.store.specs.Slots.{slotAt, headAt, levelsAt, keyOf}
 use Rattle.store.specs.View.{memoryAt, patchedTo}
 use Rattle.store.specs.Order.{inOrder}
 use Rattle.store.proofs.Places.{slot-length}
 use Rattle.store.proofs.Ordered.{Among, in-order-used}
-use Rattle.lines.specs.Line.{joined, patchLine, headLines, litFrom, chanLines}
-use Rattle.lines.specs.Ruled.{isSource, AllRuled}
-use Rattle.lines.proofs.Rules.{ruled-append, joined-long, patch-ruled, primary-ruled, head-ruled, chan-ruled, patch-count, head-count, chan-count}
+use Rattle.save_lines.specs.Line.{joined, patchLine, headLines, litFrom, chanLines}
+use Rattle.save_lines.specs.Ruled.{isSource, AllRuled}
+use Rattle.save_lines.proofs.Rules.{ruled-append, joined-long, patch-ruled, primary-ruled, head-ruled, chan-ruled, patch-count, head-count, chan-count}
 use Rattle.save.specs.Lines.{dimmerLines, pageLines, patchLines, memoryLines, slotLines, kindLines, linesOf}
 
 -- ---- PATCH

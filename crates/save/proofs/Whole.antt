@@ -6,11 +6,11 @@ use Prim.Native.Nat.{ℕ, _+_, _≤_}
 use native.Mathlib.Omega.{arith}
 use lib.ListN.{length, length-append}
 use Rattle.cells.specs.Text.{bytes}
-use Rattle.desk.specs.declared.Desk.{Desk}
-use Rattle.desk.specs.declared.Kind.the-variants.{Cue, Group, Sub}
-use Rattle.lines.specs.Line.{joined}
-use Rattle.lines.specs.Room.{Room}
-use Rattle.lines.proofs.Parts.{joined-append}
+use Rattle.store_desk.specs.declared.Desk.{Desk}
+use Rattle.store_desk.specs.declared.Kind.the-variants.{Cue, Group, Sub}
+use Rattle.save_lines.specs.Line.{joined}
+use Rattle.save_lines.specs.Room.{Room}
+use Rattle.save_lines.proofs.Parts.{joined-append}
 use Rattle.save.specs.Lines.{patchLines, kindLines, linesOf, streamOf}
 use Rattle.save.specs.Part.{allLines}
 

@@ -3,13 +3,13 @@
 use mathlib.Core.List.{List, [], _∷_, _++_}
 use Prim.Native.Nat.{ℕ, zero, suc, _+_}
 use Rattle.cells.specs.Text.{bytes}
-use Rattle.desk.specs.declared.Desk.{Desk}
-use Rattle.desk.specs.declared.Kind.{Kind}
-use Rattle.desk.specs.declared.Kind.the-variants.{Cue, Group, Sub}
+use Rattle.store_desk.specs.declared.Desk.{Desk}
+use Rattle.store_desk.specs.declared.Kind.{Kind}
+use Rattle.store_desk.specs.declared.Kind.the-variants.{Cue, Group, Sub}
 use Rattle.store.specs.Slots.{keyOf}
 use Rattle.store.specs.View.{Memory, memoryAt, patchedTo}
 use Rattle.store.specs.Order.{inOrder}
-use Rattle.lines.specs.Line.{joined, patchLine, primaryText, headLines, litFrom, chanLines}
+use Rattle.save_lines.specs.Line.{joined, patchLine, primaryText, headLines, litFrom, chanLines}
 
 -- ---- one PATCH record per patched dimmer, by page and dimmer
 

@@ -9,7 +9,7 @@ use lib.ListN.{length}
 use borrow.Author.Tests.{ltb-true}
 use Rattle.cells.specs.Put.{put}
 use Rattle.cells.proofs.Split.{by-test}
-use Rattle.desk.specs.Size.{house}
+use Rattle.store_desk.specs.Size.{house}
 use Rattle.save.specs.Lines.{streamOf}
 use Rattle.save.proofs.House.{house-short}
 use Rattle.show.specs.declared.Away.{Away}

@@ -12,11 +12,11 @@ use borrow.Author.Tests.{lt-ltb, le-ltb, le-leb, lt-leb, leb-true, leb-false, no
 use Rattle.cells.specs.Put.{put}
 use Rattle.cells.specs.Search.{Found, at, nowhere}
 use Rattle.cells.proofs.Split.{by-bool, clash, not-of-false}
-use Rattle.desk.specs.declared.Desk.{Desk}
-use Rattle.desk.specs.declared.Key.{Key}
-use Rattle.desk.specs.Size.{InRange, inRangeOf, storeLength, headLength, slotLength, slotsOf}
-use Rattle.desk.specs.Name.{Name, okName}
-use Rattle.desk.proofs.Size.{in-range, in-range-true}
+use Rattle.store_desk.specs.declared.Desk.{Desk}
+use Rattle.store_desk.specs.declared.Key.{Key}
+use Rattle.store_desk.specs.Size.{InRange, inRangeOf, storeLength, headLength, slotLength, slotsOf}
+use Rattle.store_desk.specs.Name.{Name, okName}
+use Rattle.store_desk.proofs.Size.{in-range, in-range-true}
 use Rattle.store.specs.declared.Place.{Place}
 use Rattle.store.specs.declared.Place.the-variants.{At, Nowhere}
 use Rattle.store.specs.Slots.{find, placeOf, levelsAt}
@@ -27,11 +27,11 @@ use Rattle.store.proofs.Start.{found-ok}
 use Rattle.store_code.specs.Fits.{Fitting}
 use Rattle.store_code.proofs.Laws.{slot-small, slot-long}
 use Rattle.store_code.specs.Answer.{LevelsOf}
-use Rattle.form.specs.Fitting.{Fitting as Formed}
+use Rattle.store_form.specs.Fitting.{Fitting as Formed}
 use Rattle.load.specs.declared.Totals.{Totals}
 use Rattle.load.specs.Run.{Run, loadOf, totalsOf, storedIn, allReports}
-use Rattle.run.specs.Loaded.{Loaded as Ran, loadedOf, loaded as ran}
-use Rattle.written.specs.Wrote.{Wrote, wrote, wroteAt}
+use Rattle.load_run.specs.Loaded.{Loaded as Ran, loadedOf, loaded as ran}
+use Rattle.value_written.specs.Wrote.{Wrote, wrote, wroteAt}
 use Rattle.save.specs.Lines.{streamOf}
 use Rattle.show.specs.declared.Away.{Away}
 use Rattle.show.specs.declared.Away.the-variants.{No, R2, R3, R4}

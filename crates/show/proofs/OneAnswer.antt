@@ -11,8 +11,8 @@ use lib.Dec.{ltb, leb}
 use lib.ListN.{length}
 use Rattle.cells.specs.Put.{put}
 use Rattle.cells.proofs.Split.{by-test}
-use Rattle.desk.specs.declared.Desk.{Desk}
-use Rattle.desk.specs.Size.{inRangeOf, storeLength}
+use Rattle.store_desk.specs.declared.Desk.{Desk}
+use Rattle.store_desk.specs.Size.{inRangeOf, storeLength}
 use Rattle.store.specs.Change.{emptied as emptiedStore}
 use Rattle.load.specs.Run.{loadOf}
 use Rattle.save.specs.Lines.{streamOf}

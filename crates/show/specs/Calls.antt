@@ -7,15 +7,15 @@ use Prim.Native.Nat.{ℕ, _+_, _*_}
 use lib.Dec.{ltb, leb}
 use lib.ListN.{length}
 use Rattle.cells.specs.Put.{put}
-use Rattle.desk.specs.declared.Desk.{Desk}
-use Rattle.desk.specs.declared.Kind.the-variants.{Cue}
-use Rattle.desk.specs.Size.{inRangeOf, storeLength}
-use Rattle.desk.specs.Name.{Name}
+use Rattle.store_desk.specs.declared.Desk.{Desk}
+use Rattle.store_desk.specs.declared.Kind.the-variants.{Cue}
+use Rattle.store_desk.specs.Size.{inRangeOf, storeLength}
+use Rattle.store_desk.specs.Name.{Name}
 use denote.Ref.{RefT, ptr, now}
 use mathlib.Core.Path.{_≡_}
 use Rattle.cells.specs.Search.{Found, at, nowhere}
-use Rattle.desk.specs.declared.Key.{Key}
-use Rattle.desk.specs.Size.{headLength, slotLength}
+use Rattle.store_desk.specs.declared.Key.{Key}
+use Rattle.store_desk.specs.Size.{headLength, slotLength}
 use Rattle.store.specs.Slots.{find, levelsAt}
 use Rattle.store.specs.Change.{emptied as emptiedStore}
 use Rattle.store.specs.Form.{goodForm}

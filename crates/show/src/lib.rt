@@ -1,8 +1,8 @@
 // The public calls (paper 01, "Calls turned away"). None has a `requires`: every desk, store, stream and output gets an answer, and a
 // call that is turned away changes no lent byte.
-use desk::Desk;
-use desk::Key;
-use desk::Kind;
+use store_desk::Desk;
+use store_desk::Key;
+use store_desk::Kind;
 use load::Totals;
 use store::Place;
 ghost use mathlib.Core.Path.{_≡_};
@@ -60,7 +60,7 @@ fn turned_away(desk: Desk, store: &[u8]) -> Away
     if store.len() < desk.store_length() {
         return Away::R3;
     }
-    if form::good_form(desk, store) {
+    if store_form::good_form(desk, store) {
         return Away::No;
     }
     Away::R4
@@ -78,7 +78,7 @@ pub fn load(desk: Desk, store: &mut [u8], stream: &[u8], reports: &mut [u32]) ->
         Away::R2 => Loaded::R2,
         Away::R3 => Loaded::R3,
         Away::R4 => Loaded::R4,
-        Away::No => Loaded::Done(run::run(desk, store, stream, reports)),
+        Away::No => Loaded::Done(load_run::run(desk, store, stream, reports)),
     }
 }
 
@@ -144,7 +144,7 @@ fn cue_slot(desk: Desk, store: &[u8], key: Key) -> Place
     requires { ⌜ goodForm desk (now store) ≡ true ⌝ }
     ensures { λ r. ⌜ r ≡ placeOf (findSlot desk (now (store .entry)) (cue key)) ⌝ }
 {
-    if desk::ok_name(desk, Kind::Cue, key) {
+    if store_desk::ok_name(desk, Kind::Cue, key) {
         return store_code::find(desk, store, Kind::Cue, key);
     }
     Place::Nowhere
@@ -211,7 +211,7 @@ fn levels_place(desk: Desk, store: &[u8], key: Key) -> Placed
     ensures { λ r. ⌜ r ≡ placedAt desk (findSlot desk (now (store .entry)) (cue key)) ⌝ }
 {
     match cue_slot(desk, store, key) {
-        Place::At(slot) => Placed::At(slot * desk.slot_length() + desk::HEAD_LENGTH),
+        Place::At(slot) => Placed::At(slot * desk.slot_length() + store_desk::HEAD_LENGTH),
         Place::Nowhere => Placed::NotKept,
     }
 }

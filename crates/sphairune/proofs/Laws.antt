@@ -6,9 +6,9 @@ use mathlib.Core.List.{List}
 use Prim.Native.Nat.{ℕ, _≤_, _<_}
 use lib.ListN.{length, getD, set}
 use lib.Seq.{set-out}
-use Rattle.desk.specs.declared.Desk.{Desk}
-use Rattle.desk.specs.declared.Needed.{Needed}
-use Rattle.desk.specs.Size.{neededOf}
+use Rattle.store_desk.specs.declared.Desk.{Desk}
+use Rattle.store_desk.specs.declared.Needed.{Needed}
+use Rattle.store_desk.specs.Size.{neededOf}
 use Rattle.load.specs.declared.Totals.{Totals}
 use Rattle.show.specs.declared.Loaded.{Loaded}
 use Rattle.show.specs.declared.Written.{Written}

@@ -3,10 +3,10 @@
 use mathlib.Core.List.{List}
 use Prim.Native.Nat.{ℕ}
 use lib.ListN.{getD, set}
-use Rattle.desk.specs.declared.Desk.{Desk}
-use Rattle.desk.specs.declared.Needed.{Needed}
-use Rattle.desk.specs.declared.Needed.the-variants.{BadDesk, Length}
-use Rattle.desk.specs.Size.{neededOf}
+use Rattle.store_desk.specs.declared.Desk.{Desk}
+use Rattle.store_desk.specs.declared.Needed.{Needed}
+use Rattle.store_desk.specs.declared.Needed.the-variants.{BadDesk, Length}
+use Rattle.store_desk.specs.Size.{neededOf}
 use Rattle.load.specs.declared.Totals.{Totals}
 use Rattle.show.specs.declared.Loaded.{Loaded}
 use Rattle.show.specs.declared.Loaded.the-variants.{R1, R2, R3, R4, Done}

@@ -9,14 +9,14 @@ use lib.ListN.{length, drop, replicate, length-replicate}
 use Rattle.cells.specs.Search.{Found, at, nowhere}
 use Rattle.cells.proofs.Search.{first-same, none-is}
 use Rattle.cells.proofs.Split.{by-bool, by-eq, by-lt, by-test, cond-true, cond-false, cond-same, clash, and-false-left, and-false-right}
-use Rattle.desk.specs.declared.Desk.{Desk}
-use Rattle.desk.specs.declared.Kind.{Kind}
-use Rattle.desk.specs.Size.{slotLength, slotsOf, storeLength}
-use Rattle.desk.specs.Name.{Name, firstSlot, slotCount, slotsEnd, kindAt, eqKind}
-use Rattle.desk.proofs.Name.{eq-kind, eq-kind-true, kind-of, kind-at, kind-end}
-use Rattle.head.specs.declared.Head.{Head}
-use Rattle.head.specs.Layout.{decodeHead, decodePatch}
-use Rattle.head.proofs.Laws.{decode-zeros}
+use Rattle.store_desk.specs.declared.Desk.{Desk}
+use Rattle.store_desk.specs.declared.Kind.{Kind}
+use Rattle.store_desk.specs.Size.{slotLength, slotsOf, storeLength}
+use Rattle.store_desk.specs.Name.{Name, firstSlot, slotCount, slotsEnd, kindAt, eqKind}
+use Rattle.store_desk.proofs.Name.{eq-kind, eq-kind-true, kind-of, kind-at, kind-end}
+use Rattle.store_head.specs.declared.Head.{Head}
+use Rattle.store_head.specs.Layout.{decodeHead, decodePatch}
+use Rattle.store_head.proofs.Laws.{decode-zeros}
 use Rattle.store.specs.Slots.{slotAt, putSlot, entryAt, headAt, isUsed, holdsAt, find, onFound}
 use Rattle.store.specs.View.{absent, kept, memoryAt, memoryOf}
 use Rattle.store.specs.Change.{onPage, hits, hitsAt, clearFrom, cleared}

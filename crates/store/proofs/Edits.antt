@@ -13,16 +13,16 @@ use Rattle.cells.specs.Search.{Found, at, nowhere}
 use Rattle.cells.proofs.Search.{first-same}
 use Rattle.cells.proofs.Put.{put-zero}
 use Rattle.cells.proofs.Split.{by-bool, by-eq, cond-true, cond-false, and-true, and-left, and-right}
-use Rattle.desk.specs.declared.Desk.{Desk}
-use Rattle.desk.specs.declared.Key.{Key}
-use Rattle.desk.specs.declared.Kind.{Kind}
-use Rattle.desk.specs.declared.Kind.the-variants.{Cue, Group, Sub}
-use Rattle.desk.specs.Size.{headLength, levelWidth, slotLength, slotsOf, storeLength}
-use Rattle.desk.specs.Name.{Name, firstSlot, slotCount, kindAt, eqKey, eqName, okNumber}
-use Rattle.desk.proofs.Name.{eq-name, ok-number}
-use Rattle.head.specs.declared.Head.{Head}
-use Rattle.head.specs.Layout.{HeadFits, encodeHead, decodeHead}
-use Rattle.head.proofs.Laws.{decode-encode, length-encode, decode-take, decode-fits}
+use Rattle.store_desk.specs.declared.Desk.{Desk}
+use Rattle.store_desk.specs.declared.Key.{Key}
+use Rattle.store_desk.specs.declared.Kind.{Kind}
+use Rattle.store_desk.specs.declared.Kind.the-variants.{Cue, Group, Sub}
+use Rattle.store_desk.specs.Size.{headLength, levelWidth, slotLength, slotsOf, storeLength}
+use Rattle.store_desk.specs.Name.{Name, firstSlot, slotCount, kindAt, eqKey, eqName, okNumber}
+use Rattle.store_desk.proofs.Name.{eq-name, ok-number}
+use Rattle.store_head.specs.declared.Head.{Head}
+use Rattle.store_head.specs.Layout.{HeadFits, encodeHead, decodeHead}
+use Rattle.store_head.proofs.Laws.{decode-encode, length-encode, decode-take, decode-fits}
 use Rattle.store.specs.declared.Edit.{Edit}
 use Rattle.store.specs.declared.Edit.the-variants.{Up, Down, Followon, Link, Level}
 use Rattle.store.specs.Slots.{slotAt, entryAt, headAt, levelPlace, keyOf, isUsed, holdsAt, find, onFound}

@@ -11,10 +11,10 @@ use Rattle.cells.specs.Put.{put}
 use Rattle.cells.proofs.Put.{length-put, part-inside, drop-after}
 use Rattle.cells.proofs.Search.{none-is}
 use Rattle.cells.proofs.Split.{clash}
-use Rattle.desk.specs.declared.Desk.{Desk}
-use Rattle.desk.specs.Size.{Within, InRange, entryLength, slotLength, slotsOf, patchStart, entriesOf, storeLength}
-use Rattle.desk.specs.Name.{Name, firstSlot, slotCount, entryOf}
-use Rattle.desk.proofs.Name.{kind-end, entry-inside}
+use Rattle.store_desk.specs.declared.Desk.{Desk}
+use Rattle.store_desk.specs.Size.{Within, InRange, entryLength, slotLength, slotsOf, patchStart, entriesOf, storeLength}
+use Rattle.store_desk.specs.Name.{Name, firstSlot, slotCount, entryOf}
+use Rattle.store_desk.proofs.Name.{kind-end, entry-inside}
 use Rattle.store.specs.Slots.{slotAt, entryAt, headAt, isUsed, holdsAt, find}
 use Rattle.store.specs.View.{absent, memoryOf, patchedTo}
 use Rattle.store.specs.Change.{patchEntry, emptied}

@@ -10,12 +10,12 @@ use lib.ListN.{length}
 use Rattle.cells.specs.Search.{Found, at, nowhere, IsFirst}
 use Rattle.cells.proofs.Search.{first-is, first-same, first-at}
 use Rattle.cells.proofs.Split.{by-bool, by-eq, cond-true, cond-false, clash, and-true, and-left, and-right, and-false-left}
-use Rattle.desk.specs.declared.Desk.{Desk}
-use Rattle.desk.specs.declared.Key.{Key}
-use Rattle.desk.specs.Size.{slotLength, slotsOf, storeLength}
-use Rattle.desk.specs.Name.{Name, firstSlot, slotCount, slotsEnd, kindAt, eqKey, eqName}
-use Rattle.desk.proofs.Name.{eq-key, eq-key-true, eq-name, eq-name-key, kind-of, kind-end}
-use Rattle.head.specs.Layout.{decodeHead}
+use Rattle.store_desk.specs.declared.Desk.{Desk}
+use Rattle.store_desk.specs.declared.Key.{Key}
+use Rattle.store_desk.specs.Size.{slotLength, slotsOf, storeLength}
+use Rattle.store_desk.specs.Name.{Name, firstSlot, slotCount, slotsEnd, kindAt, eqKey, eqName}
+use Rattle.store_desk.proofs.Name.{eq-key, eq-key-true, eq-name, eq-name-key, kind-of, kind-end}
+use Rattle.store_head.specs.Layout.{decodeHead}
 use Rattle.store.specs.Slots.{slotAt, putSlot, headAt, levelsAt, keyOf, isUsed, holdsAt, find, onFound}
 use Rattle.store.specs.View.{absent, kept, memoryAt, memoryOf}
 use Rattle.store.specs.Memories.{memoryIn}

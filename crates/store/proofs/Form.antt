@@ -12,15 +12,15 @@ use borrow.Author.Tests.{eqb-true, eq-eqb, not-true, not-false}
 use Rattle.cells.specs.Search.{Found, at, nowhere, IsFirst}
 use Rattle.cells.proofs.Search.{first-at, first-nowhere, none-is}
 use Rattle.cells.proofs.Split.{by-bool, by-eq, cond-true, cond-false, clash, and-true, and-left, and-right, and-false-left, and-false-right, not-of-true, not-of-false}
-use Rattle.desk.specs.declared.Desk.{Desk}
-use Rattle.desk.specs.declared.Key.{Key}
-use Rattle.desk.specs.declared.Kind.{Kind}
-use Rattle.desk.specs.declared.Kind.the-variants.{Cue, Group, Sub}
-use Rattle.desk.specs.Size.{slotLength, slotsOf, entriesOf, storeLength}
-use Rattle.desk.specs.Name.{Name, firstSlot, slotCount, slotsEnd, kindAt, eqName, okName, subSlot}
-use Rattle.desk.proofs.Name.{eq-key-true, eq-name, eq-name-refl, kind-of, kind-at, kind-end, sub-parts, sub-inside, sub-same}
-use Rattle.head.specs.declared.Head.{Head}
-use Rattle.head.specs.Layout.{decodeHead, decodePatch}
+use Rattle.store_desk.specs.declared.Desk.{Desk}
+use Rattle.store_desk.specs.declared.Key.{Key}
+use Rattle.store_desk.specs.declared.Kind.{Kind}
+use Rattle.store_desk.specs.declared.Kind.the-variants.{Cue, Group, Sub}
+use Rattle.store_desk.specs.Size.{slotLength, slotsOf, entriesOf, storeLength}
+use Rattle.store_desk.specs.Name.{Name, firstSlot, slotCount, slotsEnd, kindAt, eqName, okName, subSlot}
+use Rattle.store_desk.proofs.Name.{eq-key-true, eq-name, eq-name-refl, kind-of, kind-at, kind-end, sub-parts, sub-inside, sub-same}
+use Rattle.store_head.specs.declared.Head.{Head}
+use Rattle.store_head.specs.Layout.{decodeHead, decodePatch}
 use Rattle.store.specs.Slots.{slotAt, putSlot, headAt, keyOf, isUsed, holdsAt, find, onFound}
 use Rattle.store.specs.Change.{lowestUnused, newSeat, seat}
 use Rattle.store.specs.Form.{isZero, valuesFit, placeFits, nameAt, slotFits, isAt, repeatsAt, patchFits, entryFits, badSlot, repeatedSlot, badEntry, isNowhere, goodForm}

@@ -11,12 +11,12 @@ use lib.ListN.{length, take, drop, take-append-drop, length-take, List·getD-eq-
 use lib.Seq.{take-add, getD-take, getD-drop}
 use Rattle.cells.proofs.Arith.{product-next}
 use Rattle.cells.proofs.Split.{by-bool, by-lt, cond-true, cond-false}
-use Rattle.desk.specs.declared.Desk.{Desk}
-use Rattle.desk.specs.Size.{Within, InRange, headLength, entryLength, slotLength, slotsOf, patchStart, entriesOf, storeLength}
-use Rattle.desk.specs.Name.{entryOf}
-use Rattle.head.specs.Pack.{Bytes}
-use Rattle.head.specs.Layout.{encodeHead, encodePatch, decodePatch}
-use Rattle.head.proofs.Laws.{encode-decode, encode-decode-patch}
+use Rattle.store_desk.specs.declared.Desk.{Desk}
+use Rattle.store_desk.specs.Size.{Within, InRange, headLength, entryLength, slotLength, slotsOf, patchStart, entriesOf, storeLength}
+use Rattle.store_desk.specs.Name.{entryOf}
+use Rattle.store_head.specs.Pack.{Bytes}
+use Rattle.store_head.specs.Layout.{encodeHead, encodePatch, decodePatch}
+use Rattle.store_head.proofs.Laws.{encode-decode, encode-decode-patch}
 use Rattle.store.specs.Slots.{slotAt, entryAt, headAt, levelsAt, isUsed}
 use Rattle.store.specs.View.{Memory, absent, kept, memoryAt, patchedTo}
 use Rattle.store.specs.Memories.{slotView}

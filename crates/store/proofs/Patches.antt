@@ -17,12 +17,12 @@ use Rattle.cells.proofs.Pad.{drop-replicate}
 use Rattle.cells.proofs.Put.{length-put, part-before, part-after, part-inside, drop-after}
 use Rattle.cells.proofs.Search.{first-same}
 use Rattle.cells.proofs.Split.{by-bool, by-eq, by-lt, cond-true, cond-false, clash, and-true, and-left, and-right}
-use Rattle.desk.specs.declared.Desk.{Desk}
-use Rattle.desk.specs.Size.{Within, InRange, entryLength, slotLength, slotsOf, patchStart, entriesOf, storeLength}
-use Rattle.desk.specs.Name.{Name, firstSlot, slotCount, entryOf}
-use Rattle.desk.proofs.Name.{kind-end, entry-inside, entry-same}
-use Rattle.head.specs.Layout.{PatchFits, encodePatch, decodePatch}
-use Rattle.head.proofs.Laws.{decode-encode-patch, length-encode-patch, decode-patch-zeros}
+use Rattle.store_desk.specs.declared.Desk.{Desk}
+use Rattle.store_desk.specs.Size.{Within, InRange, entryLength, slotLength, slotsOf, patchStart, entriesOf, storeLength}
+use Rattle.store_desk.specs.Name.{Name, firstSlot, slotCount, entryOf}
+use Rattle.store_desk.proofs.Name.{kind-end, entry-inside, entry-same}
+use Rattle.store_head.specs.Layout.{PatchFits, encodePatch, decodePatch}
+use Rattle.store_head.proofs.Laws.{decode-encode-patch, length-encode-patch, decode-patch-zeros}
 use Rattle.store.specs.Slots.{slotAt, entryAt, isUsed, holdsAt, find, onFound}
 use Rattle.store.specs.View.{absent, kept, memoryAt, memoryOf, patchedTo}
 use Rattle.store.specs.Change.{patchEntry, patched, everyPage, onPage, patchPageLength, clearedPatch}

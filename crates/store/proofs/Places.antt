@@ -11,8 +11,8 @@ use Rattle.cells.specs.Put.{put}
 use Rattle.cells.proofs.Arith.{apart}
 use Rattle.cells.proofs.Put.{part-of-front, length-put, part-same, part-before, part-after, drop-after, put-part, record-same, record-other}
 use Rattle.cells.proofs.Split.{by-lt}
-use Rattle.desk.specs.declared.Desk.{Desk}
-use Rattle.desk.specs.Size.{headLength, entryLength, slotLength, levelsLength, slotsOf, patchStart, entriesOf, storeLength}
+use Rattle.store_desk.specs.declared.Desk.{Desk}
+use Rattle.store_desk.specs.Size.{headLength, entryLength, slotLength, levelsLength, slotsOf, patchStart, entriesOf, storeLength}
 use Rattle.store.specs.Slots.{slotAt, putSlot, entryAt, putEntry, levelsAt}
 
 -- ---- what lies within the needed length

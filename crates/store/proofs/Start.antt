@@ -11,15 +11,15 @@ use borrow.Author.Tests.{eq-eqb, not-false}
 use Rattle.cells.specs.Search.{Found, at, nowhere, firstFrom, IsFirst}
 use Rattle.cells.proofs.Search.{first-at, first-is, first-nowhere, first-none, none-is}
 use Rattle.cells.proofs.Split.{clash, not-of-true}
-use Rattle.desk.specs.declared.Desk.{Desk}
-use Rattle.desk.specs.declared.Key.{Key}
-use Rattle.desk.specs.declared.Kind.{Kind}
-use Rattle.desk.specs.declared.Kind.the-variants.{Cue, Group, Sub}
-use Rattle.desk.specs.Size.{headLength, slotLength, levelsLength, slotsOf, storeLength, InRange}
-use Rattle.desk.specs.Name.{Name, firstSlot, slotCount, slotsEnd, kindAt, supported, eqName, okName, KeyFits, subSlot}
-use Rattle.desk.proofs.Name.{kind-of, kind-end, ok-fits, no-slots, sub-parts, sub-inside}
-use Rattle.head.specs.Layout.{HeadFits, encodeHead, decodeHead}
-use Rattle.head.proofs.Laws.{decode-encode, length-encode}
+use Rattle.store_desk.specs.declared.Desk.{Desk}
+use Rattle.store_desk.specs.declared.Key.{Key}
+use Rattle.store_desk.specs.declared.Kind.{Kind}
+use Rattle.store_desk.specs.declared.Kind.the-variants.{Cue, Group, Sub}
+use Rattle.store_desk.specs.Size.{headLength, slotLength, levelsLength, slotsOf, storeLength, InRange}
+use Rattle.store_desk.specs.Name.{Name, firstSlot, slotCount, slotsEnd, kindAt, supported, eqName, okName, KeyFits, subSlot}
+use Rattle.store_desk.proofs.Name.{kind-of, kind-end, ok-fits, no-slots, sub-parts, sub-inside}
+use Rattle.store_head.specs.Layout.{HeadFits, encodeHead, decodeHead}
+use Rattle.store_head.proofs.Laws.{decode-encode, length-encode}
 use Rattle.store.specs.Slots.{slotAt, putSlot, entryAt, headAt, keyOf, isUsed, holdsAt, find, onFound}
 use Rattle.store.specs.View.{Memory, absent, kept, memoryAt, memoryOf}
 use Rattle.store.specs.Change.{lowestUnused, newSeat, seat, blankHead, blankSlot, started}

@@ -7,12 +7,12 @@ use Prim.Native.Nat.{ℕ}
 use lib.ListN.{take, set, replicate}
 use Rattle.cells.specs.Put.{put}
 use Rattle.cells.specs.Search.{firstFrom}
-use Rattle.desk.specs.declared.Desk.{Desk}
-use Rattle.desk.specs.declared.Kind.the-variants.{Cue}
-use Rattle.desk.specs.Size.{allOf, levelWidth, levelsLength, slotLength, subSlots, slotsOf, patchStart, entriesOf}
-use Rattle.desk.specs.Name.{Name, firstSlot, slotCount, pagesOf, kindAt, supported, eqKey, lessKey, okNumber, okSub, okWithin, okPage, okName, subSlot, entryOf}
-use Rattle.head.specs.Pack.{total, packed, unpacked}
-use Rattle.head.specs.Layout.{encodeHead, decodeHead, encodePatch, decodePatch}
+use Rattle.store_desk.specs.declared.Desk.{Desk}
+use Rattle.store_desk.specs.declared.Kind.the-variants.{Cue}
+use Rattle.store_desk.specs.Size.{allOf, levelWidth, levelsLength, slotLength, subSlots, slotsOf, patchStart, entriesOf}
+use Rattle.store_desk.specs.Name.{Name, firstSlot, slotCount, pagesOf, kindAt, supported, eqKey, lessKey, okNumber, okSub, okWithin, okPage, okName, subSlot, entryOf}
+use Rattle.store_head.specs.Pack.{total, packed, unpacked}
+use Rattle.store_head.specs.Layout.{encodeHead, decodeHead, encodePatch, decodePatch}
 use Rattle.store.specs.declared.Edit.the-variants.{Up, Link, Level}
 use Rattle.store.specs.Slots.{slotAt, putSlot, entryAt, putEntry, headAt, levelPlace, holdsAt, find, onFound}
 use Rattle.store.specs.Change.{lowestUnused, newSeat, seat, blankHead, blankSlot, started, editHead, withHead, editSlot, editAt, edited, patched, hitsAt, clearFrom, cleared}

@@ -10,11 +10,11 @@ use lib.ListN.{length}
 use Rattle.cells.specs.Search.{at, nowhere, countFrom}
 use Rattle.cells.proofs.Search.{first-nowhere, count-same, count-more, count-le}
 use Rattle.cells.proofs.Split.{by-bool, by-eq, by-or, cond-true, cond-false, clash, or-true-left, or-false}
-use Rattle.desk.specs.declared.Desk.{Desk}
-use Rattle.desk.specs.declared.Kind.{Kind}
-use Rattle.desk.specs.Name.{Name, firstSlot, slotCount, slotsEnd, kindAt, eqKey, eqName, okName}
-use Rattle.desk.proofs.Name.{eq-key, eq-name-true, kind-of}
-use Rattle.head.specs.Layout.{decodeHead}
+use Rattle.store_desk.specs.declared.Desk.{Desk}
+use Rattle.store_desk.specs.declared.Kind.{Kind}
+use Rattle.store_desk.specs.Name.{Name, firstSlot, slotCount, slotsEnd, kindAt, eqKey, eqName, okName}
+use Rattle.store_desk.proofs.Name.{eq-key, eq-name-true, kind-of}
+use Rattle.store_head.specs.Layout.{decodeHead}
 use Rattle.store.specs.Slots.{slotAt, headAt, keyOf, isUsed, holdsAt, find}
 use Rattle.store.specs.Change.{blankSlot, seat, started}
 use Rattle.store.specs.Memories.{usedCount}

@@ -8,15 +8,15 @@ use lib.Dec.{eqb}
 use lib.ListN.{replicate, set}
 use Rattle.cells.specs.Put.{put}
 use Rattle.cells.specs.Search.{Found, at, firstFrom}
-use Rattle.desk.specs.declared.Desk.{Desk}
-use Rattle.desk.specs.declared.Key.{Key}
-use Rattle.desk.specs.declared.Kind.{Kind}
-use Rattle.desk.specs.declared.Kind.the-variants.{Cue, Group, Sub}
-use Rattle.desk.specs.Size.{entryLength, slotLength, levelsLength, patchStart, entriesOf, storeLength}
-use Rattle.desk.specs.Name.{Name, eqKind, firstSlot, slotCount, subSlot, entryOf}
-use Rattle.head.specs.declared.Head.{Head}
-use Rattle.head.specs.declared.Patch.{Patch}
-use Rattle.head.specs.Layout.{decodeHead, encodeHead, encodePatch}
+use Rattle.store_desk.specs.declared.Desk.{Desk}
+use Rattle.store_desk.specs.declared.Key.{Key}
+use Rattle.store_desk.specs.declared.Kind.{Kind}
+use Rattle.store_desk.specs.declared.Kind.the-variants.{Cue, Group, Sub}
+use Rattle.store_desk.specs.Size.{entryLength, slotLength, levelsLength, patchStart, entriesOf, storeLength}
+use Rattle.store_desk.specs.Name.{Name, eqKind, firstSlot, slotCount, subSlot, entryOf}
+use Rattle.store_head.specs.declared.Head.{Head}
+use Rattle.store_head.specs.declared.Patch.{Patch}
+use Rattle.store_head.specs.Layout.{decodeHead, encodeHead, encodePatch}
 use Rattle.store.specs.declared.Edit.{Edit}
 use Rattle.store.specs.declared.Edit.the-variants.{Up, Down, Followon, Link, Level}
 use Rattle.store.specs.Slots.{slotAt, putSlot, putEntry, headAt, levelPlace, keyOf, isUsed, find, onFound}

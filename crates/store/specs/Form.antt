@@ -6,15 +6,15 @@ use mathlib.Core.List.{List, [], _∷_}
 use Prim.Native.Nat.{ℕ}
 use lib.Dec.{eqb, leb}
 use Rattle.cells.specs.Search.{Found, at, nowhere, firstFrom}
-use Rattle.desk.specs.declared.Desk.{Desk}
-use Rattle.desk.specs.declared.Key.{Key}
-use Rattle.desk.specs.declared.Kind.{Kind}
-use Rattle.desk.specs.declared.Kind.the-variants.{Cue, Group, Sub}
-use Rattle.desk.specs.Size.{slotsOf, entriesOf}
-use Rattle.desk.specs.Name.{Name, kindAt, okNumber, okName, subSlot}
-use Rattle.head.specs.declared.Head.{Head}
-use Rattle.head.specs.declared.Patch.{Patch}
-use Rattle.head.specs.Layout.{decodePatch}
+use Rattle.store_desk.specs.declared.Desk.{Desk}
+use Rattle.store_desk.specs.declared.Key.{Key}
+use Rattle.store_desk.specs.declared.Kind.{Kind}
+use Rattle.store_desk.specs.declared.Kind.the-variants.{Cue, Group, Sub}
+use Rattle.store_desk.specs.Size.{slotsOf, entriesOf}
+use Rattle.store_desk.specs.Name.{Name, kindAt, okNumber, okName, subSlot}
+use Rattle.store_head.specs.declared.Head.{Head}
+use Rattle.store_head.specs.declared.Patch.{Patch}
+use Rattle.store_head.specs.Layout.{decodePatch}
 use Rattle.store.specs.declared.Edit.{Edit}
 use Rattle.store.specs.declared.Edit.the-variants.{Up, Down, Followon, Link, Level}
 use Rattle.store.specs.Slots.{slotAt, entryAt, headAt, keyOf, isUsed, find}

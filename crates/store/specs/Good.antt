@@ -5,8 +5,8 @@ use mathlib.Core.List.{List}
 use mathlib.Core.Path.{_≡_}
 use Prim.Native.Nat.{ℕ, _<_, _≤_}
 use lib.ListN.{length}
-use Rattle.desk.specs.declared.Desk.{Desk}
-use Rattle.desk.specs.Size.{InRange, slotsOf, entriesOf, storeLength}
+use Rattle.store_desk.specs.declared.Desk.{Desk}
+use Rattle.store_desk.specs.Size.{InRange, slotsOf, entriesOf, storeLength}
 use Rattle.store.specs.Form.{slotFits, repeatsAt, entryFits}
 
 pub record GoodForm (d : Desk) (s : List ℕ) : Type 0 where

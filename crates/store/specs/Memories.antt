@@ -6,12 +6,12 @@ use mathlib.Core.Path.{_≡_}
 use Prim.Native.Nat.{ℕ, _-_, _*_, _≤_, _<_}
 use lib.ListN.{drop, set, replicate}
 use Rattle.cells.specs.Search.{countFrom}
-use Rattle.desk.specs.declared.Desk.{Desk}
-use Rattle.desk.specs.declared.Key.{Key}
-use Rattle.desk.specs.declared.Kind.{Kind}
-use Rattle.desk.specs.Size.{headLength, levelWidth, levelsLength}
-use Rattle.desk.specs.Name.{firstSlot, slotCount, okNumber}
-use Rattle.head.specs.Layout.{decodeHead}
+use Rattle.store_desk.specs.declared.Desk.{Desk}
+use Rattle.store_desk.specs.declared.Key.{Key}
+use Rattle.store_desk.specs.declared.Kind.{Kind}
+use Rattle.store_desk.specs.Size.{headLength, levelWidth, levelsLength}
+use Rattle.store_desk.specs.Name.{firstSlot, slotCount, okNumber}
+use Rattle.store_head.specs.Layout.{decodeHead}
 use Rattle.store.specs.declared.Edit.{Edit}
 use Rattle.store.specs.declared.Edit.the-variants.{Up, Down, Followon, Link, Level}
 use Rattle.store.specs.Slots.{headAt, isUsed}

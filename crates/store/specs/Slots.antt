@@ -8,13 +8,13 @@ use lib.Dec.{eqb}
 use lib.ListN.{take, drop}
 use Rattle.cells.specs.Put.{put}
 use Rattle.cells.specs.Search.{Found, at, nowhere, firstFrom}
-use Rattle.desk.specs.declared.Desk.{Desk}
-use Rattle.desk.specs.declared.Key.{Key}
-use Rattle.desk.specs.Size.{headLength, entryLength, levelWidth, slotLength, patchStart}
-use Rattle.desk.specs.Name.{Name, eqKey, firstSlot, slotCount}
-use Rattle.head.specs.declared.Head.{Head}
-use Rattle.head.specs.declared.Patch.{Patch}
-use Rattle.head.specs.Layout.{decodeHead, decodePatch}
+use Rattle.store_desk.specs.declared.Desk.{Desk}
+use Rattle.store_desk.specs.declared.Key.{Key}
+use Rattle.store_desk.specs.Size.{headLength, entryLength, levelWidth, slotLength, patchStart}
+use Rattle.store_desk.specs.Name.{Name, eqKey, firstSlot, slotCount}
+use Rattle.store_head.specs.declared.Head.{Head}
+use Rattle.store_head.specs.declared.Patch.{Patch}
+use Rattle.store_head.specs.Layout.{decodeHead, decodePatch}
 use Rattle.store.specs.declared.Place.{Place}
 use Rattle.store.specs.declared.Place.the-variants.{At, Nowhere}
 

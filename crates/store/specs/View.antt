@@ -3,11 +3,11 @@
 use mathlib.Core.List.{List}
 use Prim.Native.Nat.{ℕ}
 use lib.ListN.{drop}
-use Rattle.desk.specs.declared.Desk.{Desk}
-use Rattle.desk.specs.Name.{Name, entryOf}
-use Rattle.head.specs.declared.Head.{Head}
-use Rattle.head.specs.declared.Patch.{Patch}
-use Rattle.head.specs.Layout.{decodePatch}
+use Rattle.store_desk.specs.declared.Desk.{Desk}
+use Rattle.store_desk.specs.Name.{Name, entryOf}
+use Rattle.store_head.specs.declared.Head.{Head}
+use Rattle.store_head.specs.declared.Patch.{Patch}
+use Rattle.store_head.specs.Layout.{decodePatch}
 use Rattle.store.specs.Slots.{headAt, levelsAt, entryAt, find, onFound}
 
 -- a kept memory: its head (times, link) and the level bytes of its channels

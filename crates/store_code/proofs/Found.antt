@@ -9,13 +9,13 @@ use Prim.Native.Nat.{ℕ, _-_, _<_}
 use native.Mathlib.Omega.{arith}
 use Rattle.cells.specs.Search.{Found, at, nowhere, firstFrom, IsFirst}
 use Rattle.cells.proofs.Search.{first-at}
-use Rattle.desk.specs.declared.Desk.{Desk}
-use Rattle.desk.specs.declared.Key.{Key}
-use Rattle.desk.specs.declared.Kind.{Kind}
-use Rattle.desk.specs.declared.Kind.the-variants.{Cue, Group, Sub}
-use Rattle.desk.specs.Size.{Within, slotsOf}
-use Rattle.desk.specs.Name.{Name, firstSlot, slotCount, pagesOf, okName, okWithin, subSlot}
-use Rattle.desk.proofs.Name.{kind-end, ok-page, ok-within, ok-sub, sub-inside}
+use Rattle.store_desk.specs.declared.Desk.{Desk}
+use Rattle.store_desk.specs.declared.Key.{Key}
+use Rattle.store_desk.specs.declared.Kind.{Kind}
+use Rattle.store_desk.specs.declared.Kind.the-variants.{Cue, Group, Sub}
+use Rattle.store_desk.specs.Size.{Within, slotsOf}
+use Rattle.store_desk.specs.Name.{Name, firstSlot, slotCount, pagesOf, okName, okWithin, subSlot}
+use Rattle.store_desk.proofs.Name.{kind-end, ok-page, ok-within, ok-sub, sub-inside}
 use Rattle.store.specs.declared.Place.{Place}
 use Rattle.store.specs.declared.Place.the-variants.{At, Nowhere}
 use Rattle.store.specs.Slots.{putSlot, find, onFound, placeOf}

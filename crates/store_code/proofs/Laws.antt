@@ -16,16 +16,16 @@ use lib.Seq.{length-take-le, drop-drop}
 use Rattle.cells.specs.Put.{put}
 use Rattle.cells.proofs.Arith.{within, apart}
 use Rattle.cells.proofs.Put.{length-put, put-back, put-front, put-fill, put-next, put-zero, part-of-front}
-use Rattle.desk.specs.declared.Desk.{Desk}
-use Rattle.desk.specs.declared.Key.{Key}
-use Rattle.desk.specs.declared.Kind.{Kind}
-use Rattle.desk.specs.Size.{Within, InRange, levelWidth, levelsLength, slotLength, slotsOf, patchStart, entriesOf, storeLength}
-use Rattle.desk.specs.Name.{KeyFits, slotsEnd, firstSlot, slotCount, entryOf}
-use Rattle.desk.proofs.Size.{width-le, slot-le, slots-le, patch-le, store-le}
-use Rattle.desk.proofs.Name.{kind-end, entry-inside}
-use Rattle.head.specs.declared.Head.{Head}
-use Rattle.head.specs.Layout.{HeadFits, encodeHead, decodeHead, encodePatch}
-use Rattle.head.proofs.Laws.{length-encode, decode-fits, length-encode-patch}
+use Rattle.store_desk.specs.declared.Desk.{Desk}
+use Rattle.store_desk.specs.declared.Key.{Key}
+use Rattle.store_desk.specs.declared.Kind.{Kind}
+use Rattle.store_desk.specs.Size.{Within, InRange, levelWidth, levelsLength, slotLength, slotsOf, patchStart, entriesOf, storeLength}
+use Rattle.store_desk.specs.Name.{KeyFits, slotsEnd, firstSlot, slotCount, entryOf}
+use Rattle.store_desk.proofs.Size.{width-le, slot-le, slots-le, patch-le, store-le}
+use Rattle.store_desk.proofs.Name.{kind-end, entry-inside}
+use Rattle.store_head.specs.declared.Head.{Head}
+use Rattle.store_head.specs.Layout.{HeadFits, encodeHead, decodeHead, encodePatch}
+use Rattle.store_head.proofs.Laws.{length-encode, decode-fits, length-encode-patch}
 use Rattle.store.specs.declared.Edit.{Edit}
 use Rattle.store.specs.declared.Edit.the-variants.{Up, Down, Followon, Link, Level}
 use Rattle.store.specs.Slots.{slotAt, putSlot, entryAt, putEntry, levelsAt, levelPlace}

@@ -13,15 +13,15 @@ use borrow.Author.Tests.{eqb-true, eq-eqb, ne-eqb, leb-true, le-leb, lt-ltb, le-
 use Rattle.cells.specs.Search.{Found, at, firstFrom}
 use Rattle.cells.proofs.Search.{first-same, search-hit, search-miss}
 use Rattle.cells.proofs.Split.{by-bool, by-lt, same-test, and-true, and-left, and-right, or-true-left, or-true-right, by-or, not-of-true, not-of-false}
-use Rattle.desk.specs.declared.Desk.{Desk}
-use Rattle.desk.specs.declared.Key.{Key}
-use Rattle.desk.specs.declared.Kind.{Kind}
-use Rattle.desk.specs.Size.{slotLength, slotsOf}
-use Rattle.desk.specs.Name.{KeyFits, eqKey, firstSlot, slotCount}
-use Rattle.desk.proofs.Name.{eq-key, eq-key-true, kind-end}
-use Rattle.head.specs.Pack.{total, packed, Bytes}
-use Rattle.head.specs.Layout.{HeadFits, wordOf}
-use Rattle.head.proofs.Laws.{decode-fits, quick-is}
+use Rattle.store_desk.specs.declared.Desk.{Desk}
+use Rattle.store_desk.specs.declared.Key.{Key}
+use Rattle.store_desk.specs.declared.Kind.{Kind}
+use Rattle.store_desk.specs.Size.{slotLength, slotsOf}
+use Rattle.store_desk.specs.Name.{KeyFits, eqKey, firstSlot, slotCount}
+use Rattle.store_desk.proofs.Name.{eq-key, eq-key-true, kind-end}
+use Rattle.store_head.specs.Pack.{total, packed, Bytes}
+use Rattle.store_head.specs.Layout.{HeadFits, wordOf}
+use Rattle.store_head.proofs.Laws.{decode-fits, quick-is}
 use Rattle.store.specs.Slots.{slotAt, headAt, keyOf, isUsed, holdsAt, find}
 use Rattle.store.specs.Change.{onPage, hitsAt, lowestUnused}
 use Rattle.store_code.specs.Fits.{Fitting}

@@ -5,11 +5,11 @@ use mathlib.Core.Path.{_≡_}
 use mathlib.Core.List.{List}
 use Prim.Native.Nat.{ℕ, _+_, _*_}
 use denote.Ref.{RefT, ptr, now}
-use Rattle.desk.specs.declared.Desk.{Desk}
-use Rattle.desk.specs.declared.Key.{Key}
-use Rattle.desk.specs.declared.Kind.{Kind}
-use Rattle.desk.specs.Size.{headLength, slotLength}
-use Rattle.desk.specs.Name.{Name}
+use Rattle.store_desk.specs.declared.Desk.{Desk}
+use Rattle.store_desk.specs.declared.Key.{Key}
+use Rattle.store_desk.specs.declared.Kind.{Kind}
+use Rattle.store_desk.specs.Size.{headLength, slotLength}
+use Rattle.store_desk.specs.Name.{Name}
 use Rattle.store.specs.declared.Place.{Place}
 use Rattle.store.specs.Slots.{levelsAt, placeOf}
 use Rattle.store.specs.Change.{seat, started}

@@ -5,20 +5,20 @@ ghost use mathlib.Core.List.{_++_};
 ghost use Prim.Native.Nat.{_+_, _-_, _*_, _≤_, _<_};
 ghost use lib.ListN.{length, replicate};
 ghost use Rattle.cells.specs.Put.{put};
-ghost use Rattle.desk.specs.Size.{Within, InRange, headLength, entryLength, slotLength, slotsOf, patchStart};
-ghost use Rattle.desk.specs.Name.{okName, KeyFits, entryOf};
-ghost use Rattle.head.specs.Layout.{HeadFits, encodeHead, decodeHead};
+ghost use Rattle.store_desk.specs.Size.{Within, InRange, headLength, entryLength, slotLength, slotsOf, patchStart};
+ghost use Rattle.store_desk.specs.Name.{okName, KeyFits, entryOf};
+ghost use Rattle.store_head.specs.Layout.{HeadFits, encodeHead, decodeHead};
 ghost use Rattle.store.specs.Slots.{slotAt, putSlot, headAt, placeOf, find as findSlot};
 ghost use Rattle.store.specs.View.{patchedTo};
 ghost use Rattle.store.specs.Change.{lowestUnused, newSeat, seat as seatOf, blankHead, blankSlot, editHead, withHead, editSlot, editAt, patched, hitsAt, cleared, clearedPatch, emptied};
 ghost use Rattle.store.specs.Order.{slotWord};
 ghost use Rattle.store_code.specs.Fits.{Fitting, Editing, OnPatch};
 ghost use Rattle.store_code.specs.Answer.{nameOf, startedAs, startOf, LevelsOf};
-use desk::Desk;
-use desk::Key;
-use desk::Kind;
-use head::Head;
-use head::Patch;
+use store_desk::Desk;
+use store_desk::Key;
+use store_desk::Kind;
+use store_head::Head;
+use store_head::Patch;
 use store::Edit;
 use store::Place;
 
@@ -58,7 +58,7 @@ pub fn word_at(desk: Desk, store: &[u8], slot: usize) -> u32
     requires { ⌜ slot < slotsOf desk ⌝ }
     ensures { λ r. ⌜ r ≡ slotWord desk (now (store .entry)) slot ⌝ }
 {
-    head::quick(slot_bytes(desk, store, slot))
+    store_head::quick(slot_bytes(desk, store, slot))
 }
 
 pub fn head_of(desk: Desk, store: &[u8], slot: usize) -> Head
@@ -66,7 +66,7 @@ pub fn head_of(desk: Desk, store: &[u8], slot: usize) -> Head
     requires { ⌜ slot < slotsOf desk ⌝ }
     ensures { λ r. ⌜ r ≡ headAt desk (now (store .entry)) slot ⌝ }
 {
-    head::decode(slot_bytes(desk, store, slot))
+    store_head::decode(slot_bytes(desk, store, slot))
 }
 
 // The very bytes in the store, with no copying.
@@ -75,7 +75,7 @@ pub fn levels<'a>(desk: Desk, store: &'a [u8], slot: usize) -> &'a [u8]
     requires { ⌜ slot < slotsOf desk ⌝ }
     ensures { λ r. ⌜ LevelsOf desk (store .entry) slot r ⌝ }
 {
-    let at = slot_start(desk, slot) + desk::HEAD_LENGTH;
+    let at = slot_start(desk, slot) + store_desk::HEAD_LENGTH;
     let end = slot_end(desk, slot);
     &store[at..end]
 }
@@ -88,9 +88,9 @@ pub fn find(desk: Desk, store: &[u8], kind: Kind, key: Key) -> Place
     requires { ⌜ KeyFits key ⌝ }
     ensures { λ r. ⌜ r ≡ placeOf (findSlot desk (now (store .entry)) (nameOf kind key)) ⌝ }
 {
-    let wanted = head::quick_key(key.page, key.whole, key.fraction);
-    let first = desk::first_slot(desk, kind);
-    let end = first + desk::slot_count(desk, kind);
+    let wanted = store_head::quick_key(key.page, key.whole, key.fraction);
+    let first = store_desk::first_slot(desk, kind);
+    let end = first + store_desk::slot_count(desk, kind);
     let mut i = first;
     while i < end {
         if word_at(desk, store, i) == wanted {
@@ -106,9 +106,9 @@ fn lowest_unused(desk: Desk, store: &[u8], kind: Kind) -> Place
     requires { ⌜ Fitting desk (now store) ⌝ }
     ensures { λ r. ⌜ r ≡ placeOf (lowestUnused desk (now (store .entry)) kind) ⌝ }
 {
-    let least_used = head::quick_key(0, 0, 0);
-    let first = desk::first_slot(desk, kind);
-    let end = first + desk::slot_count(desk, kind);
+    let least_used = store_head::quick_key(0, 0, 0);
+    let first = store_desk::first_slot(desk, kind);
+    let end = first + store_desk::slot_count(desk, kind);
     let mut i = first;
     while i < end {
         if word_at(desk, store, i) < least_used {
@@ -128,7 +128,7 @@ fn new_seat(desk: Desk, store: &[u8], kind: Kind, key: Key) -> Place
     match kind {
         Kind::Cue => lowest_unused(desk, store, kind),
         Kind::Group => lowest_unused(desk, store, kind),
-        Kind::Sub => Place::At(desk::sub_slot(desk, key)),
+        Kind::Sub => Place::At(store_desk::sub_slot(desk, key)),
     }
 }
 
@@ -177,9 +177,9 @@ fn write_afresh(slot: &mut [u8], h: Head)
     requires { ⌜ headLength ≤ length (now slot) ⌝ }
     ensures { λ _. ⌜ now (slot .exit) ≡ encodeHead h ++ replicate (length (now (slot .entry)) - headLength) 0 ⌝ }
 {
-    let bytes = head::encode(h);
+    let bytes = store_head::encode(h);
     cells::copy(&mut *slot, &bytes);
-    let at = desk::HEAD_LENGTH;
+    let at = store_desk::HEAD_LENGTH;
     cells::fill(&mut slot[at..], 0);
 }
 
@@ -252,8 +252,8 @@ fn change_head(slot: &mut [u8], e: Edit)
     requires { ⌜ headLength ≤ length (now slot) ⌝ }
     ensures { λ _. ⌜ now (slot .exit) ≡ withHead e (now (slot .entry)) ⌝ }
 {
-    let h = changed(e, head::decode(slot));
-    let bytes = head::encode(h);
+    let h = changed(e, store_head::decode(slot));
+    let bytes = store_head::encode(h);
     cells::copy(&mut *slot, &bytes);
 }
 
@@ -265,7 +265,7 @@ fn set_level(desk: Desk, slot: &mut [u8], channel: u32, level: u8)
     ensures { λ _. ⌜ now (slot .exit) ≡ editSlot desk (Edit.Level channel level) (now (slot .entry)) ⌝ }
 {
     let n = cells::place(channel) - 1;
-    let at = desk::HEAD_LENGTH + n * desk.level_width();
+    let at = store_desk::HEAD_LENGTH + n * desk.level_width();
     slot[at] = level;
 }
 
@@ -304,7 +304,7 @@ fn entry_start(desk: Desk, page: u32, dimmer: u32) -> usize
     requires { ⌜ OnPatch desk page dimmer ⌝ }
     ensures { λ r. ⌜ r ≡ patchStart desk + entryOf desk page dimmer * entryLength ⌝ }
 {
-    desk.patch_start() + desk::entry_of(desk, page, dimmer) * desk::ENTRY_LENGTH
+    desk.patch_start() + store_desk::entry_of(desk, page, dimmer) * store_desk::ENTRY_LENGTH
 }
 
 pub fn patch_of(desk: Desk, store: &[u8], page: u32, dimmer: u32) -> Patch
@@ -313,8 +313,8 @@ pub fn patch_of(desk: Desk, store: &[u8], page: u32, dimmer: u32) -> Patch
     ensures { λ r. ⌜ r ≡ patchedTo desk (now (store .entry)) page dimmer ⌝ }
 {
     let at = entry_start(desk, page, dimmer);
-    let end = at + desk::ENTRY_LENGTH;
-    head::decode_patch(&store[at..end])
+    let end = at + store_desk::ENTRY_LENGTH;
+    store_head::decode_patch(&store[at..end])
 }
 
 // A dimmer has one channel, the last given.
@@ -324,13 +324,13 @@ pub fn patch_dimmer(desk: Desk, store: &mut [u8], page: u32, dimmer: u32, channe
     requires { ⌜ channel < 1024 ⌝ }
     ensures { λ _. ⌜ now (store .exit) ≡ patched desk (now (store .entry)) page dimmer channel level ⌝ }
 {
-    let bytes = head::encode_patch(Patch {
+    let bytes = store_head::encode_patch(Patch {
         channel,
         level: cells::wide32(level),
         rest: 0,
     });
     let at = entry_start(desk, page, dimmer);
-    let end = at + desk::ENTRY_LENGTH;
+    let end = at + store_desk::ENTRY_LENGTH;
     cells::copy(&mut store[at..end], &bytes);
 }
 
@@ -350,12 +350,12 @@ fn hits(desk: Desk, store: &[u8], slot: usize, page: u32) -> bool
 {
     let word = word_at(desk, store, slot);
     if page == 0 {
-        return head::quick_key(0, 0, 0) <= word;
+        return store_head::quick_key(0, 0, 0) <= word;
     }
-    if word < head::quick_key(page, 0, 0) {
+    if word < store_head::quick_key(page, 0, 0) {
         return false;
     }
-    word <= head::quick_key(page, LAST_WHOLE, LAST_FRACTION)
+    word <= store_head::quick_key(page, LAST_WHOLE, LAST_FRACTION)
 }
 
 // So many bytes from a place on become zero.
@@ -394,8 +394,8 @@ pub fn clear_kind(desk: Desk, store: &mut [u8], kind: Kind, page: u32)
     requires { ⌜ page < 64 ⌝ }
     ensures { λ _. ⌜ now (store .exit) ≡ cleared desk (now (store .entry)) kind page ⌝ }
 {
-    let first = desk::first_slot(desk, kind);
-    let end = first + desk::slot_count(desk, kind);
+    let first = store_desk::first_slot(desk, kind);
+    let end = first + store_desk::slot_count(desk, kind);
     let mut i = first;
     while i < end {
         clear_slot(desk, &mut *store, i, page);
@@ -411,10 +411,10 @@ pub fn clear_patch(desk: Desk, store: &mut [u8], page: u32)
 {
     let start = desk.patch_start();
     if page == 0 {
-        zero(store, start, desk.entries() * desk::ENTRY_LENGTH);
+        zero(store, start, desk.entries() * store_desk::ENTRY_LENGTH);
         return;
     }
-    let count = cells::place(desk.dimmers) * desk::ENTRY_LENGTH;
+    let count = cells::place(desk.dimmers) * store_desk::ENTRY_LENGTH;
     let at = start + (cells::place(page) - 1) * count;
     zero(store, at, count);
 }

@@ -1,5 +1,5 @@
 // Reads a show from standard input into an empty house small desk; prints its reports, the END line and the written stream (paper 01,
-// "The written stream"). `session::tidy` says what is printed, of the bytes that are read.
+// "The written stream"). `tidy_session::tidy` says what is printed, of the bytes that are read.
 use libc::STDIN_FILENO;
 use libc::STDOUT_FILENO;
 
@@ -7,7 +7,7 @@ use libc::STDOUT_FILENO;
 fn main() {
     let mut input = io::large_buffer();
     let n = io::read_full(STDIN_FILENO, &mut input);
-    let mut out = session::buffer();
-    let end = session::tidy(&input[..n], &mut out);
+    let mut out = tidy_session::buffer();
+    let end = tidy_session::tidy(&input[..n], &mut out);
     io::write_all(STDOUT_FILENO, &out[..end]);
 }

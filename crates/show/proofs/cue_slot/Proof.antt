@@ -1,6 +1,6 @@
 -- `cue_slot` meets its contract: a name that the desk can't have is kept in no store in good form.
 -- Assumes nothing.
-use Rattle.desk.proofs.Name.{ok-fits}
+use Rattle.store_desk.proofs.Name.{ok-fits}
 use Rattle.show.proofs.Laws.{unnamed}
 use Rattle.show.proofs.cue_slot.Statement.{statement}
 use Rattle.show.proofs.cue_slot.Tie as tie

@@ -1,6 +1,6 @@
 -- `sphairune_needed` meets its contract: each case of the answer gives its number, and the length goes into the lent list.
 -- Assumes nothing.
-use Rattle.desk.specs.declared.Needed.the-variants.{BadDesk, Length}
+use Rattle.store_desk.specs.declared.Needed.the-variants.{BadDesk, Length}
 use Rattle.sphairune.proofs.Laws.{needed-by}
 use Rattle.sphairune.proofs.sphairune_needed.Statement.{statement}
 use Rattle.sphairune.proofs.sphairune_needed.Tie as tie

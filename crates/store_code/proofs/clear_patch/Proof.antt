@@ -1,7 +1,7 @@
 -- `clear_patch` meets its contract: the entries of every page, or of one, lie in the store and become zero.
 -- Assumes nothing.
 use native.Mathlib.Omega.{arith}
-use Rattle.desk.proofs.Size.{entries-le}
+use Rattle.store_desk.proofs.Size.{entries-le}
 use Rattle.store_code.proofs.Laws.{patch-room, patch-cleared, page-room, page-small, page-cleared}
 use borrow.Author.Needs.{needs}
 use Rattle.store_code.proofs.clear_patch.Statement.{statement}

@@ -2,7 +2,7 @@
 -- Assumes nothing.
 use mathlib.Core.Path.{_∙_, ap}
 use Rattle.store_code.proofs.Laws.{slot-head}
-use Rattle.head.specs.Layout.{decodeHead}
+use Rattle.store_head.specs.Layout.{decodeHead}
 use Rattle.store.specs.Slots.{headAt}
 use borrow.Author.Needs.{needs}
 use Rattle.store_code.proofs.head_of.Statement.{statement}

@@ -3,7 +3,7 @@
 use native.Mathlib.Omega.{arith}
 use mathlib.Core.Path.{_∙_, ap}
 use Rattle.store_code.proofs.Laws.{entry-small, entry-room, entry-is}
-use Rattle.head.specs.Layout.{decodePatch}
+use Rattle.store_head.specs.Layout.{decodePatch}
 use Rattle.store.specs.View.{patchedTo}
 use borrow.Author.Needs.{needs}
 use Rattle.store_code.proofs.patch_of.Statement.{statement}

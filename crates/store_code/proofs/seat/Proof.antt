@@ -1,6 +1,6 @@
 -- `seat` meets its contract: where the memory is found, else a new seat.
 -- Assumes nothing.
-use Rattle.desk.proofs.Name.{ok-fits}
+use Rattle.store_desk.proofs.Name.{ok-fits}
 use Rattle.store_code.proofs.Found.{seat-kept, seat-new}
 use borrow.Author.Needs.{needs}
 use Rattle.store_code.proofs.seat.Statement.{statement}

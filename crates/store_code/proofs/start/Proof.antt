@@ -1,6 +1,6 @@
 -- `start` meets its contract: the seat is one of the desk's slots, and is written afresh; where there is none nothing is written.
 -- Assumes nothing.
-use Rattle.desk.proofs.Name.{ok-fits}
+use Rattle.store_desk.proofs.Name.{ok-fits}
 use Rattle.store_code.proofs.Found.{seat-inside, start-at, start-full}
 use borrow.Author.Needs.{needs}
 use Rattle.store_code.proofs.start.Statement.{statement}

@@ -2,7 +2,7 @@
 -- Assumes nothing.
 use mathlib.Core.Path.{sym}
 use lib.Seq.{length-take-le}
-use Rattle.session.proofs.Told.{ends-within}
+use Rattle.tidy_session.proofs.Told.{ends-within}
 use borrow.Author.Needs.{needs}
 use Rattle.tidy.proofs.main.Statement.{statement}
 use Rattle.tidy.proofs.main.Tie as tie

@@ -1,0 +1,58 @@
+-- One item as the code takes it: where its fields lie, what it comes to, and its fault behind those before it. No promise above this
+-- crate names these.
+-- Assumes nothing.
+use mathlib.Core.Path.{_≡_}
+use mathlib.Core.Bool.{Bool, true, false}
+use mathlib.Core.List.{List}
+use Prim.Native.Nat.{ℕ, _+_, _≤_, _<_}
+use lib.ListN.{length, set}
+use Rattle.store_desk.specs.declared.Desk.{Desk}
+use Rattle.store_desk.specs.Size.{Within}
+use Rattle.text_fields.specs.declared.Field.{Field}
+use Rattle.text_fields.specs.Words.{endAt, wordAt}
+use Rattle.load.specs.declared.Entry.{Entry}
+use Rattle.load.specs.declared.Entry.the-variants.{Level, Patch, Fault}
+use Rattle.load.specs.declared.Group.{Group}
+use Rattle.load.specs.declared.Group.the-variants.{Pair, Triple}
+use Rattle.load.specs.declared.Faults.{Faults}
+use Rattle.load.specs.Item.{pairOf, tripleOf}
+use Rattle.load_items.specs.declared.Item.{Item}
+
+-- a field lies within a text
+abbrev pub Lies : List ℕ → Field → Type 0
+Lies text f = (f .start ≤ f .end) × (f .end ≤ length text)
+
+-- a place in a text with a column for each character
+pub record On (text columns : List ℕ) (place : ℕ) : Type 0 where
+  pub within : place ≤ length text
+  pub columned : length columns ≡ length text
+
+-- the item whose first field is the one from a place on, and the place where its last field ends
+unfoldable pub itemAt : Desk → Group → List ℕ → List ℕ → ℕ → Item
+itemAt d Pair text columns place =
+    let second = endAt text place in
+    record { entry = pairOf d (wordAt text columns place) (wordAt text columns second); end = endAt text second }
+itemAt d Triple text columns place =
+    let second = endAt text place in
+    let third = endAt text second in
+    record {
+      entry = tripleOf d (wordAt text columns place) (wordAt text columns second) (wordAt text columns third);
+      end = endAt text third;
+    }
+
+-- an item that is obeyed names a channel, and a dimmer, that the desk has; its level is a byte
+abbrev pub EntryFits : Desk → Entry → Type 0
+EntryFits d (Level channel v) = Within 1 channel (d .channels) × (v < 256)
+EntryFits d (Patch channel dimmer v) = Within 1 channel (d .channels) × Within 1 dimmer (d .dimmers) × (v < 256)
+EntryFits d (Fault condition column) = Unit {0}
+
+unfoldable pub isFault : Entry → Bool
+isFault (Level channel v) = false
+isFault (Patch channel dimmer v) = false
+isFault (Fault condition column) = true
+
+-- a fault goes behind those that are there
+unfoldable pub told : Faults → Entry → Faults
+told f (Level channel v) = f
+told f (Patch channel dimmer v) = f
+told f (Fault condition column) = record { conditions = set (f .conditions) (f .count) condition; count = f .count + 1 }

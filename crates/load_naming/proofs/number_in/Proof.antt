@@ -1,0 +1,51 @@
+-- `number_in` meets its contract, kind by kind.
+-- Assumes nothing.
+use Rattle.load_naming.proofs.Names.{numeral-cue, numeral-group, numeral-sub}
+use borrow.Author.Needs.{needs}
+use Rattle.load_naming.proofs.number_in.Statement.{statement}
+use Rattle.load_naming.proofs.number_in.Tie as tie
+
+word-requires : tie.Need-word-requires
+word-requires c κs = search needs
+
+enum-told : tie.Need-enum-told
+enum-told c = search needs
+
+cue-number-requires : tie.Need-cue-number-requires
+cue-number-requires c κs = search needs
+
+enum-told-2 : tie.Need-enum-told-2
+enum-told-2 c = search needs
+
+cue-number-requires-2 : tie.Need-cue-number-requires-2
+cue-number-requires-2 c κs = search needs
+
+enum-told-3 : tie.Need-enum-told-3
+enum-told-3 c = search needs
+
+sub-number-requires : tie.Need-sub-number-requires
+sub-number-requires c κs = search needs
+
+returns : tie.Need-returns
+returns c = numeral-cue _ _ (c .before .enum-told .given .1) (c .before .before .before .word .ensures) (c .cue-number .ensures)
+
+returns-2 : tie.Need-returns-2
+returns-2 c = numeral-group _ _ (c .before .enum-told2 .given .1) (c .before .before .before .word .ensures) (c .cue-number2 .ensures)
+
+returns-3 : tie.Need-returns-3
+returns-3 c = numeral-sub _ _ (c .before .enum-told3 .given .1) (c .before .before .before .word .ensures) (c .sub-number .ensures)
+
+pub number-in-spec : {M : Type 1} → statement M
+number-in-spec =
+    tie.close
+    (tie.spec
+    word-requires
+    enum-told
+    cue-number-requires
+    enum-told-2
+    cue-number-requires-2
+    enum-told-3
+    sub-number-requires
+    returns
+    returns-2
+    returns-3)

@@ -1,0 +1,313 @@
+// What a record's fields say before the store is asked: a primary's name, a page, and the change that UP, DOWN, FOLLOWON or LINK asks
+// for (paper 01, "Keywords and conditions").
+ghost use mathlib.Core.Path.{_≡_};
+ghost use Prim.Native.Nat.{max};
+ghost use Rattle.store_desk.specs.Size.{InRange};
+ghost use Rattle.text_fields.specs.Words.{wordsFrom, headOf, wordIn};
+ghost use Rattle.value.specs.Integer.{integerOf};
+ghost use Rattle.value.specs.Number.{numberOf};
+ghost use Rattle.value.specs.Time.{timeOf};
+ghost use Rattle.value.specs.Field.{versionOf};
+ghost use Rattle.load.specs.Condition.{fullOf, unsupportedOf};
+ghost use Rattle.load.specs.Step.{numberedBy, subBy, numeralOf, pageAt, namedBy, namedOf, delayOf, linkBy, timesOf, augments as augmentsOf, tablePages, mostPages};
+ghost use Rattle.store.specs.Form.{hasTimes, hasLink};
+ghost use Rattle.load_naming.specs.Line.{FieldIn, Line};
+ghost use Rattle.load_naming.specs.Times.{upBy, downBy, followonBy};
+use store_desk::Desk;
+use store_desk::Key;
+use store_desk::Kind;
+use text_fields::Field;
+use load::Named;
+use load::Numeral;
+use load::Reading;
+use load::Secondary;
+use store::Edit;
+use value::Integer;
+use value::Numbered;
+use value::Paged;
+use value::Timed;
+use value::Version;
+
+// The conditions, each number once.
+const FULL_CUES: u32 = 21;
+
+const FULL_GROUPS: u32 = 22;
+
+const BAD_NUMBER: u32 = 41;
+
+const NUMBER_TOO_LARGE: u32 = 42;
+
+const BAD_PAGE: u32 = 43;
+
+const BAD_SUB: u32 = 44;
+
+const NO_GROUPS: u32 = 51;
+
+const NO_SUBS: u32 = 52;
+
+const MALFORMED_SUB: u32 = 171;
+
+const BAD_TIME: u32 = 241;
+
+// ---- numbers
+
+// A cue's or a group's number, or that of a linked cue.
+fn cue_number(word: &[u8]) -> Numeral
+    ensures { λ r. ⌜ r ≡ numberedBy (numberOf (now (word .entry))) ⌝ }
+{
+    match value::read_number(word) {
+        Numbered::Malformed => Numeral::Wrong(BAD_NUMBER),
+        Numbered::TooLarge => Numeral::Wrong(NUMBER_TOO_LARGE),
+        Numbered::Value(n) => Numeral::Number(n.whole, n.fraction),
+    }
+}
+
+// A submaster's number, 1 to the highest.
+fn sub_number(desk: Desk, word: &[u8]) -> Numeral
+    ensures { λ r. ⌜ r ≡ subBy desk (integerOf (now (word .entry))) ⌝ }
+{
+    let Integer::Value(n) = value::read_integer(word) else {
+        return Numeral::Wrong(MALFORMED_SUB);
+    };
+    if n == 0 {
+        return Numeral::Wrong(BAD_SUB);
+    }
+    if desk.subs < n {
+        return Numeral::Wrong(BAD_SUB);
+    }
+    Numeral::Number(n, 0)
+}
+
+fn number_in(desk: Desk, kind: Kind, text: &[u8], f: Field) -> Numeral
+    requires { ⌜ FieldIn (now text) f ⌝ }
+    ensures { λ r. ⌜ r ≡ numeralOf desk kind (wordIn (now (text .entry)) f) ⌝ }
+{
+    let word = text_fields::word(text, f);
+    match kind {
+        Kind::Cue => cue_number(word),
+        Kind::Group => cue_number(word),
+        Kind::Sub => sub_number(desk, word),
+    }
+}
+
+// ---- pages and names
+
+// The page of the next field, or another where there is none.
+pub fn page_at<'a>(other: u32, limit: u32, text: &'a [u8], columns: &'a [u8], at: usize) -> Paged
+    requires { ⌜ Line (now text) (now columns) at ⌝ }
+    ensures { λ r. ⌜ r ≡ pageAt other limit (wordsFrom (now (text .entry)) (now (columns .entry)) at) ⌝ }
+{
+    if text_fields::more(text, at) {
+        let f = text_fields::field_at(text, columns, at);
+        return value::read_page(text_fields::word(text, f), limit);
+    }
+    Paged::Value(other)
+}
+
+fn key_of(number: Numeral, page: Paged) -> Named
+    ensures { λ r. ⌜ r ≡ namedBy number page ⌝ }
+{
+    match number {
+        Numeral::Wrong(condition) => Named::Refused(condition),
+        Numeral::Number(whole, fraction) => match page {
+            Paged::Bad => Named::Refused(BAD_PAGE),
+            Paged::Value(page) => Named::Name(Key {
+                page,
+                whole,
+                fraction,
+            }),
+        },
+    }
+}
+
+// A primary's number and page.
+pub fn name_at<'a>(desk: Desk, kind: Kind, text: &'a [u8], columns: &'a [u8], at: usize) -> Named
+    requires { ⌜ Line (now text) (now columns) at ⌝ }
+    ensures { λ r. ⌜ r ≡ namedOf desk kind (wordsFrom (now (text .entry)) (now (columns .entry)) at) ⌝ }
+{
+    let f = text_fields::field_at(text, columns, at);
+    let number = number_in(desk, kind, text, f);
+    key_of(
+        number,
+        page_at(1, store_desk::pages(desk, kind), text, columns, f.end),
+    )
+}
+
+// No room for a new memory. A submaster has a slot of its own.
+pub fn full(kind: Kind) -> u32
+    ensures { λ r. ⌜ r ≡ fullOf kind ⌝ }
+{
+    match kind {
+        Kind::Cue => FULL_CUES,
+        Kind::Group => FULL_GROUPS,
+        Kind::Sub => BAD_SUB,
+    }
+}
+
+// A desk without memories of this kind. Every desk has cues.
+pub fn unsupported(kind: Kind) -> u32
+    ensures { λ r. ⌜ r ≡ unsupportedOf kind ⌝ }
+{
+    match kind {
+        Kind::Cue => 0,
+        Kind::Group => NO_GROUPS,
+        Kind::Sub => NO_SUBS,
+    }
+}
+
+// ---- times and links
+
+fn time_in(text: &[u8], f: Field) -> Timed
+    requires { ⌜ FieldIn (now text) f ⌝ }
+    ensures { λ r. ⌜ r ≡ timeOf (wordIn (now (text .entry)) f .chars) ⌝ }
+{
+    value::read_time(text_fields::word(text, f))
+}
+
+// The optional delay, 0 where there is none.
+fn delay_at<'a>(text: &'a [u8], columns: &'a [u8], at: usize) -> Timed
+    requires { ⌜ Line (now text) (now columns) at ⌝ }
+    ensures { λ r. ⌜ r ≡ delayOf (wordsFrom (now (text .entry)) (now (columns .entry)) at) ⌝ }
+{
+    if text_fields::more(text, at) {
+        let f = text_fields::field_at(text, columns, at);
+        return time_in(text, f);
+    }
+    Timed::Value(0)
+}
+
+fn up(fade: Timed, delay: Timed) -> Reading
+    ensures { λ r. ⌜ r ≡ upBy fade delay ⌝ }
+{
+    let Timed::Value(fade) = fade else {
+        return Reading::Wrong(BAD_TIME);
+    };
+    let Timed::Value(delay) = delay else {
+        return Reading::Wrong(BAD_TIME);
+    };
+    Reading::Change(Edit::Up(fade, delay))
+}
+
+fn down(fade: Timed, delay: Timed) -> Reading
+    ensures { λ r. ⌜ r ≡ downBy fade delay ⌝ }
+{
+    let Timed::Value(fade) = fade else {
+        return Reading::Wrong(BAD_TIME);
+    };
+    let Timed::Value(delay) = delay else {
+        return Reading::Wrong(BAD_TIME);
+    };
+    Reading::Change(Edit::Down(fade, delay))
+}
+
+fn followon(time: Timed) -> Reading
+    ensures { λ r. ⌜ r ≡ followonBy time ⌝ }
+{
+    let Timed::Value(time) = time else {
+        return Reading::Wrong(BAD_TIME);
+    };
+    Reading::Change(Edit::Followon(time))
+}
+
+fn link(number: Numeral) -> Reading
+    ensures { λ r. ⌜ r ≡ linkBy number ⌝ }
+{
+    match number {
+        Numeral::Wrong(condition) => Reading::Wrong(condition),
+        Numeral::Number(whole, fraction) => Reading::Change(Edit::Link(whole, fraction)),
+    }
+}
+
+// The change that UP, DOWN, FOLLOWON or LINK asks for.
+pub fn change_at<'a>(e: Secondary, text: &'a [u8], columns: &'a [u8], at: usize) -> Reading
+    requires { ⌜ Line (now text) (now columns) at ⌝ }
+    ensures { λ r. ⌜ r ≡ timesOf e (wordsFrom (now (text .entry)) (now (columns .entry)) at) ⌝ }
+{
+    let f = text_fields::field_at(text, columns, at);
+    match e {
+        Secondary::Chan => Reading::Wrong(0),
+        Secondary::Up => up(time_in(text, f), delay_at(text, columns, f.end)),
+        Secondary::Down => down(time_in(text, f), delay_at(text, columns, f.end)),
+        Secondary::Followon => followon(time_in(text, f)),
+        Secondary::Link => link(cue_number(text_fields::word(text, f))),
+    }
+}
+
+// ---- which secondaries augment which primaries (§6.3)
+
+fn has_times(kind: Kind) -> bool
+    ensures { λ r. ⌜ r ≡ hasTimes kind ⌝ }
+{
+    match kind {
+        Kind::Cue => true,
+        Kind::Group => false,
+        Kind::Sub => true,
+    }
+}
+
+fn has_link(kind: Kind) -> bool
+    ensures { λ r. ⌜ r ≡ hasLink kind ⌝ }
+{
+    match kind {
+        Kind::Cue => true,
+        Kind::Group => false,
+        Kind::Sub => false,
+    }
+}
+
+pub fn augments(kind: Kind, e: Secondary) -> bool
+    ensures { λ r. ⌜ r ≡ augmentsOf kind e ⌝ }
+{
+    match e {
+        Secondary::Chan => true,
+        Secondary::Up => has_times(kind),
+        Secondary::Down => has_times(kind),
+        Secondary::Followon => has_link(kind),
+        Secondary::Link => has_link(kind),
+    }
+}
+
+// ---- the pages that CLEAR can name
+
+// The pages of a kind's table; a kind that is not supported has none.
+pub fn table_pages(desk: Desk, kind: Kind) -> u32
+    requires { ⌜ InRange desk ⌝ }
+    ensures { λ r. ⌜ r ≡ tablePages desk kind ⌝ }
+{
+    if store_desk::supports(desk, kind) {
+        return store_desk::pages(desk, kind);
+    }
+    0
+}
+
+fn larger(a: u32, b: u32) -> u32
+    ensures { λ r. ⌜ r ≡ max a b ⌝ }
+{
+    if a < b {
+        return b;
+    }
+    a
+}
+
+// The pages of the table that has the most.
+pub fn most_pages(desk: Desk) -> u32
+    requires { ⌜ InRange desk ⌝ }
+    ensures { λ r. ⌜ r ≡ mostPages desk ⌝ }
+{
+    let memories = larger(table_pages(desk, Kind::Cue), table_pages(desk, Kind::Group));
+    larger(
+        memories,
+        larger(table_pages(desk, Kind::Sub), desk.patch_pages),
+    )
+}
+
+// ---- IDENT
+
+// The version that IDENT names.
+pub fn version_at<'a>(text: &'a [u8], columns: &'a [u8], at: usize) -> Version
+    requires { ⌜ Line (now text) (now columns) at ⌝ }
+    ensures { λ r. ⌜ r ≡ versionOf (headOf (wordsFrom (now (text .entry)) (now (columns .entry)) at) .chars) ⌝ }
+{
+    let f = text_fields::field_at(text, columns, at);
+    value::read_version(text_fields::word(text, f))
+}

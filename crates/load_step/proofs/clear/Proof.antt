@@ -1,0 +1,137 @@
+-- `clear` meets its contract, item by item.
+-- Assumes nothing.
+use borrow.Author.Needs.{needs}
+use Rattle.load.specs.Step.{clearBy}
+use Rattle.load_naming.proofs.Fields.{field-in, line-next}
+use Rattle.load_step.proofs.Holding.{stays-as}
+use Rattle.load_step.proofs.Clearing.{clear-as}
+use Rattle.load_step.proofs.clear.Statement.{statement}
+use Rattle.load_step.proofs.clear.Tie as tie
+
+field-at-requires : tie.Need-field-at-requires
+field-at-requires c κs = search needs
+
+word-requires : tie.Need-word-requires
+word-requires c κs = field-in (c .before .before .before .before .pre .1 .0) (c .field-at .ensures)
+
+item-of-requires : tie.Need-item-of-requires
+item-of-requires c κs = search needs
+
+enum-told : tie.Need-enum-told
+enum-told c = search needs
+
+clear-all-requires : tie.Need-clear-all-requires
+clear-all-requires c κs = (c .before .before .before .before .before .before .before .before .before .pre .0, (line-next (c .before .before .before .before .before .before .before .before .before .pre .1 .0) (c .before .before .before .before .before .field-at .ensures), c .before .before .before .before .before .before .before .before .before .pre .1 .1))
+
+enum-told-2 : tie.Need-enum-told-2
+enum-told-2 c = search needs
+
+clear-kind-requires : tie.Need-clear-kind-requires
+clear-kind-requires c κs = (c .before .before .before .before .before .before .before .before .before .pre .0, (line-next (c .before .before .before .before .before .before .before .before .before .pre .1 .0) (c .before .before .before .before .before .field-at .ensures), c .before .before .before .before .before .before .before .before .before .pre .1 .1))
+
+enum-told-3 : tie.Need-enum-told-3
+enum-told-3 c = search needs
+
+clear-kind-requires-2 : tie.Need-clear-kind-requires-2
+clear-kind-requires-2 c κs = (c .before .before .before .before .before .before .before .before .before .pre .0, (line-next (c .before .before .before .before .before .before .before .before .before .pre .1 .0) (c .before .before .before .before .before .field-at .ensures), c .before .before .before .before .before .before .before .before .before .pre .1 .1))
+
+enum-told-4 : tie.Need-enum-told-4
+enum-told-4 c = search needs
+
+clear-patch-requires : tie.Need-clear-patch-requires
+clear-patch-requires c κs = (c .before .before .before .before .before .before .before .before .before .pre .0, (line-next (c .before .before .before .before .before .before .before .before .before .pre .1 .0) (c .before .before .before .before .before .field-at .ensures), c .before .before .before .before .before .before .before .before .before .pre .1 .1))
+
+enum-told-5 : tie.Need-enum-told-5
+enum-told-5 c = search needs
+
+clear-kind-requires-3 : tie.Need-clear-kind-requires-3
+clear-kind-requires-3 c κs = (c .before .before .before .before .before .before .before .before .before .pre .0, (line-next (c .before .before .before .before .before .before .before .before .before .pre .1 .0) (c .before .before .before .before .before .field-at .ensures), c .before .before .before .before .before .before .before .before .before .pre .1 .1))
+
+enum-told-6 : tie.Need-enum-told-6
+enum-told-6 c = search needs
+
+ended-requires : tie.Need-ended-requires
+ended-requires c κs = search needs
+
+enum-told-7 : tie.Need-enum-told-7
+enum-told-7 c = search needs
+
+ended-requires-2 : tie.Need-ended-requires-2
+ended-requires-2 c κs = search needs
+
+same-length : tie.Need-same-length
+same-length c = search needs
+
+returns : tie.Need-returns
+unfolding clearBy
+returns c = clear-as _ _ _ (c .before .before .before .before .before .before .before .before .before .before .before .before .pre .1 .0) (c .before .before .before .before .before .before .before .before .field-at .ensures) (c .before .before .before .before .before .before .before .word .ensures) (c .before .before .before .before .before .before .item-of .ensures) (c .before .before .before .before .enum-told .given .1) (c .before .before .clear-all .ensures)
+
+same-length-2 : tie.Need-same-length-2
+same-length-2 c = search needs
+
+returns-2 : tie.Need-returns-2
+unfolding clearBy
+returns-2 c = clear-as _ _ _ (c .before .before .before .before .before .before .before .before .before .before .before .before .pre .1 .0) (c .before .before .before .before .before .before .before .before .field-at .ensures) (c .before .before .before .before .before .before .before .word .ensures) (c .before .before .before .before .before .before .item-of .ensures) (c .before .before .before .before .enum-told2 .given .1) (c .before .before .clear-kind .ensures)
+
+same-length-3 : tie.Need-same-length-3
+same-length-3 c = search needs
+
+returns-3 : tie.Need-returns-3
+unfolding clearBy
+returns-3 c = clear-as _ _ _ (c .before .before .before .before .before .before .before .before .before .before .before .before .pre .1 .0) (c .before .before .before .before .before .before .before .before .field-at .ensures) (c .before .before .before .before .before .before .before .word .ensures) (c .before .before .before .before .before .before .item-of .ensures) (c .before .before .before .before .enum-told3 .given .1) (c .before .before .clear-kind2 .ensures)
+
+same-length-4 : tie.Need-same-length-4
+same-length-4 c = search needs
+
+returns-4 : tie.Need-returns-4
+unfolding clearBy
+returns-4 c = clear-as _ _ _ (c .before .before .before .before .before .before .before .before .before .before .before .before .pre .1 .0) (c .before .before .before .before .before .before .before .before .field-at .ensures) (c .before .before .before .before .before .before .before .word .ensures) (c .before .before .before .before .before .before .item-of .ensures) (c .before .before .before .before .enum-told4 .given .1) (c .before .before .clear-patch .ensures)
+
+same-length-5 : tie.Need-same-length-5
+same-length-5 c = search needs
+
+returns-5 : tie.Need-returns-5
+unfolding clearBy
+returns-5 c = clear-as _ _ _ (c .before .before .before .before .before .before .before .before .before .before .before .before .pre .1 .0) (c .before .before .before .before .before .before .before .before .field-at .ensures) (c .before .before .before .before .before .before .before .word .ensures) (c .before .before .before .before .before .before .item-of .ensures) (c .before .before .before .before .enum-told5 .given .1) (c .before .before .clear-kind3 .ensures)
+
+returns-6 : tie.Need-returns-6
+unfolding clearBy
+returns-6 c = clear-as _ _ _ (c .before .before .before .before .before .before .before .before .before .pre .1 .0) (c .before .before .before .before .before .field-at .ensures) (c .before .before .before .before .word .ensures) (c .before .before .before .item-of .ensures) (c .before .enum-told6 .given .1) (stays-as _ _ _ (c .before .before .before .before .before .before .before .before .before .pre .1 .1) (c .ended .ensures))
+
+returns-7 : tie.Need-returns-7
+unfolding clearBy
+returns-7 c = clear-as _ _ _ (c .before .before .before .before .before .before .before .before .before .pre .1 .0) (c .before .before .before .before .before .field-at .ensures) (c .before .before .before .before .word .ensures) (c .before .before .before .item-of .ensures) (c .before .enum-told7 .given .1) (stays-as _ _ _ (c .before .before .before .before .before .before .before .before .before .pre .1 .1) (c .ended2 .ensures))
+
+pub clear-spec : {M : Type 1} → statement M
+clear-spec =
+    tie.close
+    (tie.spec
+    field-at-requires
+    word-requires
+    item-of-requires
+    enum-told
+    clear-all-requires
+    enum-told-2
+    clear-kind-requires
+    enum-told-3
+    clear-kind-requires-2
+    enum-told-4
+    clear-patch-requires
+    enum-told-5
+    clear-kind-requires-3
+    enum-told-6
+    ended-requires
+    enum-told-7
+    ended-requires-2
+    same-length
+    returns
+    same-length-2
+    returns-2
+    same-length-3
+    returns-3
+    same-length-4
+    returns-4
+    same-length-5
+    returns-5
+    returns-6
+    returns-7)

@@ -1,0 +1,51 @@
+-- `clear_all` meets its contract, by the page.
+-- Assumes nothing.
+use borrow.Author.Needs.{needs}
+use Rattle.load_step.proofs.Clearing.{cleared-bad, cleared-good, all-as}
+use Rattle.load_step.proofs.clear_all.Statement.{statement}
+use Rattle.load_step.proofs.clear_all.Tie as tie
+
+most-pages-requires : tie.Need-most-pages-requires
+most-pages-requires c κs = search needs
+
+page-at-requires : tie.Need-page-at-requires
+page-at-requires c κs = search needs
+
+enum-told : tie.Need-enum-told
+enum-told c = search needs
+
+ended-requires : tie.Need-ended-requires
+ended-requires c κs = search needs
+
+enum-known-page : tie.Need-enum-known-page
+enum-known-page c = search needs
+
+clear-tables-requires : tie.Need-clear-tables-requires
+clear-tables-requires c κs = search needs
+
+cleared-requires : tie.Need-cleared-requires
+cleared-requires c κs = search needs
+
+returns : tie.Need-returns
+returns c = all-as _ _ _ _ (c .before .before .before .before .most-pages .ensures) (c .before .before .before .page-at .ensures) (cleared-bad _ _ _ (c .before .before .before .before .before .before .before .before .pre .1 .1) (c .before .enum-told .given .1) (c .ended .ensures))
+
+same-length : tie.Need-same-length
+same-length c = search needs
+
+returns-2 : tie.Need-returns-2
+returns-2 c = all-as _ _ _ _ (c .before .before .before .before .before .before .before .before .before .before .before .most-pages .ensures) (c .before .before .before .before .before .before .before .before .before .before .page-at .ensures) (cleared-good _ _ _ _ (c .before .before .before .before .before .before .before .before .page .given .1) (c .before .before .before .before .before .clear-tables .ensures) (c .cleared .ensures))
+
+pub clear-all-spec : {M : Type 1} → statement M
+clear-all-spec =
+    tie.close
+    (tie.spec
+    most-pages-requires
+    page-at-requires
+    enum-told
+    ended-requires
+    enum-known-page
+    clear-tables-requires
+    cleared-requires
+    returns
+    same-length
+    returns-2)

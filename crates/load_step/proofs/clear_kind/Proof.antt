@@ -1,0 +1,63 @@
+-- `clear_kind` meets its contract: support, then the page.
+-- Assumes nothing.
+use borrow.Author.Needs.{needs}
+use Rattle.load_step.proofs.Clearing.{kind-page, cleared-bad, cleared-good, kind-as, kind-unsupported}
+use Rattle.load_step.proofs.clear_kind.Statement.{statement}
+use Rattle.load_step.proofs.clear_kind.Tie as tie
+
+supports-requires : tie.Need-supports-requires
+supports-requires c κs = search needs
+
+pages-requires : tie.Need-pages-requires
+pages-requires c κs = search needs
+
+page-at-requires : tie.Need-page-at-requires
+page-at-requires c κs = search needs
+
+enum-told : tie.Need-enum-told
+enum-told c = search needs
+
+ended-requires : tie.Need-ended-requires
+ended-requires c κs = search needs
+
+returns : tie.Need-returns
+returns c = kind-as _ _ _ _ (c .before .before .before .before .before .before .supports .ensures) (c .before .before .before .before .before .if1 .taken) _ (c .before .before .before .before .pages .ensures) (c .before .before .before .page-at .ensures) (cleared-bad _ _ _ (c .before .before .before .before .before .before .before .before .before .before .pre .1 .1) (c .before .enum-told .given .1) (c .ended .ensures))
+
+enum-known-page : tie.Need-enum-known-page
+enum-known-page c = search needs
+
+clear-kind-requires : tie.Need-clear-kind-requires
+clear-kind-requires c κs = (c .before .before .before .before .before .before .before .before .before .before .before .pre .0, kind-page _ _ (c .before .before .before .before .before .before .before .before .before .before .before .pre .0 .range) _ (c .before .before .before .before .before .pages .ensures) (c .before .before .before .before .page-at .ensures) (c .before .before .page .given .1))
+
+cleared-requires : tie.Need-cleared-requires
+cleared-requires c κs = search needs
+
+same-length : tie.Need-same-length
+same-length c = search needs
+
+returns-2 : tie.Need-returns-2
+returns-2 c = kind-as _ _ _ _ (c .before .before .before .before .before .before .before .before .before .before .before .before .before .supports .ensures) (c .before .before .before .before .before .before .before .before .before .before .before .before .if1 .taken) _ (c .before .before .before .before .before .before .before .before .before .before .before .pages .ensures) (c .before .before .before .before .before .before .before .before .before .before .page-at .ensures) (cleared-good _ _ _ _ (c .before .before .before .before .before .before .before .before .page .given .1) (c .before .before .before .before .before .clear-kind .ensures) (c .cleared .ensures))
+
+ended-requires-2 : tie.Need-ended-requires-2
+ended-requires-2 c κs = search needs
+
+returns-3 : tie.Need-returns-3
+returns-3 c = kind-unsupported _ _ _ _ (c .before .before .supports .ensures) (c .before .if1 .left) (c .before .before .before .before .before .before .pre .1 .1) (c .ended2 .ensures)
+
+pub clear-kind-spec : {M : Type 1} → statement M
+clear-kind-spec =
+    tie.close
+    (tie.spec
+    supports-requires
+    pages-requires
+    page-at-requires
+    enum-told
+    ended-requires
+    returns
+    enum-known-page
+    clear-kind-requires
+    cleared-requires
+    same-length
+    returns-2
+    ended-requires-2
+    returns-3)

@@ -1,0 +1,51 @@
+-- `opened` meets its contract: with room and with none.
+-- Assumes nothing.
+use borrow.Author.Needs.{needs}
+use Rattle.load_step.proofs.Primaries.{opened-at, opened-full}
+use Rattle.load_step.proofs.opened.Statement.{statement}
+use Rattle.load_step.proofs.opened.Tie as tie
+
+start-requires : tie.Need-start-requires
+start-requires c κs = search needs
+
+enum-known-slot : tie.Need-enum-known-slot
+enum-known-slot c = search needs
+
+ended-requires : tie.Need-ended-requires
+ended-requires c κs = search needs
+
+enum-told : tie.Need-enum-told
+enum-told c = search needs
+
+full-requires : tie.Need-full-requires
+full-requires c κs = search needs
+
+refused-requires : tie.Need-refused-requires
+refused-requires c κs = search needs
+
+same-length : tie.Need-same-length
+same-length c = search needs
+
+returns : tie.Need-returns
+returns c = opened-at _ _ _ _ (c .before .before .before .before .before .before .start .ensures) (c .before .before .before .before .before .before .before .before .before .pre .0) (c .before .before .before .before .before .before .before .before .before .pre .1) (c .before .before .slot .given .1) (c .ended .ensures)
+
+same-length-2 : tie.Need-same-length-2
+same-length-2 c = search needs
+
+returns-2 : tie.Need-returns-2
+returns-2 c = opened-full _ _ _ _ (c .before .before .before .before .before .before .start .ensures) (c .before .before .enum-told .given .1) (c .before .full .ensures) (c .refused .ensures)
+
+pub opened-spec : {M : Type 1} → statement M
+opened-spec =
+    tie.close
+    (tie.spec
+    start-requires
+    enum-known-slot
+    ended-requires
+    enum-told
+    full-requires
+    refused-requires
+    same-length
+    returns
+    same-length-2
+    returns-2)

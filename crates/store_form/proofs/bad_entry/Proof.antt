@@ -1,0 +1,58 @@
+-- `bad_entry` meets its contract. The invariant: the first bad entry from here on is the first of all.
+-- Assumes nothing.
+use native.Mathlib.Omega.{arith}
+use Rattle.store.specs.Form.{entryFits, badEntry}
+use Rattle.store_form.proofs.Laws.{place-hit, place-end, entries-start}
+use Rattle.cells.proofs.Search.{search-miss}
+use Rattle.cells.specs.Search.{firstFrom}
+use mathlib.Core.Bool.{not}
+use Prim.Native.Nat.{_-_, _≤_}
+use mathlib.Core.Path.{_≡_, ap}
+use borrow.Author.Needs.{needs}
+use Rattle.store_form.proofs.bad_entry.Statement.{statement}
+use Rattle.store_form.proofs.bad_entry.Tie as tie
+
+abbrev Inv-loop : tie.InvT-loop
+Inv-loop desk store n i₀ i = (i ≤ n) × (firstFrom (λ j. not (entryFits desk store j)) (n - i) i ≡ badEntry desk store)
+
+abbrev μ-loop : tie.MeasureT-loop
+μ-loop desk store n i₀ i = n - i
+
+entries-requires : tie.Need-entries-requires Inv-loop μ-loop
+entries-requires c κs = search needs
+
+loop-holds : tie.Need-loop-holds Inv-loop μ-loop
+loop-holds c = (search needs, entries-start _ _ (c .entries .ensures))
+
+entry-fits-requires : tie.Need-entry-fits-requires Inv-loop μ-loop
+entry-fits-requires c κs = let e = c .before .before .entries .ensures in (c .before .before .before .before .pre, omega (arith, c .loop-test .taken))
+
+returns : tie.Need-returns Inv-loop μ-loop
+returns c = place-hit _ _ _ (c .before .before .loop-test .taken) (ap not (c .before .entry-fits .ensures)) (c .if1 .taken) (c .before .before .before .loop .inv .1)
+
+add-i : tie.Need-add-i Inv-loop μ-loop
+add-i c = search needs
+
+loop-less : tie.Need-loop-less Inv-loop μ-loop
+loop-less c = search needs
+
+loop-again : tie.Need-loop-again Inv-loop μ-loop
+loop-again c = (search needs, search-miss _ _ _ (c .before .before .loop-test .taken) (ap not (c .before .entry-fits .ensures)) (c .if1 .left) (c .before .before .before .loop .inv .1))
+
+returns-2 : tie.Need-returns-2 Inv-loop μ-loop
+returns-2 c = place-end _ _ _ (c .loop-test .left) (c .before .loop .inv .1)
+
+pub bad-entry-spec : {M : Type 1} → statement M
+bad-entry-spec =
+    tie.close
+    (tie.spec
+    Inv-loop
+    μ-loop
+    entries-requires
+    loop-holds
+    entry-fits-requires
+    returns
+    add-i
+    loop-less
+    loop-again
+    returns-2)

@@ -1,0 +1,248 @@
+-- The views of two stores, name by name: what the smaller keeps, the larger keeps and agrees; what the larger alone keeps is lost to the
+-- smaller, where `lost` says which names may be. The relation is closed under what the store's operations do to a view, on both
+-- desks or on the larger alone. By the view laws of the store and cases on what is kept.
+-- Assumes nothing.
+use mathlib.Core.Path.{_≡_, refl, sym, ap, _∙_, subst, subst₂}
+use mathlib.Core.Bool.{Bool, true, false, cond, true≢false, false≢true}
+use mathlib.Core.List.{List, [], _∷_}
+use Prim.Native.Nat.{ℕ, _-_, _*_, _≤_, _<_}
+use native.Mathlib.Omega.{arith}
+use lib.ListN.{set}
+use lib.Seq.{take-set-lt, take-set-le}
+use Rattle.cells.specs.Search.{at}
+use Rattle.cells.proofs.Split.{by-bool, cond-true, cond-false}
+use Rattle.store_desk.specs.declared.Desk.{Desk}
+use Rattle.store_desk.specs.declared.Key.{Key}
+use Rattle.store_desk.specs.Size.{Within, levelWidth, levelsLength}
+use Rattle.store_desk.specs.Name.{Name, eqName, okName}
+use Rattle.store_desk.proofs.Name.{eq-name, eq-name-refl}
+use Rattle.store.specs.declared.Edit.{Edit}
+use Rattle.store.specs.declared.Edit.the-variants.{Up, Down, Followon, Link, Level}
+use Rattle.store.specs.View.{Memory, Kept, absent, kept, memoryOf}
+use Rattle.store.specs.Change.{seat, started, edited, editHead}
+use Rattle.store.specs.Memories.{blankMemory, editLevels, editMemory, mapKept, EditFits}
+use Rattle.store.specs.Good.{Ready}
+use Rattle.store.proofs.Start.{start-view}
+use Rattle.store.proofs.Edits.{edit-view}
+use Rattle.store.proofs.Patches.{part-zeros}
+use Rattle.load.specs.declared.Entry.{Entry}
+use Rattle.load.specs.declared.Entry.the-variants.{Level as LevelItem, Patch as PatchItem, Fault}
+use Rattle.load.specs.Item.{memory, done, allDone}
+use Rattle.theorem_rehearse.specs.Rehearse.{Larger, isKept, Agrees}
+use Rattle.theorem_rehearse.proofs.Items.{Pairs, pair-faults, beyond-channel, same-level, Each, none, next}
+use Rattle.theorem_rehearse.proofs.Ready.{level-ready}
+
+abbrev pub keeps : Desk → List ℕ → Name → Bool
+keeps d t n = isKept (memoryOf d t n)
+
+-- ---- memories that agree
+-- a change whose channel, where it is a level's, is the desk's
+abbrev pub InChannels : Desk → Edit → Type 0
+InChannels d (Up fade delay) = Unit {0}
+InChannels d (Down fade delay) = Unit {0}
+InChannels d (Followon time) = Unit {0}
+InChannels d (Link whole fraction) = Unit {0}
+InChannels d (Level channel v) = Within 1 channel (d .channels)
+
+module _ (d D : Desk) (l : Larger d D) where
+  blank-agrees : (key : Key) → Agrees d (blankMemory d key) (blankMemory D key)
+  unfolding blankMemory levelsLength levelWidth
+  blank-agrees key =
+      (refl, part-zeros (d .channels * 1) 0 (D .channels * 1) (let m = l .channels in omega arith))
+
+  edit-agrees : (e : Edit) → InChannels d e → (m M : Memory) → Agrees d m M → Agrees d (editMemory d e m) (editMemory D e M)
+  unfolding editMemory editLevels
+  edit-agrees (Up fade delay) c m M a = (ap (editHead (Up fade delay)) (a .0), a .1)
+  edit-agrees (Down fade delay) c m M a = (ap (editHead (Down fade delay)) (a .0), a .1)
+  edit-agrees (Followon time) c m M a = (ap (editHead (Followon time)) (a .0), a .1)
+  edit-agrees (Link whole fraction) c m M a = (ap (editHead (Link whole fraction)) (a .0), a .1)
+  edit-agrees (Level channel v) c m M a = (
+    ap (editHead (Level channel v)) (a .0),
+    take-set-lt (levelsLength d) (M .levels) ((channel - 1) * levelWidth D) v inside
+        ∙ ap (λ (x : List ℕ). set x ((channel - 1) * levelWidth D) v) (a .1)
+        ∙ ap (λ (i : ℕ). set (m .levels) i v) (unfold levelWidth in refl),
+  )
+    where
+      inside : (channel - 1) * levelWidth D < levelsLength d
+      inside = unfold levelWidth levelsLength in (omega arith)
+
+  beyond-agrees : (channel v : ℕ) → d .channels < channel → (m M : Memory) → Agrees d m M → Agrees d m (editMemory D (Level channel v) M)
+  unfolding editMemory editLevels editHead
+  beyond-agrees channel v h m M a =
+      (a .0, take-set-le (levelsLength d) (M .levels) ((channel - 1) * levelWidth D) v outside ∙ a .1)
+    where
+      outside : levelsLength d ≤ (channel - 1) * levelWidth D
+      outside = unfold levelWidth levelsLength in (omega arith)
+
+-- ---- the relation, for one name
+unfoldable pub Beside : Desk → Type 0 → Kept → Kept → Type 0
+Beside d lost absent absent = Unit {0}
+Beside d lost absent (kept M) = lost
+Beside d lost (kept m) absent = ⊥
+Beside d lost (kept m) (kept M) = Agrees d m M
+
+module _ (d : Desk) (lost : Type 0) where
+  pub beside-none : Beside d lost absent absent
+  unfolding Beside
+  beside-none = tt
+
+  pub beside-same : {k k₂ K K₂ : Kept} → k₂ ≡ k → K₂ ≡ K → Beside d lost k K → Beside d lost k₂ K₂
+  beside-same e E h = subst₂ (λ a b. Beside d lost a b) (sym e) (sym E) h
+
+  beside-cond : (b : Bool) (k k₂ K K₂ : Kept) → Beside d lost k K → Beside d lost k₂ K₂ → Beside d lost (cond b k k₂) (cond b K K₂)
+  beside-cond true k k₂ K K₂ h g = h
+  beside-cond false k k₂ K K₂ h g = g
+
+  beside-map : (f F : Memory → Memory) → ((m M : Memory) → Agrees d m M → Agrees d (f m) (F M))
+      → (k K : Kept) → Beside d lost k K → Beside d lost (mapKept f k) (mapKept F K)
+  unfolding Beside mapKept
+  beside-map f F a absent absent h = h
+  beside-map f F a absent (kept M) h = h
+  beside-map f F a (kept m) absent h = h
+  beside-map f F a (kept m) (kept M) h = a m M h
+
+  beside-right : (F : Memory → Memory) → ((m M : Memory) → Agrees d m M → Agrees d m (F M))
+      → (k K : Kept) → Beside d lost k K → Beside d lost k (mapKept F K)
+  unfolding Beside mapKept
+  beside-right F a absent absent h = h
+  beside-right F a absent (kept M) h = h
+  beside-right F a (kept m) absent h = h
+  beside-right F a (kept m) (kept M) h = a m M h
+
+  beside-skipped : (F : Memory → Memory) (k K : Kept) → isKept k ≡ false → Beside d lost k K → Beside d lost k (mapKept F K)
+  unfolding Beside mapKept isKept
+  beside-skipped F absent absent e h = h
+  beside-skipped F absent (kept M) e h = h
+  beside-skipped F (kept m) K e h = absurd (true≢false e)
+
+  beside-lost : (k : Kept) (M : Memory) → isKept k ≡ false → lost → Beside d lost k (kept M)
+  unfolding Beside isKept
+  beside-lost absent M e h = h
+  beside-lost (kept m) M e h = absurd (true≢false e)
+
+  pub beside-gone : (k : Kept) → isKept k ≡ false → Beside d lost k absent
+  unfolding Beside isKept
+  beside-gone absent e = tt
+  beside-gone (kept m) e = absurd (true≢false e)
+
+  pub beside-kept : (k K : Kept) → Beside d lost k K → isKept k ≡ true → isKept K ≡ true
+  unfolding Beside isKept
+  beside-kept absent K h e = absurd (false≢true e)
+  beside-kept (kept m) absent h e = absurd h
+  beside-kept (kept m) (kept M) h e = refl
+
+  pub beside-agrees : (m : Memory) (K : Kept) → Beside d lost (kept m) K → (M : Memory) × (K ≡ kept M) × Agrees d m M
+  unfolding Beside
+  beside-agrees m absent h = absurd h
+  beside-agrees m (kept M) h = (M, refl, h)
+
+  pub beside-back : (k K : Kept) → Beside d lost k K → isKept K ≡ true → (lost → isKept k ≡ true) → isKept k ≡ true
+  unfolding Beside isKept
+  beside-back absent absent h e g = absurd (false≢true e)
+  beside-back absent (kept M) h e g = g h
+  beside-back (kept m) K h e g = refl
+
+-- ---- the relation, for all names, and the operations
+map-keeps : (f : Memory → Memory) (k : Kept) → isKept (mapKept f k) ≡ isKept k
+unfolding mapKept isKept
+map-keeps f absent = refl
+map-keeps f (kept m) = refl
+
+-- a change keeps what is kept
+pub edit-keeps : (d : Desk) (t : List ℕ) → Ready d t → (n : Name) (e : Edit) → EditFits e → (m : Name) → keeps d (edited d t n e) m ≡ keeps d t m
+edit-keeps d t r n e g m =
+    ap isKept (edit-view d t r n e g m)
+    ∙ by-bool (eqName m n)
+    (λ z.
+    ap isKept (cond-true (eqName m n) (mapKept (editMemory d e) (memoryOf d t n)) (memoryOf d t m) z)
+    ∙ map-keeps (editMemory d e) (memoryOf d t n)
+    ∙ ap (keeps d t) (sym (eq-name m n z)))
+    (λ z. ap isKept (cond-false (eqName m n) (mapKept (editMemory d e) (memoryOf d t n)) (memoryOf d t m) z))
+
+pub levels-keep : (d : Desk) (n : Name) (es : List Entry) (t : List ℕ) → Ready d t → (m : Name) → keeps d (allDone d (memory n) t es) m ≡ keeps d t m
+unfolding allDone done
+levels-keep d n [] t r m = refl
+levels-keep d n (LevelItem channel v ∷ es) t r m =
+    levels-keep d n es (edited d t n (Level channel v)) (level-ready d t r n channel v) m ∙ edit-keeps d t r n (Level channel v) tt m
+levels-keep d n (PatchItem channel dimmer v ∷ es) t r m = levels-keep d n es t r m
+levels-keep d n (Fault c x ∷ es) t r m = levels-keep d n es t r m
+
+pub start-keeps : (d : Desk) (t : List ℕ) → Ready d t → (n : Name) → okName d n ≡ true → (i : ℕ) → seat d t n ≡ at i → keeps d (started d t n) n ≡ true
+unfolding isKept
+start-keeps d t r n o i e =
+    ap isKept (start-view d t r n o i e n ∙ cond-true (eqName n n) (kept (blankMemory d (n .key))) (memoryOf d t n) (eq-name-refl n))
+
+module _ (d D : Desk) (l : Larger d D) (Lost : Name → Type 0) where
+  abbrev pub Views : List ℕ → List ℕ → Type 0
+  Views t T = (m : Name) → Beside d (Lost m) (memoryOf d t m) (memoryOf D T m)
+
+  module _ (t T : List ℕ) (r : Ready d t) (R : Ready D T) (v : Views t T) where
+    pub start-both : (n : Name) → okName d n ≡ true → okName D n ≡ true → (i I : ℕ) → seat d t n ≡ at i → seat D T n ≡ at I
+        → Views (started d t n) (started D T n)
+    unfolding Beside
+    start-both n o O i I e E m =
+        beside-same d (Lost m) (start-view d t r n o i e m) (start-view D T R n O I E m)
+        (beside-cond d (Lost m) (eqName m n) _ _ _ _ (blank-agrees d D l (n .key)) (v m))
+
+    -- the larger alone starts a memory that the smaller does not keep
+    pub start-right : (n : Name) → okName D n ≡ true → (I : ℕ) → seat D T n ≡ at I → keeps d t n ≡ false → Lost n → Views t (started D T n)
+    start-right n O I E g x m =
+        beside-same d (Lost m) refl (start-view D T R n O I E m)
+        (by-bool (eqName m n)
+        (λ z.
+        let q : n ≡ m = sym (eq-name m n z) in
+        beside-same d (Lost m) refl (cond-true (eqName m n) (kept (blankMemory D (n .key))) (memoryOf D T m) z)
+        (beside-lost d (Lost m) (memoryOf d t m) (blankMemory D (n .key)) (subst (λ (a : Name). keeps d t a ≡ false) q g) (subst Lost q x)))
+        (λ z. beside-same d (Lost m) refl (cond-false (eqName m n) (kept (blankMemory D (n .key))) (memoryOf D T m) z) (v m)))
+
+    pub edit-both : (n : Name) (e : Edit) → EditFits e → InChannels d e → Views (edited d t n e) (edited D T n e)
+    edit-both n e g c m =
+        beside-same d (Lost m) (edit-view d t r n e g m) (edit-view D T R n e g m)
+        (by-bool (eqName m n)
+        (λ z.
+        let q : n ≡ m = sym (eq-name m n z) in
+        beside-same d (Lost m) (cond-true (eqName m n) _ _ z) (cond-true (eqName m n) _ _ z)
+        (beside-map d (Lost m) (editMemory d e) (editMemory D e) (edit-agrees d D l e c) (memoryOf d t n) (memoryOf D T n)
+        (subst (λ (a : Name). Beside d (Lost m) (memoryOf d t a) (memoryOf D T a)) (sym q) (v m))))
+        (λ z. beside-same d (Lost m) (cond-false (eqName m n) _ _ z) (cond-false (eqName m n) _ _ z) (v m)))
+
+    -- the larger alone changes a memory, as `h` allows it
+    edit-alone : (n : Name) (e : Edit) → EditFits e
+        → ((lost : Type 0) → Beside d lost (memoryOf d t n) (memoryOf D T n) → Beside d lost (memoryOf d t n) (mapKept (editMemory D e) (memoryOf D T n)))
+        → Views t (edited D T n e)
+    edit-alone n e g h m =
+        beside-same d (Lost m) refl (edit-view D T R n e g m)
+        (by-bool (eqName m n)
+        (λ z.
+        let q : m ≡ n = eq-name m n z in
+        beside-same d (Lost m) (ap (memoryOf d t) q) (cond-true (eqName m n) _ _ z)
+        (h (Lost m) (subst (λ (a : Name). Beside d (Lost m) (memoryOf d t a) (memoryOf D T a)) q (v m))))
+        (λ z. beside-same d (Lost m) refl (cond-false (eqName m n) _ _ z) (v m)))
+
+    pub edit-skipped : (n : Name) (e : Edit) → EditFits e → keeps d t n ≡ false → Views t (edited D T n e)
+    edit-skipped n e g k = edit-alone n e g (λ lost h. beside-skipped d lost (editMemory D e) (memoryOf d t n) (memoryOf D T n) k h)
+
+    edit-beyond : (n : Name) (channel v : ℕ) → d .channels < channel → Views t (edited D T n (Level channel v))
+    edit-beyond n channel w h =
+        edit-alone n (Level channel w) tt
+        (λ lost b. beside-right d lost (editMemory D (Level channel w)) (beyond-agrees d D l channel w h) (memoryOf d t n) (memoryOf D T n) b)
+
+  pub levels-both : (n : Name) {es ES : List Entry} → Each (Pairs d D) es ES → (t T : List ℕ) → Ready d t → Ready D T → Views t T
+      → Views (allDone d (memory n) t es) (allDone D (memory n) T ES)
+  unfolding allDone done
+  levels-both n none t T r R v = v
+  levels-both n (next (pair-faults c x C X) h) t T r R v = levels-both n h t T r R v
+  levels-both n (next (beyond-channel c x k w b B) h) t T r R v =
+      levels-both n h t (edited D T n (Level k w)) r (level-ready D T R n k w) (edit-beyond t T r R v n k w b)
+  levels-both n (next (same-level k w c) h) t T r R v =
+      levels-both n h (edited d t n (Level k w)) (edited D T n (Level k w)) (level-ready d t r n k w) (level-ready D T R n k w)
+      (edit-both t T r R v n (Level k w) tt c)
+
+  pub levels-skipped : (n : Name) (ES : List Entry) (t T : List ℕ) → Ready d t → Ready D T → keeps d t n ≡ false → Views t T
+      → Views t (allDone D (memory n) T ES)
+  unfolding allDone done
+  levels-skipped n [] t T r R k v = v
+  levels-skipped n (LevelItem c w ∷ es) t T r R k v =
+      levels-skipped n es t (edited D T n (Level c w)) r (level-ready D T R n c w) k (edit-skipped t T r R v n (Level c w) tt k)
+  levels-skipped n (PatchItem c q w ∷ es) t T r R k v = levels-skipped n es t T r R k v
+  levels-skipped n (Fault c x ∷ es) t T r R k v = levels-skipped n es t T r R k v

@@ -1,0 +1,360 @@
+-- Each written line's step: it is obeyed, with no report, and does what was written. By what reading gives back of each value.
+-- Assumes nothing.
+use mathlib.Core.Path.{_≡_, refl, sym, ap, _∙_}
+use mathlib.Core.Bool.{true, cond}
+use mathlib.Core.List.{List, [], _∷_, _++_, append-nil}
+use Prim.Native.Nat.{ℕ, _≤_, _<_}
+use native.Mathlib.Omega.{arith}
+use lib.ListN.{length, getD, drop}
+use borrow.Author.Tests.{eq-eqb, ne-eqb, le-ltb}
+use Rattle.cells.specs.Text.{bytes}
+use Rattle.cells.specs.Search.{Found, at}
+use Rattle.cells.proofs.Split.{by-eq, cond-true, cond-false, cond-same}
+use Rattle.store_desk.specs.declared.Desk.{Desk}
+use Rattle.store_desk.specs.declared.Key.{Key}
+use Rattle.store_desk.specs.declared.Kind.{Kind}
+use Rattle.store_desk.specs.declared.Kind.the-variants.{Cue, Group, Sub}
+use Rattle.store_desk.specs.Size.{Within, isWithin, InRange}
+use Rattle.store_desk.specs.Name.{Name, pagesOf, supported, okNumber, okName, okWithin}
+use Rattle.store_desk.proofs.Size.{within-true}
+use Rattle.store_desk.proofs.Name.{ok-number, ok-sub, ok-supported, ok-within, ok-page, ok-fits}
+use Rattle.store_head.specs.declared.Patch.{Patch}
+use Rattle.text_fields.specs.declared.Keyword.{Keyword}
+use Rattle.text_fields.specs.declared.Keyword.the-variants as key
+use Rattle.text_fields.specs.Words.{Word}
+use Rattle.text_fields.specs.Keywords.{keywordOf, meaningOf, keywordRows, sameWord, sameText, upper}
+use Rattle.value.specs.declared.Paged.{Paged}
+use Rattle.value.specs.declared.Numbered.{Numbered}
+use Rattle.value.specs.declared.Timed.{Timed}
+use Rattle.value.specs.declared.Timed.the-variants.{Value as IsTime}
+use Rattle.value.specs.Integer.{cap, integerOf}
+use Rattle.value.specs.Number.{fractionDigits}
+use Rattle.value_level.specs.declared.Leveled.{Leveled}
+use Rattle.value_level.specs.Level.{levelOf}
+use Rattle.value_written.specs.Text.{integerText, numberText, levelText, timeText}
+use Rattle.value_written.proofs.Texts.{fraction-none}
+use Rattle.value_written.proofs.Undone.{integer-read, page-read, number-read, level-read, time-read}
+use Rattle.store.specs.declared.Edit.{Edit}
+use Rattle.store.specs.declared.Edit.the-variants.{Up, Down, Followon, Link, Level}
+use Rattle.store.specs.Slots.{onFound}
+use Rattle.store.specs.Change.{seat, started, edited, patched}
+use Rattle.store.specs.Form.{hasTimes, hasLink}
+use Rattle.load.specs.declared.State.{State}
+use Rattle.load.specs.declared.Outcome.the-variants.{Obeyed}
+use Rattle.load.specs.declared.Entry.{Entry}
+use Rattle.load.specs.declared.Entry.the-variants.{Level as LevelOf, Patch as PatchOf}
+use Rattle.load.specs.declared.Ranged.{Ranged}
+use Rattle.load.specs.declared.Ranged.the-variants.{Within as InLimits}
+use Rattle.load.specs.declared.Named.{Named}
+use Rattle.load.specs.declared.Named.the-variants.{Name as Accepted}
+use Rattle.load.specs.declared.Numeral.the-variants.{Number}
+use Rattle.load.specs.declared.Reading.{Reading}
+use Rattle.load.specs.declared.Reading.the-variants.{Change}
+use Rattle.load.specs.Condition.{fullOf, badChannel, badDimmer}
+use Rattle.load.specs.Item.{rangedOf, onRanged, onLevel, pairOf, tripleOf, pairsOf, triplesOf, faultsOf, memory, page, done, allDone}
+use Rattle.load.specs.Step.{ended, opened, name, recordStep, stepOf, keywordStep, isOverLong, ignoredIn, itemsDone}
+use Rattle.load.specs.Step.{numberedBy, subBy, numeralOf, pageAt, namedBy, namedOf, openedBy, primaryOf, refused}
+use Rattle.load.specs.Step.{augments, onTime, delayOf, fadeOf, linkBy, timesOf, changedBy, obeyedBy, secondaryBy, patchBy}
+use Rattle.save_lines.specs.Line.{patchText, primaryText, delayText, Lit, pairsText}
+use Rattle.theorem_same_show.proofs.Fair.{Fair, fair-quiet}
+use Rattle.theorem_same_show.proofs.Spelled.{spelled, fields-of}
+use Rattle.theorem_same_show.proofs.Worded.{Line, patch-line, kindWord, primary-line, delayWords, up-line, down-line, followon-line, link-line, pairWords, AllLit, chan-line}
+
+-- ---- a line is obeyed, and nothing is reported
+pub record Does (d : Desk) (s : State) (t l : List ℕ) (s₁ : State) (t₁ : List ℕ) : Type 0 where
+  pub fair : Fair l
+  pub quiet : cond (isOverLong l) [] (ignoredIn l) ≡ []
+  pub step : recordStep d s l t ≡ ended s₁ Obeyed t₁
+
+module _ {l : List ℕ} {xs : List (List ℕ)} (w : Line l xs) where
+  line-quiet : cond (isOverLong l) [] (ignoredIn l) ≡ []
+  line-quiet = ap (λ (z : List ℕ). cond (isOverLong l) [] z) (fair-quiet l (w .fair)) ∙ cond-same (isOverLong l) []
+
+  line-step : (d : Desk) (s : State) (t : List ℕ) → (cs : List ℕ) × (recordStep d s l t ≡ stepOf d s (spelled xs cs) t)
+  unfolding recordStep
+  line-step d s t =
+      let f = fields-of l xs (w .fair) (w .words) in
+      (f .0, cond-false (isOverLong l) _ _ (le-ltb 80 (length l) (w .short)) ∙ ap (λ (ws : List Word). stepOf d s ws t) (f .1))
+
+  -- a step of its fields, whatever their columns
+  does-of : (d : Desk) (s : State) (t : List ℕ) (s₁ : State) (t₁ : List ℕ) → ((cs : List ℕ) → stepOf d s (spelled xs cs) t ≡ ended s₁ Obeyed t₁) → Does d s t l s₁ t₁
+  does-of d s t s₁ t₁ f =
+      let g = line-step d s t in
+      record { fair = w .fair; quiet = line-quiet; step = g .1 ∙ f (g .0) }
+
+-- ---- keywords
+kindKeyword : Kind → Keyword
+kindKeyword Cue = key.Cue
+kindKeyword Group = key.Group
+kindKeyword Sub = key.Sub
+
+kind-keyword : (k : Kind) → keywordOf (kindWord k) ≡ kindKeyword k
+unfolding kindWord kindKeyword keywordOf meaningOf keywordRows sameWord sameText upper
+kind-keyword Cue = refl
+kind-keyword Group = refl
+kind-keyword Sub = refl
+
+kind-step : (d : Desk) (s : State) (k : Kind) (ws : List Word) (t : List ℕ) → keywordStep d s (kindKeyword k) ws t ≡ primaryOf d k ws t
+unfolding kindKeyword keywordStep
+kind-step d s Cue ws t = refl
+kind-step d s Group ws t = refl
+kind-step d s Sub ws t = refl
+
+-- ---- the primaries
+number-zero : (w f : ℕ) → f ≡ 0 → numberText w f ≡ integerText w
+unfolding numberText
+number-zero w f e = ap (λ (z : List ℕ). integerText w ++ z) (fraction-none fractionDigits f e) ∙ append-nil (integerText w)
+
+module _ (d : Desk) (r : InRange d) where
+  sub-numeral : (w f : ℕ) → Within 1 w (d .subs) → f ≡ 0 → subBy d (integerOf (numberText w f)) ≡ Number w f
+  unfolding subBy
+  sub-numeral w f h e =
+      let l : w ≤ cap = omega (arith, r .subs .1) in
+      ap (λ (x : List ℕ). subBy d (integerOf x)) (number-zero w f e)
+      ∙ ap (subBy d) (integer-read w l)
+      ∙ cond-true (isWithin 1 w (d .subs)) _ _ (within-true 1 w (d .subs) h)
+      ∙ ap (λ (z : ℕ). Number w z) (sym e)
+
+  numeral-of : (k : Kind) (key : Key) (c : ℕ) → okWithin d k key ≡ true
+      → numeralOf d k (record { chars = numberText (key .whole) (key .fraction); column = c }) ≡ Number (key .whole) (key .fraction)
+  unfolding numeralOf numberedBy okWithin
+  numeral-of Cue key c o =
+      let n = ok-number (key .whole) (key .fraction) o in
+      ap numberedBy (number-read (key .whole) (key .fraction) (n .1) (n .2) (λ e. omega (arith, n .0)))
+  numeral-of Group key c o =
+      let n = ok-number (key .whole) (key .fraction) o in
+      ap numberedBy (number-read (key .whole) (key .fraction) (n .1) (n .2) (λ e. omega (arith, n .0)))
+  numeral-of Sub key c o =
+      let n = ok-sub d (key .whole) (key .fraction) o in
+      sub-numeral (key .whole) (key .fraction) (n .0) (n .1)
+
+  whole-fits : (k : Kind) (key : Key) → okWithin d k key ≡ true → key .whole ≤ 999
+  unfolding okWithin
+  whole-fits Cue key o = ok-number (key .whole) (key .fraction) o .1
+  whole-fits Group key o = ok-number (key .whole) (key .fraction) o .1
+  whole-fits Sub key o = let n = ok-sub d (key .whole) (key .fraction) o in omega (arith, r .subs .1, n .0)
+
+  module _ (k : Kind) (y : Key) (o : okName d (name k y) ≡ true) where
+    named-of : (cs : List ℕ) → namedOf d k (spelled (numberText (y .whole) (y .fraction) ∷ integerText (y .page) ∷ []) cs) ≡ Accepted y
+    unfolding namedOf namedBy pageAt spelled
+    named-of cs =
+        let p = ok-page d (name k y) o in
+        let f = ok-fits d (name k y) r o in
+        let l : y .page ≤ cap = omega (arith, f .page) in
+        (λ i.
+        namedBy (numeral-of k y (getD cs 0 0) (ok-within d (name k y) o) i)
+        (page-read (pagesOf d k) (y .page) (p .0) (p .1) l i))
+
+    opened-step : (t : List ℕ) (i : ℕ) → seat d t (name k y) ≡ at i → openedBy d k (Accepted y) t ≡ ended (opened k y) Obeyed (started d t (name k y))
+    unfolding openedBy onFound
+    opened-step t i e =
+        ap (λ (f : Found). onFound f (λ j. ended (opened k y) Obeyed (started d t (name k y))) (refused (fullOf k) t)) e
+
+    primary-step : (s : State) (t : List ℕ) (i : ℕ) → seat d t (name k y) ≡ at i → (cs : List ℕ)
+        → stepOf d s (spelled (kindWord k ∷ numberText (y .whole) (y .fraction) ∷ integerText (y .page) ∷ []) cs) t
+        ≡ ended (opened k y) Obeyed (started d t (name k y))
+    unfolding stepOf spelled primaryOf
+    primary-step s t i e cs =
+        let ws : List Word = spelled (numberText (y .whole) (y .fraction) ∷ integerText (y .page) ∷ []) (drop 1 cs) in
+        ap (λ (c : Keyword). keywordStep d s c ws t) (kind-keyword k)
+        ∙ kind-step d s k ws t
+        ∙ cond-true (supported d k) (openedBy d k (namedOf d k ws) t) _ (ok-supported d (name k y) o)
+        ∙ ap (λ (n : Named). openedBy d k n t) (named-of (drop 1 cs))
+        ∙ opened-step t i e
+
+    pub primary-does : (s : State) (t : List ℕ) (i : ℕ) → seat d t (name k y) ≡ at i
+        → Does d s t (primaryText k y) (opened k y) (started d t (name k y))
+    primary-does s t i e =
+        let f = ok-fits d (name k y) r o in
+        does-of (primary-line k y (whole-fits k y (ok-within d (name k y) o)) (omega (arith, f .page)))
+        d s t (opened k y) (started d t (name k y)) (primary-step s t i e)
+
+-- ---- UP, DOWN, FOLLOWON, LINK
+delay-of : (delay : ℕ) → delay ≤ 35999999 → (cs : List ℕ) → delayOf (spelled (delayWords delay) cs) ≡ IsTime delay
+unfolding delayOf delayWords spelled
+delay-of delay h cs =
+    by-eq delay 0
+    (λ e. rw (eq-eqb delay 0 e) (ap IsTime (sym e)))
+    (λ e. rw (ne-eqb delay 0 e) (time-read delay h))
+
+fade-of : (f : ℕ → ℕ → Edit) (fade delay : ℕ) → fade ≤ 35999999 → delay ≤ 35999999 → (cs : List ℕ)
+    → fadeOf f (spelled (timeText fade ∷ delayWords delay) cs) ≡ Change (f fade delay)
+unfolding fadeOf spelled onTime
+fade-of f fade delay hf hd cs =
+    ap (λ (x : Timed). onTime x (λ a. onTime (delayOf (spelled (delayWords delay) (drop 1 cs))) (λ b. Change (f a b)))) (time-read fade hf)
+    ∙ ap (λ (x : Timed). onTime x (λ b. Change (f fade b))) (delay-of delay hd (drop 1 cs))
+
+-- the keywords of the secondaries, of PATCH
+keyword-up : keywordOf (bytes "UP") ≡ key.Up
+unfolding keywordOf meaningOf keywordRows sameWord sameText upper
+keyword-up = refl
+
+keyword-down : keywordOf (bytes "DOWN") ≡ key.Down
+unfolding keywordOf meaningOf keywordRows sameWord sameText upper
+keyword-down = refl
+
+keyword-followon : keywordOf (bytes "FOLLOWON") ≡ key.Followon
+unfolding keywordOf meaningOf keywordRows sameWord sameText upper
+keyword-followon = refl
+
+keyword-link : keywordOf (bytes "LINK") ≡ key.Link
+unfolding keywordOf meaningOf keywordRows sameWord sameText upper
+keyword-link = refl
+
+keyword-chan : keywordOf (bytes "CHAN") ≡ key.Chan
+unfolding keywordOf meaningOf keywordRows sameWord sameText upper
+keyword-chan = refl
+
+keyword-patch : keywordOf (bytes "PATCH") ≡ key.Patch
+unfolding keywordOf meaningOf keywordRows sameWord sameText upper
+keyword-patch = refl
+
+-- changes of the open memory, one after the other
+unfoldable pub editedAll : Desk → List ℕ → Name → List Edit → List ℕ
+editedAll d t n [] = t
+editedAll d t n (e ∷ es) = editedAll d (edited d t n e) n es
+
+-- the changes that pairs ask for
+unfoldable pub litEdits : List Lit → List Edit
+litEdits [] = []
+litEdits (p ∷ ps) = Level (p .channel) (p .level) ∷ litEdits ps
+
+litEntries : List Lit → List Entry
+litEntries [] = []
+litEntries (p ∷ ps) = LevelOf (p .channel) (p .level) ∷ litEntries ps
+
+module _ (d : Desk) (r : InRange d) where
+  channel-of : (n : ℕ) → Within 1 n (d .channels) → rangedOf (d .channels) badChannel (integerOf (integerText n)) ≡ InLimits n
+  unfolding rangedOf
+  channel-of n h =
+      let l : n ≤ cap = omega (arith, r .channels .1) in
+      ap (rangedOf (d .channels) badChannel) (integer-read n l) ∙ cond-true (isWithin 1 n (d .channels)) _ _ (within-true 1 n (d .channels) h)
+
+  dimmer-of : (n : ℕ) → Within 1 n (d .dimmers) → rangedOf (d .dimmers) badDimmer (integerOf (integerText n)) ≡ InLimits n
+  unfolding rangedOf
+  dimmer-of n h =
+      let l : n ≤ cap = omega (arith, r .dimmers .1) in
+      ap (rangedOf (d .dimmers) badDimmer) (integer-read n l) ∙ cond-true (isWithin 1 n (d .dimmers)) _ _ (within-true 1 n (d .dimmers) h)
+
+  pair-of : (n v a b : ℕ) → Within 1 n (d .channels) → v < 256
+      → pairOf d (record { chars = integerText n; column = a }) (record { chars = levelText v; column = b }) ≡ LevelOf n v
+  unfolding pairOf onRanged onLevel
+  pair-of n v a b hn hv =
+      ap (λ (x : Ranged). onRanged x a (λ c. onLevel (levelOf (levelText v)) b (λ u. LevelOf c u))) (channel-of n hn)
+      ∙ ap (λ (x : Leveled). onLevel x b (λ u. LevelOf n u)) (level-read v hv)
+
+  pairs-of : (ps : List Lit) → AllLit d ps → (cs : List ℕ) → pairsOf d (spelled (pairWords ps) cs) ≡ litEntries ps
+  unfolding pairsOf spelled pairWords litEntries
+  pairs-of [] a cs = refl
+  pairs-of (p ∷ ps) a cs =
+      (λ i.
+      pair-of (p .channel) (p .level) (getD cs 0 0) (getD (drop 1 cs) 0 0) (a .0) (a .1) i
+      ∷ pairs-of ps (a .2) (drop 1 (drop 1 cs)) i)
+
+  triple-of : (c m v a b e : ℕ) → Within 1 c (d .channels) → Within 1 m (d .dimmers) → v < 256
+      → tripleOf d (record { chars = integerText c; column = a }) (record { chars = integerText m; column = b }) (record { chars = levelText v; column = e }) ≡ PatchOf c m v
+  unfolding tripleOf onRanged onLevel
+  triple-of c m v a b e hc hm hv =
+      ap (λ (x : Ranged). onRanged x a (λ n. onRanged (rangedOf (d .dimmers) badDimmer (integerOf (integerText m))) b (λ k. onLevel (levelOf (levelText v)) e (λ u. PatchOf n k u)))) (channel-of c hc)
+      ∙ ap (λ (x : Ranged). onRanged x b (λ k. onLevel (levelOf (levelText v)) e (λ u. PatchOf c k u))) (dimmer-of m hm)
+      ∙ ap (λ (x : Leveled). onLevel x e (λ u. PatchOf c m u)) (level-read v hv)
+
+  -- ---- PATCH
+  pub patch-does : (s : State) (t : List ℕ) (p m : ℕ) (x : Patch) → Within 1 p (d .«patch_pages») → Within 1 m (d .dimmers) → Within 1 (x .channel) (d .channels)
+      → x .level < 256 → Does d s t (patchText p m x) s (patched d t p m (x .channel) (x .level))
+  patch-does s t p m x hp hm hc hv =
+      let a : p < 1000 = omega (arith, r .patchPages .1) in
+      let b : m < 1000 = omega (arith, r .dimmers .1) in
+      let c : x .channel < 1000 = omega (arith, r .channels .1) in
+      does-of (patch-line p m x a b c) d s t s (patched d t p m (x .channel) (x .level)) (λ cs. patch-step cs)
+    where
+      patch-step : (cs : List ℕ)
+          → stepOf d s (spelled (bytes "PATCH" ∷ integerText p ∷ integerText (x .channel) ∷ integerText m ∷ levelText (x .level) ∷ []) cs) t
+          ≡ ended s Obeyed (patched d t p m (x .channel) (x .level))
+      patch-step cs =
+          unfold stepOf keywordStep spelled triplesOf patchBy faultsOf allDone done in
+          (let l : p ≤ cap = omega (arith, r .patchPages .1) in
+          let ws : List Word = spelled (integerText (x .channel) ∷ integerText m ∷ levelText (x .level) ∷ []) (drop 1 (drop 1 cs)) in
+          ap (λ (c : Keyword). keywordStep d s c (spelled (integerText p ∷ integerText (x .channel) ∷ integerText m ∷ levelText (x .level) ∷ []) (drop 1 cs)) t) keyword-patch
+          ∙ ap (λ (g : Paged). patchBy d s g ws t) (page-read (d .«patch_pages») p (hp .0) (hp .1) l)
+          ∙ ap (λ (e : Entry). itemsDone d s (page p) (e ∷ []) t)
+          (triple-of (x .channel) m (x .level) (getD (drop 1 (drop 1 cs)) 0 0) (getD (drop 1 (drop 1 (drop 1 cs))) 0 0) (getD (drop 1 (drop 1 (drop 1 (drop 1 cs)))) 0 0) hc hm hv))
+
+-- ---- the secondaries, of the open memory
+lit-faults : (ps : List Lit) → faultsOf (litEntries ps) ≡ []
+unfolding faultsOf litEntries
+lit-faults [] = refl
+lit-faults (p ∷ ps) = lit-faults ps
+
+lit-done : (d : Desk) (n : Name) (ps : List Lit) (t : List ℕ) → allDone d (memory n) t (litEntries ps) ≡ editedAll d t n (litEdits ps)
+unfolding allDone done litEntries editedAll litEdits
+lit-done d n [] t = refl
+lit-done d n (p ∷ ps) t = lit-done d n ps (edited d t n (Level (p .channel) (p .level)))
+
+module _ (d : Desk) (k : Kind) (y : Key) (t : List ℕ) where
+  abbrev now : State
+  now = opened k y
+
+  -- the fields ask for a change
+  changed : (e : Edit) {x : Reading} → x ≡ Change e → changedBy d now (name k y) x t ≡ ended now Obeyed (edited d t (name k y) e)
+  unfolding changedBy
+  changed e q = ap (λ (x : Reading). changedBy d now (name k y) x t) q
+
+  module _ (fade delay : ℕ) (hf : fade ≤ 35999999) (hd : delay ≤ 35999999) (h : hasTimes k ≡ true) where
+    up-step : (cs : List ℕ) → stepOf d now (spelled (bytes "UP" ∷ timeText fade ∷ delayWords delay) cs) t ≡ ended now Obeyed (edited d t (name k y) (Up fade delay))
+    unfolding stepOf keywordStep spelled secondaryBy obeyedBy augments timesOf
+    up-step cs =
+        let ws : List Word = spelled (timeText fade ∷ delayWords delay) (drop 1 cs) in
+        ap (λ (c : Keyword). keywordStep d now c ws t) keyword-up
+        ∙ cond-true (hasTimes k) _ _ h
+        ∙ changed (Up fade delay) (fade-of (λ a b. Up a b) fade delay hf hd (drop 1 cs))
+
+    pub up-does : Does d now t (bytes "UP " ++ (timeText fade ++ delayText delay)) now (edited d t (name k y) (Up fade delay))
+    up-does = does-of (up-line fade delay hf hd) d now t now (edited d t (name k y) (Up fade delay)) up-step
+
+    down-step : (cs : List ℕ) → stepOf d now (spelled (bytes "DOWN" ∷ timeText fade ∷ delayWords delay) cs) t ≡ ended now Obeyed (edited d t (name k y) (Down fade delay))
+    unfolding stepOf keywordStep spelled secondaryBy obeyedBy augments timesOf
+    down-step cs =
+        let ws : List Word = spelled (timeText fade ∷ delayWords delay) (drop 1 cs) in
+        ap (λ (c : Keyword). keywordStep d now c ws t) keyword-down
+        ∙ cond-true (hasTimes k) _ _ h
+        ∙ changed (Down fade delay) (fade-of (λ a b. Down a b) fade delay hf hd (drop 1 cs))
+
+    pub down-does : Does d now t (bytes "DOWN " ++ (timeText fade ++ delayText delay)) now (edited d t (name k y) (Down fade delay))
+    down-does = does-of (down-line fade delay hf hd) d now t now (edited d t (name k y) (Down fade delay)) down-step
+
+  module _ (h : hasLink k ≡ true) where
+    module _ (time : ℕ) (l : time ≤ 35999999) where
+      followon-step : (cs : List ℕ) → stepOf d now (spelled (bytes "FOLLOWON" ∷ timeText time ∷ delayWords 0) cs) t ≡ ended now Obeyed (edited d t (name k y) (Followon time))
+      unfolding stepOf keywordStep spelled secondaryBy obeyedBy augments timesOf onTime
+      followon-step cs =
+          ap (λ (c : Keyword). keywordStep d now c (spelled (timeText time ∷ delayWords 0) (drop 1 cs)) t) keyword-followon
+          ∙ cond-true (hasLink k) _ _ h
+          ∙ changed (Followon time) (ap (λ (x : Timed). onTime x (λ a. Change (Followon a))) (time-read time l))
+
+      pub followon-does : Does d now t (bytes "FOLLOWON " ++ (timeText time ++ delayText 0)) now (edited d t (name k y) (Followon time))
+      followon-does = does-of (followon-line time 0 l (omega arith)) d now t now (edited d t (name k y) (Followon time)) followon-step
+
+    module _ (whole fraction : ℕ) (o : okNumber whole fraction ≡ true) where
+      link-step : (cs : List ℕ) → stepOf d now (spelled (bytes "LINK" ∷ numberText whole fraction ∷ []) cs) t ≡ ended now Obeyed (edited d t (name k y) (Link whole fraction))
+      unfolding stepOf keywordStep spelled secondaryBy obeyedBy augments timesOf linkBy numberedBy
+      link-step cs =
+          let n = ok-number whole fraction o in
+          ap (λ (c : Keyword). keywordStep d now c (spelled (numberText whole fraction ∷ []) (drop 1 cs)) t) keyword-link
+          ∙ cond-true (hasLink k) _ _ h
+          ∙ changed (Link whole fraction)
+          (ap (λ (x : Numbered). linkBy (numberedBy x)) (number-read whole fraction (n .1) (n .2) (λ e. omega (arith, n .0))))
+
+      pub link-does : Does d now t (bytes "LINK " ++ numberText whole fraction) now (edited d t (name k y) (Link whole fraction))
+      link-does = does-of (link-line whole fraction (ok-number whole fraction o .1)) d now t now (edited d t (name k y) (Link whole fraction)) link-step
+
+  module _ (r : InRange d) (ps : List Lit) (a : AllLit d ps) where
+    chan-step : (cs : List ℕ) → stepOf d now (spelled (bytes "CHAN" ∷ pairWords ps) cs) t ≡ ended now Obeyed (editedAll d t (name k y) (litEdits ps))
+    unfolding stepOf keywordStep spelled secondaryBy obeyedBy augments
+    chan-step cs =
+        ap (λ (c : Keyword). keywordStep d now c (spelled (pairWords ps) (drop 1 cs)) t) keyword-chan
+        ∙ ap (λ (es : List Entry). itemsDone d now (memory (name k y)) es t) (pairs-of d r ps a (drop 1 cs))
+        ∙ (λ i. record { state = now; outcome = Obeyed; faults = lit-faults ps i; store = lit-done d (name k y) ps t i })
+
+    pub chan-does : length ps ≤ 8 → Does d now t (bytes "CHAN" ++ pairsText ps) now (editedAll d t (name k y) (litEdits ps))
+    chan-does l = does-of (chan-line d (r .channels .1) ps a l) d now t now (editedAll d t (name k y) (litEdits ps)) chan-step

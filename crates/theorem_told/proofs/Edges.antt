@@ -1,0 +1,33 @@
+-- The twelve proved edges hold, each by computation of the whole load.
+-- Assumes nothing.
+use mathlib.Core.Path.{_≡_, refl}
+use mathlib.Core.List.{map}
+use Rattle.cells.specs.Put.{put}
+use Rattle.cells.specs.Scan.{span}
+use Rattle.cells.specs.Search.{firstFrom}
+use Rattle.store_desk.specs.Name.{firstSlot, slotCount, pagesOf, supported, eqKey}
+use Rattle.store_desk.specs.Size.{allOf, levelWidth, levelsLength, slotLength, subSlots, slotsOf, patchStart, entriesOf, storeLength}
+use Rattle.store_head.specs.Layout.{encodeHead, decodeHead}
+use Rattle.store_head.specs.Pack.{total, packed, unpacked}
+use Rattle.store.specs.Change.{lowestUnused, newSeat, seat, blankHead, blankSlot, started, editHead, withHead, editSlot, editAt, edited}
+use Rattle.store.specs.Form.{hasTimes, hasLink}
+use Rattle.store.specs.Slots.{slotAt, putSlot, headAt, levelsAt, levelPlace, holdsAt, find, onFound}
+use Rattle.store.specs.View.{memoryAt, memoryOf}
+use Rattle.text_records.specs.Cleaning.{isHigh, isControl, isMark, keptFrom, has}
+use Rattle.text_records.specs.Stream.{isEnd, terminated, piecesIn, piecesOf, bare, recordsOf}
+use Rattle.text_fields.specs.Keywords.{upper, sameText, sameWord, meaningOf, keywordRows, keywordOf}
+use Rattle.text_fields.specs.Words.{isDelimiter, wordsIn, wordsOf, fieldsOf}
+use Rattle.value.specs.Integer.{digitOf, digitsFrom, runOf, integerOf}
+use Rattle.value.specs.Number.{numberedOf, numberOf}
+use Rattle.value.specs.Parts.{cutAt, decimalsOf}
+use Rattle.value.specs.Time.{rangedOf, partOf, joinOf, laterOf, clockOf, timedOf, timeOf}
+use Rattle.value_level.specs.Level.{hexWordOf, hexOf, levelWordOf, upperOf, levelOf}
+use Rattle.load.specs.Condition.{isError}
+use Rattle.load.specs.Item.{rangedOf as rangedOf₂, onRanged, onLevel, pairOf, pairsOf, faultsOf, done, allDone}
+use Rattle.load.specs.Run.{stops, runFrom, loadOf, allReports, classOf, eqClass, tallyOf, lastOf, closingOf, reportWord, totalsOf}
+use Rattle.load.specs.Step.{numberedBy, numeralOf, pageAt, namedBy, namedOf, openedBy, primaryOf, augments, onTime, delayOf, fadeOf, timesOf, changedBy, obeyedBy, secondaryBy, keywordStep, stepOf, recordStep, ignoredIn, outcomeReports, conditionsOf}
+use Rattle.theorem_told.specs.Edges.{edges, wantedOf, keptBy, loaded, answerOf}
+
+pub edges-hold : map answerOf edges ≡ map wantedOf edges
+unfolding put span firstFrom firstSlot slotCount pagesOf supported eqKey allOf levelWidth levelsLength slotLength subSlots slotsOf patchStart entriesOf storeLength encodeHead decodeHead total packed unpacked lowestUnused newSeat seat blankHead blankSlot started editHead withHead editSlot editAt edited hasTimes hasLink slotAt putSlot headAt levelsAt levelPlace holdsAt find onFound memoryAt memoryOf isHigh isControl isMark keptFrom has isEnd terminated piecesIn piecesOf bare recordsOf upper sameText sameWord meaningOf keywordRows keywordOf isDelimiter wordsIn wordsOf fieldsOf digitOf digitsFrom runOf integerOf numberedOf numberOf cutAt decimalsOf rangedOf partOf joinOf laterOf clockOf timedOf timeOf hexWordOf hexOf levelWordOf upperOf levelOf isError rangedOf₂ onRanged onLevel pairOf pairsOf faultsOf done allDone stops runFrom loadOf allReports classOf eqClass tallyOf lastOf closingOf reportWord totalsOf numberedBy numeralOf pageAt namedBy namedOf openedBy primaryOf augments onTime delayOf fadeOf timesOf changedBy obeyedBy secondaryBy keywordStep stepOf recordStep ignoredIn outcomeReports conditionsOf keptBy loaded answerOf
+edges-hold = refl

@@ -1,0 +1,156 @@
+-- Records taken in two parts: the run of both is the run of the first, and then of the others from where it ended. By induction on the
+-- first part, and by cases on whether a record stops the load.
+-- Assumes nothing.
+use mathlib.Core.Path.{_≡_, refl, sym, ap, _∙_}
+use mathlib.Core.Bool.{true, false}
+use mathlib.Core.List.{List, [], _∷_, _++_, append-assoc, append-nil}
+use Prim.Native.Nat.{ℕ, zero, suc, _+_}
+use native.Mathlib.Omega.{arith}
+use lib.ListN.{length, take}
+use lib.Seq.{take-nil}
+use Rattle.cells.proofs.Split.{by-bool, clash, cond-true, cond-false}
+use Rattle.store_desk.specs.declared.Desk.{Desk}
+use Rattle.load.specs.declared.State.{State}
+use Rattle.load.specs.declared.Outcome.{Outcome}
+use Rattle.load.specs.Step.{Step, recordStep, conditionsOf}
+use Rattle.load.specs.Run.{Run, Report, stops, none, only, andThen, reportsAt, runFrom}
+use Rattle.theorem_told.specs.Classes.{joined, goneOn}
+
+-- ---- one record at a time
+pub run-none : (d : Desk) (n : ℕ) (s : State) (t : List ℕ) → runFrom d n s t [] ≡ none s t
+unfolding runFrom
+run-none d n s t = refl
+
+module _ (d : Desk) (n : ℕ) (s : State) (t r : List ℕ) (rs : List (List ℕ)) where
+  pub run-stops : stops (recordStep d s r t .outcome) ≡ true → runFrom d n s t (r ∷ rs) ≡ only (n + 1) r (recordStep d s r t)
+  unfolding runFrom
+  run-stops e = cond-true _ _ _ e
+
+  pub run-goes : stops (recordStep d s r t .outcome) ≡ false
+      → runFrom d n s t (r ∷ rs)
+      ≡ andThen (n + 1) r (recordStep d s r t) (runFrom d (n + 1) (recordStep d s r t .state) (recordStep d s r t .store) rs)
+  unfolding runFrom
+  run-goes e = cond-false _ _ _ e
+
+-- ---- in two parts
+pub gone-stopped : (d : Desk) (n : ℕ) (x : Run) (rs : List (List ℕ)) → x .stopped ≡ true → goneOn d n x rs ≡ x
+unfolding goneOn
+gone-stopped d n x rs e = cond-true _ _ _ e
+
+pub gone-joined : (d : Desk) (n : ℕ) (x : Run) (rs : List (List ℕ)) → x .stopped ≡ false
+    → goneOn d n x rs ≡ joined x (runFrom d n (x .state) (x .store) rs)
+unfolding goneOn
+gone-joined d n x rs e = cond-false _ _ _ e
+
+-- a record before a run that goes on
+and-goes : (d : Desk) (n m : ℕ) (r : List ℕ) (x : Step) (y : Run) (rs : List (List ℕ))
+    → andThen n r x (goneOn d m y rs) ≡ goneOn d m (andThen n r x y) rs
+and-goes d n m r x y rs =
+    by-bool (y .stopped)
+    (λ e. ap (λ (z : Run). andThen n r x z) (gone-stopped d m y rs e) ∙ sym (gone-stopped d m (andThen n r x y) rs e))
+    (λ e.
+    let z = runFrom d m (y .state) (y .store) rs in
+    let a : reportsAt n (conditionsOf r x) ++ (y .reports ++ z .reports) ≡ (reportsAt n (conditionsOf r x) ++ y .reports) ++ z .reports =
+    sym (append-assoc (reportsAt n (conditionsOf r x)) (y .reports) (z .reports)) in
+    ap (λ (w : Run). andThen n r x w) (gone-joined d m y rs e)
+    ∙ ap
+    (λ (l : List Report). record { state = z .state; store = z .store; stopped = z .stopped; outcomes = x .outcome ∷ (y .outcomes ++ z .outcomes); reports = l })
+    a
+    ∙ sym (gone-joined d m (andThen n r x y) rs e))
+
+pub run-append : (d : Desk) (n : ℕ) (s : State) (t : List ℕ) (rs more : List (List ℕ))
+    → runFrom d n s t (rs ++ more) ≡ goneOn d (n + length rs) (runFrom d n s t rs) more
+run-append d n s t [] more =
+    let z : n ≡ n + 0 = omega arith in
+    ap (λ (m : ℕ). runFrom d m s t more) z
+    ∙ sym (gone-joined d (n + 0) (none s t) more refl)
+    ∙ ap (λ (x : Run). goneOn d (n + 0) x more) (sym (run-none d n s t))
+run-append d n s t (r ∷ rs) more =
+    let x = recordStep d s r t in
+    let m : n + 1 + length rs ≡ n + suc (length rs) = omega arith in
+    by-bool (stops (x .outcome))
+    (λ e.
+    run-stops d n s t r (rs ++ more) e
+    ∙ sym (gone-stopped d (n + suc (length rs)) (only (n + 1) r x) more refl)
+    ∙ ap (λ (y : Run). goneOn d (n + suc (length rs)) y more) (sym (run-stops d n s t r rs e)))
+    (λ e.
+    run-goes d n s t r (rs ++ more) e
+    ∙ ap (λ (y : Run). andThen (n + 1) r x y) (run-append d (n + 1) (x .state) (x .store) rs more)
+    ∙ and-goes d (n + 1) (n + 1 + length rs) r x (runFrom d (n + 1) (x .state) (x .store) rs) more
+    ∙ ap (λ (k : ℕ). goneOn d k (andThen (n + 1) r x (runFrom d (n + 1) (x .state) (x .store) rs)) more) m
+    ∙ ap (λ (y : Run). goneOn d (n + suc (length rs)) y more) (sym (run-goes d n s t r rs e)))
+
+-- with no others, nothing more
+pub gone-none : (d : Desk) (n : ℕ) (x : Run) → goneOn d n x [] ≡ x
+gone-none d n x =
+    by-bool (x .stopped) (λ e. gone-stopped d n x [] e)
+    (λ e.
+    gone-joined d n x [] e
+    ∙ ap (λ (y : Run). joined x y) (run-none d n (x .state) (x .store))
+    ∙ (λ i.
+    record {
+      state = x .state;
+      store = x .store;
+      stopped = sym e i;
+      outcomes = append-nil (x .outcomes) i;
+      reports = append-nil (x .reports) i;
+    }))
+
+-- ---- the records read
+-- of the first m records, the first m outcomes
+pub run-front : (d : Desk) (n : ℕ) (s : State) (t : List ℕ) (m : ℕ) (rs : List (List ℕ))
+    → runFrom d n s t (take m rs) .outcomes ≡ take m (runFrom d n s t rs .outcomes)
+run-front d n s t zero rs = ap (λ (x : Run). x .outcomes) (run-none d n s t)
+run-front d n s t (suc m) [] =
+    ap (λ (x : Run). x .outcomes) (run-none d n s t) ∙ sym (ap (λ (x : Run). take (suc m) (x .outcomes)) (run-none d n s t))
+run-front d n s t (suc m) (r ∷ rs) =
+    let x = recordStep d s r t in
+    by-bool (stops (x .outcome))
+    (λ e.
+    ap (λ (y : Run). y .outcomes) (run-stops d n s t r (take m rs) e)
+    ∙ ap (λ (os : List Outcome). x .outcome ∷ os) (sym (take-nil m))
+    ∙ sym (ap (λ (y : Run). take (suc m) (y .outcomes)) (run-stops d n s t r rs e)))
+    (λ e.
+    ap (λ (y : Run). y .outcomes) (run-goes d n s t r (take m rs) e)
+    ∙ ap (λ (os : List Outcome). x .outcome ∷ os) (run-front d (n + 1) (x .state) (x .store) m rs)
+    ∙ sym (ap (λ (y : Run). take (suc m) (y .outcomes)) (run-goes d n s t r rs e)))
+
+-- a load that did not stop read them all
+pub run-read : (d : Desk) (n : ℕ) (s : State) (t : List ℕ) (rs : List (List ℕ)) → runFrom d n s t rs .stopped ≡ false
+    → length (runFrom d n s t rs .outcomes) ≡ length rs
+run-read d n s t [] h = ap (λ (x : Run). length (x .outcomes)) (run-none d n s t)
+run-read d n s t (r ∷ rs) h =
+    let x = recordStep d s r t in
+    by-bool (stops (x .outcome))
+    (λ e. clash {b = true} refl (sym (ap (λ (y : Run). y .stopped) (run-stops d n s t r rs e)) ∙ h))
+    (λ e.
+    ap (λ (y : Run). length (y .outcomes)) (run-goes d n s t r rs e)
+    ∙ ap suc (run-read d (n + 1) (x .state) (x .store) rs (sym (ap (λ (y : Run). y .stopped) (run-goes d n s t r rs e)) ∙ h)))
+
+-- ---- one record alone
+module _ (d : Desk) (n : ℕ) (s : State) (t r : List ℕ) where
+  pub run-one-store : runFrom d n s t (r ∷ []) .store ≡ recordStep d s r t .store
+  run-one-store =
+      let x = recordStep d s r t in
+      by-bool (stops (x .outcome)) (λ e. ap (λ (y : Run). y .store) (run-stops d n s t r [] e))
+      (λ e.
+      ap (λ (y : Run). y .store) (run-goes d n s t r [] e) ∙ ap (λ (y : Run). y .store) (run-none d (n + 1) (x .state) (x .store)))
+
+  pub run-one-reports : runFrom d n s t (r ∷ []) .reports ≡ reportsAt (n + 1) (conditionsOf r (recordStep d s r t))
+  run-one-reports =
+      let x = recordStep d s r t in
+      let own = reportsAt (n + 1) (conditionsOf r x) in
+      by-bool (stops (x .outcome)) (λ e. ap (λ (y : Run). y .reports) (run-stops d n s t r [] e))
+      (λ e.
+      ap (λ (y : Run). y .reports) (run-goes d n s t r [] e)
+      ∙ ap (λ (y : Run). own ++ y .reports) (run-none d (n + 1) (x .state) (x .store))
+      ∙ append-nil own)
+
+  pub run-one-stopped : runFrom d n s t (r ∷ []) .stopped ≡ stops (recordStep d s r t .outcome)
+  run-one-stopped =
+      let x = recordStep d s r t in
+      by-bool (stops (x .outcome)) (λ e. ap (λ (y : Run). y .stopped) (run-stops d n s t r [] e) ∙ sym e)
+      (λ e.
+      ap (λ (y : Run). y .stopped) (run-goes d n s t r [] e)
+      ∙ ap (λ (y : Run). y .stopped) (run-none d (n + 1) (x .state) (x .store))
+      ∙ sym e)

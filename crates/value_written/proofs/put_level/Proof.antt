@@ -1,0 +1,33 @@
+-- `put_level` meets its contract: H and two digits.
+-- Assumes nothing.
+use mathlib.Core.Path.{_∙_}
+use native.Mathlib.Omega.{arith}
+use lib.ListN.{length-set}
+use Rattle.value_written.specs.Text.{levelText}
+use Rattle.value_written.proofs.Texts.{level-length}
+use Rattle.value_written.proofs.Writes.{wrote-lead}
+use borrow.Author.Needs.{needs}
+use Rattle.value_written.proofs.put_level.Statement.{statement}
+use Rattle.value_written.proofs.put_level.Tie as tie
+
+slice-write-out : tie.Need-slice-write-out
+slice-write-out c = omega (arith, level-length (c .before .args .level))
+
+add-put-digits : tie.Need-add-put-digits
+add-put-digits c = search needs
+
+put-digits-requires : tie.Need-put-digits-requires
+put-digits-requires c κs = (simp length-set (omega (arith, level-length (c .before .before .args .level))), (omega arith, omega arith))
+
+same-length : tie.Need-same-length
+same-length c = c .before .before .put-digits .kept .0 ∙ simp length-set
+
+returns : tie.Need-returns
+unfolding levelText
+returns c =
+    wrote-lead _ _ _ _ (omega (arith, level-length (c .before .before .before .before .before .args .level)))
+    (c .before .before .put-digits .ensures)
+
+pub put-level-spec : {M : Type 1} → statement M
+put-level-spec =
+    tie.close (tie.spec slice-write-out add-put-digits put-digits-requires same-length returns)
