@@ -2,11 +2,9 @@
 -- its item; fields are tested left to right and the first fault is reported; an incomplete last item is dropped like one with a
 -- malformed field.
 -- Assumes nothing.
-use mathlib.Core.Bool.{Bool, cond}
+use mathlib.Core.Bool.{cond}
 use mathlib.Core.List.{List, [], _∷_}
 use Prim.Native.Nat.{ℕ}
-use lib.ListN.{length}
-use Rattle.cells.specs.Pad.{padded}
 use Rattle.store_desk.specs.declared.Desk.{Desk}
 use Rattle.store_desk.specs.Size.{isWithin}
 use Rattle.store_desk.specs.Name.{Name}
@@ -18,16 +16,11 @@ use Rattle.value.specs.Integer.{integerOf}
 use Rattle.value_level.specs.Level.{levelOf}
 use Rattle.text_fields.specs.Words.{Word, missing}
 use Rattle.store.specs.declared.Edit.the-variants.{Level as SetLevel}
-use Rattle.store.specs.Change.{edited, editAt, patched}
+use Rattle.store.specs.Change.{edited, patched}
 use Rattle.load.specs.declared.Entry.{Entry}
 use Rattle.load.specs.declared.Entry.the-variants.{Level, Patch, Fault}
 use Rattle.load.specs.declared.Ranged.{Ranged}
 use Rattle.load.specs.declared.Ranged.the-variants.{Within, Wrong}
-use Rattle.load.specs.declared.Aim.{Aim}
-use Rattle.load.specs.declared.Aim.the-variants.{Slot, Page}
-use Rattle.load.specs.declared.Faults.{Faults}
-use Rattle.load.specs.declared.Group.{Group}
-use Rattle.load.specs.declared.Group.the-variants.{Pair, Triple}
 use Rattle.load.specs.Condition.{malformedInteger, badHex, badChannel, badDimmer, badPercent}
 
 -- an integer from 1 to a limit, and the condition of one beyond it
@@ -75,10 +68,6 @@ triplesOf d (c ∷ []) = tripleOf d c missing missing ∷ []
 triplesOf d (c ∷ (m ∷ [])) = tripleOf d c m missing ∷ []
 triplesOf d (c ∷ (m ∷ (l ∷ ws))) = let r = triplesOf d ws in tripleOf d c m l ∷ r
 
-unfoldable pub entriesIn : Group → Desk → List Word → List Entry
-entriesIn Pair d ws = pairsOf d ws
-entriesIn Triple d ws = triplesOf d ws
-
 -- the faults among the items, in their order
 unfoldable pub faultsOf : List Entry → List ℕ
 faultsOf [] = []
@@ -105,24 +94,3 @@ done d (page p) t (Fault condition column) = t
 unfoldable pub allDone : Desk → Target → List ℕ → List Entry → List ℕ
 allDone d target t [] = t
 allDone d target t (e ∷ es) = allDone d target (done d target t e) es
-
--- ---- the same as the code does it: the open memory by its slot
-
-unfoldable pub doneAt : Desk → Aim → List ℕ → Entry → List ℕ
-doneAt d (Slot i) t (Level channel v) = editAt d t i (SetLevel channel v)
-doneAt d (Slot i) t (Patch channel dimmer v) = t
-doneAt d (Slot i) t (Fault condition column) = t
-doneAt d (Page p) t (Level channel v) = t
-doneAt d (Page p) t (Patch channel dimmer v) = patched d t p dimmer channel v
-doneAt d (Page p) t (Fault condition column) = t
-
-unfoldable pub allDoneAt : Desk → Aim → List ℕ → List Entry → List ℕ
-allDoneAt d aim t [] = t
-allDoneAt d aim t (e ∷ es) = allDoneAt d aim (doneAt d aim t e) es
-
--- a record's faults by value
-abbrev pub mostFaults : ℕ
-mostFaults = 40
-
-unfoldable pub faultsHeld : List ℕ → Faults
-faultsHeld xs = record { conditions = padded mostFaults xs; count = length xs }

@@ -1,7 +1,7 @@
 // What a load knows between records, and what a record comes to (paper 01, "Keywords and conditions"; "Forms for specific places").
+use store::Edit;
 use store_desk::Key;
 use store_desk::Kind;
-use store::Edit;
 
 // What a secondary record augments: nothing, a memory that is skipped, or an open memory of a kind.
 pub enum Open {
@@ -63,24 +63,6 @@ pub enum Entry {
 pub enum Ranged {
     Within(u32),
     Wrong(u32),
-}
-
-// How many fields an item has.
-pub enum Group {
-    Pair,
-    Triple,
-}
-
-// The conditions of one record's items in their order. An item has two characters at least, so that forty are room enough.
-pub struct Faults {
-    pub conditions: [u32; 40],
-    pub count: usize,
-}
-
-// Where items go: the slot of the open memory, or a patch page.
-pub enum Aim {
-    Slot(usize),
-    Page(u32),
 }
 
 // What a load is told as: the count of its reports, stored or not, the four tallies, and the closing number.

@@ -9,7 +9,7 @@ use Rattle.cells.specs.Search.{at}
 use Rattle.store_desk.specs.declared.Desk.{Desk}
 use Rattle.store_desk.specs.Size.{Within}
 use Rattle.store_desk.specs.Name.{Name}
-use Rattle.text_fields.specs.Words.{Word, missing}
+use Rattle.text_fields.specs.Words.{Word}
 use Rattle.store.specs.declared.Edit.the-variants.{Level as SetLevel}
 use Rattle.store.specs.Slots.{find}
 use Rattle.store.proofs.Edits.{edited-at, edit-at-length, edit-at-find}
@@ -19,33 +19,17 @@ use Rattle.store_code.specs.Fits.{Fitting}
 use Rattle.store_code.proofs.Laws.{fitting-kept}
 use Rattle.load.specs.declared.Entry.{Entry}
 use Rattle.load.specs.declared.Entry.the-variants.{Level, Patch, Fault}
-use Rattle.load.specs.declared.Group.{Group}
-use Rattle.load.specs.declared.Group.the-variants.{Pair, Triple}
-use Rattle.load.specs.declared.Aim.{Aim}
-use Rattle.load.specs.declared.Aim.the-variants.{Slot, Page}
-use Rattle.load.specs.Item.{pairsOf, triplesOf, entriesIn, memory, page, done, allDone, doneAt, allDoneAt}
+use Rattle.load_items.specs.declared.Group.{Group}
+use Rattle.load_items.specs.declared.Group.the-variants.{Pair, Triple}
+use Rattle.load_items.specs.declared.Aim.{Aim}
+use Rattle.load_items.specs.declared.Aim.the-variants.{Slot, Page}
+use Rattle.load.specs.Item.{memory, page, done, allDone}
+use Rattle.load_items.specs.Done.{entriesIn, doneAt, allDoneAt}
 use Rattle.load_items.specs.Take.{AimFits}
-use Rattle.load_items.specs.Each.{EntryFits}
-use Rattle.load_items.proofs.Laws.{pair-fits, triple-fits}
+use Rattle.load.specs.Fits.{EntryFits, AllFit}
+use Rattle.load.proofs.Entries.{pairs-fit, triples-fit}
 
 -- ---- the items of a record are in range
-abbrev pub AllFit : Desk → List Entry → Type 0
-AllFit d [] = Unit {0}
-AllFit d (e ∷ es) = EntryFits d e × AllFit d es
-
-pairs-fit : (d : Desk) (ws : List Word) → AllFit d (pairsOf d ws)
-unfolding pairsOf
-pairs-fit d [] = tt
-pairs-fit d (c ∷ []) = (pair-fits d c missing, tt)
-pairs-fit d (c ∷ (l ∷ ws)) = (pair-fits d c l, pairs-fit d ws)
-
-triples-fit : (d : Desk) (ws : List Word) → AllFit d (triplesOf d ws)
-unfolding triplesOf
-triples-fit d [] = tt
-triples-fit d (c ∷ []) = (triple-fits d c missing missing, tt)
-triples-fit d (c ∷ (m ∷ [])) = (triple-fits d c m missing, tt)
-triples-fit d (c ∷ (m ∷ (l ∷ ws))) = (triple-fits d c m l, triples-fit d ws)
-
 pub entries-fit : (d : Desk) (g : Group) (ws : List Word) → AllFit d (entriesIn g d ws)
 unfolding entriesIn
 entries-fit d Pair ws = pairs-fit d ws
@@ -118,28 +102,17 @@ unfolding allDone allDoneAt
 done-page d p [] s = refl
 done-page d p (e ∷ es) s = ap (λ (t : List ℕ). allDone d (page p) t es) (one-page d p e s) ∙ done-page d p es (doneAt d (Page p) s e)
 
--- ---- the same for the items of a record's fields: CHAN's pairs in the open memory, PATCH's triples on a page
-module _ (d : Desk) (s : List ℕ) (f : Fitting d s) (n : Name) (i : ℕ) (g : find d s n ≡ at i) (ws : List Word) where
-  pub pairs-slot : allDone d (memory n) s (pairsOf d ws) ≡ allDoneAt d (Slot i) s (entriesIn Pair d ws)
-  unfolding entriesIn
-  pairs-slot = done-slot d n i (pairsOf d ws) s f (pairs-fit d ws) g
+-- ---- the same for a record's items: CHAN's in the open memory, PATCH's on a page
+module _ (d : Desk) (s : List ℕ) (f : Fitting d s) (n : Name) (i : ℕ) (g : find d s n ≡ at i) (es : List Entry) (h : AllFit d es) where
+  pub slot-find : (m : Name) → find d (allDone d (memory n) s es) m ≡ find d s m
+  slot-find m = ap (λ (t : List ℕ). find d t m) (done-slot d n i es s f h g) ∙ done-find d (Slot i) es s f (found-aim d s n i g) h m
 
-  pub pairs-find : (m : Name) → find d (allDone d (memory n) s (pairsOf d ws)) m ≡ find d s m
-  pairs-find m =
-      ap (λ (t : List ℕ). find d t m) pairs-slot
-      ∙ done-find d (Slot i) (entriesIn Pair d ws) s f (found-aim d s n i g) (entries-fit d Pair ws) m
+  pub slot-length : length (allDone d (memory n) s es) ≡ length s
+  slot-length = ap length (done-slot d n i es s f h g) ∙ done-length d (Slot i) es s f (found-aim d s n i g) h
 
-  pub pairs-length : length (allDone d (memory n) s (pairsOf d ws)) ≡ length s
-  pairs-length = ap length pairs-slot ∙ done-length d (Slot i) (entriesIn Pair d ws) s f (found-aim d s n i g) (entries-fit d Pair ws)
+module _ (d : Desk) (s : List ℕ) (f : Fitting d s) (p : ℕ) (a : Within 1 p (d .«patch_pages»)) (es : List Entry) (h : AllFit d es) where
+  pub page-find : (m : Name) → find d (allDone d (page p) s es) m ≡ find d s m
+  page-find m = ap (λ (t : List ℕ). find d t m) (done-page d p es s) ∙ done-find d (Page p) es s f a h m
 
-module _ (d : Desk) (s : List ℕ) (f : Fitting d s) (p : ℕ) (a : Within 1 p (d .«patch_pages»)) (ws : List Word) where
-  pub triples-page : allDone d (page p) s (triplesOf d ws) ≡ allDoneAt d (Page p) s (entriesIn Triple d ws)
-  unfolding entriesIn
-  triples-page = done-page d p (triplesOf d ws) s
-
-  pub triples-find : (m : Name) → find d (allDone d (page p) s (triplesOf d ws)) m ≡ find d s m
-  triples-find m =
-      ap (λ (t : List ℕ). find d t m) triples-page ∙ done-find d (Page p) (entriesIn Triple d ws) s f a (entries-fit d Triple ws) m
-
-  pub triples-length : length (allDone d (page p) s (triplesOf d ws)) ≡ length s
-  triples-length = ap length triples-page ∙ done-length d (Page p) (entriesIn Triple d ws) s f a (entries-fit d Triple ws)
+  pub page-length : length (allDone d (page p) s es) ≡ length s
+  page-length = ap length (done-page d p es s) ∙ done-length d (Page p) es s f a h

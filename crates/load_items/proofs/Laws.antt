@@ -4,28 +4,24 @@
 use mathlib.Core.Path.{_≡_, refl, sym, ap, _∙_, subst}
 use mathlib.Core.Bool.{Bool, true, false, true≢false}
 use mathlib.Core.List.{List, [], _∷_, _++_, append-nil, append-assoc}
-use Prim.Native.Nat.{ℕ, zero, suc, _+_, _-_, _*_, _/_, _<_, _≤_}
+use Prim.Native.Nat.{ℕ, suc, _+_, _-_, _*_, _<_, _≤_}
 use native.Mathlib.Omega.{arith}
-use lib.Dec.{eqb, leb}
+use lib.Dec.{leb}
 use lib.ListN.{length, set, drop, length-append, length-drop}
-use borrow.Author.Tests.{leb-true, le-leb, lt-leb}
-use Rattle.cells.specs.Scan.{span}
+use borrow.Author.Tests.{le-leb, lt-leb}
 use Rattle.cells.proofs.Pad.{padded-snoc}
-use Rattle.cells.proofs.Split.{by-test, cond-true, cond-false, and-left, and-right, and-true, and-false-left, and-false-right}
+use Rattle.cells.proofs.Split.{cond-true, cond-false, and-true, and-false-left, and-false-right}
 use Rattle.store_desk.specs.declared.Desk.{Desk}
-use Rattle.store_desk.specs.Size.{Within as InLimits, isWithin}
+use Rattle.store_desk.specs.Size.{isWithin}
 use Rattle.value.specs.declared.Integer.{Integer}
 use Rattle.value.specs.declared.Integer.the-variants.{Malformed, Value}
 use Rattle.value.specs.Integer.{integerOf}
 use Rattle.value_level.specs.declared.Leveled.{Leveled}
 use Rattle.value_level.specs.declared.Leveled.the-variants.{NotPercent, NotHex, Value as IsLevel}
-use Rattle.value_level.specs.declared.Worded.{Worded}
-use Rattle.value_level.specs.declared.Worded.the-variants.{NotPercent as NoPercent, NotHex as NoHex, Value as IsWord}
-use Rattle.value_level.specs.Level.{levelWordOf, upperOf, levelOf}
-use Rattle.value_level.proofs.Levels.{word-below}
+use Rattle.value_level.specs.Level.{levelOf}
 use Rattle.text_records.specs.Received.{longest}
 use Rattle.text_fields.specs.declared.Field.{Field}
-use Rattle.text_fields.specs.Words.{Word, isDelimiter, isWord, wordsIn, wordsOf, wordsFrom, headOf, tailOf, endAt, isMore, fieldAt, wordIn, wordAt}
+use Rattle.text_fields.specs.Words.{Word, wordsOf, wordsFrom, headOf, tailOf, endAt, isMore, fieldAt, wordIn, wordAt}
 use Rattle.text_fields.proofs.Words.{words-some, words-none, words-head, words-tail, start-from, end-from, end-within, end-forward}
 use Rattle.store.specs.declared.Edit.the-variants.{Level as SetLevel}
 use Rattle.store.specs.Change.{editAt, patched}
@@ -33,17 +29,21 @@ use Rattle.load.specs.declared.Entry.{Entry}
 use Rattle.load.specs.declared.Entry.the-variants.{Level, Patch, Fault}
 use Rattle.load.specs.declared.Ranged.{Ranged}
 use Rattle.load.specs.declared.Ranged.the-variants.{Within, Wrong}
-use Rattle.load.specs.declared.Group.{Group}
-use Rattle.load.specs.declared.Group.the-variants.{Pair, Triple}
-use Rattle.load.specs.declared.Aim.{Aim}
-use Rattle.load.specs.declared.Aim.the-variants.{Slot, Page}
-use Rattle.load.specs.declared.Faults.{Faults}
-use Rattle.load.specs.Condition.{malformedInteger, badHex, badChannel, badDimmer, badPercent}
-use Rattle.load.specs.Item.{rangedOf, channelOf, dimmerOf, onRanged, onLevel, pairOf, tripleOf, pairsOf, triplesOf, entriesIn, faultsOf, doneAt, allDoneAt}
-use Rattle.load.specs.Item.{mostFaults, faultsHeld}
+use Rattle.load_items.specs.declared.Group.{Group}
+use Rattle.load_items.specs.declared.Group.the-variants.{Pair, Triple}
+use Rattle.load_items.specs.declared.Aim.{Aim}
+use Rattle.load_items.specs.declared.Aim.the-variants.{Slot, Page}
+use Rattle.load_items.specs.declared.Faults.{Faults}
+use Rattle.load.specs.Condition.{malformedInteger, badHex, badPercent}
+use Rattle.load.specs.Item.{rangedOf, channelOf, dimmerOf, onRanged, onLevel, pairOf, tripleOf, pairsOf, triplesOf, faultsOf}
+use Rattle.load_items.specs.Done.{entriesIn, doneAt, allDoneAt}
+use Rattle.load_items.specs.Done.{mostFaults, faultsHeld}
 use Rattle.load_items.specs.declared.Item.{Item}
 use Rattle.load_items.specs.Take.{takenAs, takenOf}
-use Rattle.load_items.specs.Each.{itemAt, EntryFits, isFault, told}
+use Rattle.load_items.specs.Each.{itemAt, isFault, told}
+use Rattle.load.specs.Fits.{EntryFits}
+use Rattle.load.proofs.Entries.{pair-fits, triple-fits, pairs-few, triples-few}
+use Rattle.text_fields.proofs.Counts.{words-in-few}
 
 -- ---- a number in its range
 module _ (limit beyond : ℕ) {i : Integer} {w s : List ℕ} (a : w ≡ s) (r : i ≡ integerOf w) where
@@ -136,62 +136,12 @@ module _ {x : Leveled} (column : ℕ) (f : ℕ → Entry) where
   level-value e = ap (λ (y : Leveled). onLevel y column f) (sym e)
 
 -- ---- items that are obeyed are in range
-ranged-fits : (P : Entry → Type 0) (limit beyond : ℕ) (i : Integer) (column : ℕ) (f : ℕ → Entry)
-    → ((condition : ℕ) → P (Fault condition column)) → ((n : ℕ) → InLimits 1 n limit → P (f n))
-    → P (onRanged (rangedOf limit beyond i) column f)
-unfolding rangedOf onRanged
-ranged-fits P limit beyond Malformed column f faulty good = faulty malformedInteger
-ranged-fits P limit beyond (Value n) column f faulty good =
-    by-test (λ (r : Ranged). P (onRanged r column f)) (isWithin 1 n limit) (Within n) (Wrong beyond)
-    (λ e. good n (leb-true 1 n (and-left (leb 1 n) (leb n limit) e), leb-true n limit (and-right (leb 1 n) (leb n limit) e)))
-    (λ e. faulty beyond)
-
--- a level is a byte
-upper-byte : (s : List ℕ) (w : Worded) → levelWordOf s ≡ w → {v : ℕ} → upperOf w ≡ IsLevel v → v < 256
-unfolding upperOf
-upper-byte s NoPercent e {v} f = let z : _≡_ {A = ℕ} 0 1 = cc in omega arith
-upper-byte s NoHex e {v} f = let z : _≡_ {A = ℕ} 0 1 = cc in omega arith
-upper-byte s (IsWord w) e {v} f =
-    let h = word-below s e in
-    let q : w / 256 ≡ v = cc in
-    omega arith
-
-level-fits : (P : Entry → Type 0) (s : List ℕ) (column : ℕ) (f : ℕ → Entry)
-    → ((condition : ℕ) → P (Fault condition column)) → ((v : ℕ) → v < 256 → P (f v)) → P (onLevel (levelOf s) column f)
-unfolding onLevel levelOf
-level-fits P s column f faulty good = by-level (levelOf s) refl
-  where
-    by-level : (x : Leveled) → levelOf s ≡ x → P (onLevel x column f)
-    by-level NotPercent e = faulty badPercent
-    by-level NotHex e = faulty badHex
-    by-level (IsLevel v) e = good v (upper-byte s (levelWordOf s) refl e)
-
 module _ (d : Desk) where
-  pub pair-fits : (c l : Word) → EntryFits d (pairOf d c l)
-  unfolding pairOf
-  pair-fits c l =
-      ranged-fits (EntryFits d) (d .channels) badChannel (integerOf (c .chars)) (c .column)
-      (λ n. onLevel (levelOf (l .chars)) (l .column) (λ v. Level n v))
-      (λ x. tt)
-      (λ n h. level-fits (EntryFits d) (l .chars) (l .column) (λ v. Level n v) (λ x. tt) (λ v b. (h, b)))
-
-  pub triple-fits : (c m l : Word) → EntryFits d (tripleOf d c m l)
-  unfolding tripleOf
-  triple-fits c m l =
-      ranged-fits (EntryFits d) (d .channels) badChannel (integerOf (c .chars)) (c .column)
-      (λ n. onRanged (dimmerOf d m) (m .column) (λ k. onLevel (levelOf (l .chars)) (l .column) (λ v. Patch n k v)))
-      (λ x. tt)
-      (λ n h.
-      ranged-fits (EntryFits d) (d .dimmers) badDimmer (integerOf (m .chars)) (m .column)
-      (λ k. onLevel (levelOf (l .chars)) (l .column) (λ v. Patch n k v))
-      (λ x. tt)
-      (λ k g. level-fits (EntryFits d) (l .chars) (l .column) (λ v. Patch n k v) (λ x. tt) (λ v b. (h, g, b))))
-
   at-fits : (g : Group) (text columns : List ℕ) (place : ℕ) → EntryFits d (itemAt d g text columns place .entry)
   unfolding itemAt
-  at-fits Pair text columns place = pair-fits (wordAt text columns place) (wordAt text columns (endAt text place))
+  at-fits Pair text columns place = pair-fits d (wordAt text columns place) (wordAt text columns (endAt text place))
   at-fits Triple text columns place =
-      triple-fits (wordAt text columns place) (wordAt text columns (endAt text place)) (wordAt text columns (endAt text (endAt text place)))
+      triple-fits d (wordAt text columns place) (wordAt text columns (endAt text place)) (wordAt text columns (endAt text (endAt text place)))
 
   pub item-fits : (g : Group) (text columns : List ℕ) (place : ℕ) {x : Item} → x ≡ itemAt d g text columns place → EntryFits d (x .entry)
   item-fits g text columns place e = subst (λ (y : Item). EntryFits d (y .entry)) (sym e) (at-fits g text columns place)
@@ -292,29 +242,6 @@ entries-none d Pair text columns place e = ap (pairsOf d) (words-none text colum
 entries-none d Triple text columns place e = ap (triplesOf d) (words-none text columns place e)
 
 -- ---- there are no more than forty items: two fields make one, and there are no more fields than characters
-words-few : (n : ℕ) (text columns : List ℕ) → length (wordsIn n text columns) ≤ n
-unfolding wordsIn
-words-few zero text columns = omega arith
-words-few (suc n) text columns =
-    let t : List ℕ = drop (span isDelimiter text) text in
-    let q : List ℕ = drop (span isDelimiter text) columns in
-    let k : ℕ = span isWord t in
-    let r = words-few n (drop k t) (drop k q) in
-    by-test (λ (ws : List Word). length ws ≤ suc n) (eqb k 0) [] _ (λ e. omega arith) (λ e. omega arith)
-
-pairs-few : (d : Desk) (ws : List Word) → 2 * length (pairsOf d ws) ≤ length ws + 1
-unfolding pairsOf
-pairs-few d [] = omega arith
-pairs-few d (c ∷ []) = omega arith
-pairs-few d (c ∷ (l ∷ ws)) = let r = pairs-few d ws in omega arith
-
-triples-few : (d : Desk) (ws : List Word) → 2 * length (triplesOf d ws) ≤ length ws + 1
-unfolding triplesOf
-triples-few d [] = omega arith
-triples-few d (c ∷ []) = omega arith
-triples-few d (c ∷ (m ∷ [])) = omega arith
-triples-few d (c ∷ (m ∷ (l ∷ ws))) = let r = triples-few d ws in omega arith
-
 items-few : (d : Desk) (g : Group) (ws : List Word) → 2 * length (entriesIn g d ws) ≤ length ws + 1
 unfolding entriesIn
 items-few d Pair ws = pairs-few d ws
@@ -324,7 +251,7 @@ pub entries-few : (d : Desk) (g : Group) (text columns : List ℕ) (place : ℕ)
 unfolding wordsOf
 entries-few d g text columns place h =
     let a = items-few d g (wordsFrom text columns place) in
-    let b : length (wordsFrom text columns place) ≤ length (drop place text) = words-few (length (drop place text)) (drop place text) (drop place columns) in
+    let b : length (wordsFrom text columns place) ≤ length (drop place text) = words-in-few (length (drop place text)) (drop place text) (drop place columns) in
     let c : length (drop place text) ≡ length text - place = length-drop place text in
     omega arith
 

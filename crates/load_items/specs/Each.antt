@@ -4,17 +4,16 @@
 use mathlib.Core.Path.{_≡_}
 use mathlib.Core.Bool.{Bool, true, false}
 use mathlib.Core.List.{List}
-use Prim.Native.Nat.{ℕ, _+_, _≤_, _<_}
+use Prim.Native.Nat.{ℕ, _+_, _≤_}
 use lib.ListN.{length, set}
 use Rattle.store_desk.specs.declared.Desk.{Desk}
-use Rattle.store_desk.specs.Size.{Within}
 use Rattle.text_fields.specs.declared.Field.{Field}
 use Rattle.text_fields.specs.Words.{endAt, wordAt}
 use Rattle.load.specs.declared.Entry.{Entry}
 use Rattle.load.specs.declared.Entry.the-variants.{Level, Patch, Fault}
-use Rattle.load.specs.declared.Group.{Group}
-use Rattle.load.specs.declared.Group.the-variants.{Pair, Triple}
-use Rattle.load.specs.declared.Faults.{Faults}
+use Rattle.load_items.specs.declared.Group.{Group}
+use Rattle.load_items.specs.declared.Group.the-variants.{Pair, Triple}
+use Rattle.load_items.specs.declared.Faults.{Faults}
 use Rattle.load.specs.Item.{pairOf, tripleOf}
 use Rattle.load_items.specs.declared.Item.{Item}
 
@@ -39,12 +38,6 @@ itemAt d Triple text columns place =
       entry = tripleOf d (wordAt text columns place) (wordAt text columns second) (wordAt text columns third);
       end = endAt text third;
     }
-
--- an item that is obeyed names a channel, and a dimmer, that the desk has; its level is a byte
-abbrev pub EntryFits : Desk → Entry → Type 0
-EntryFits d (Level channel v) = Within 1 channel (d .channels) × (v < 256)
-EntryFits d (Patch channel dimmer v) = Within 1 channel (d .channels) × Within 1 dimmer (d .dimmers) × (v < 256)
-EntryFits d (Fault condition column) = Unit {0}
 
 unfoldable pub isFault : Entry → Bool
 isFault (Level channel v) = false

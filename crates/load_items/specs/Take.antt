@@ -9,10 +9,11 @@ use Rattle.store_desk.specs.Size.{Within, slotsOf}
 use Rattle.text_records.specs.Received.{longest}
 use Rattle.store_code.specs.Fits.{Fitting}
 use Rattle.load.specs.declared.Entry.{Entry}
-use Rattle.load.specs.declared.Aim.{Aim}
-use Rattle.load.specs.declared.Aim.the-variants.{Slot, Page}
-use Rattle.load.specs.declared.Faults.{Faults}
-use Rattle.load.specs.Item.{faultsOf, allDoneAt, faultsHeld}
+use Rattle.load_items.specs.declared.Aim.{Aim}
+use Rattle.load_items.specs.declared.Aim.the-variants.{Slot, Page}
+use Rattle.load_items.specs.declared.Faults.{Faults}
+use Rattle.load.specs.Item.{faultsOf}
+use Rattle.load_items.specs.Done.{allDoneAt, faultsHeld}
 
 -- a slot, or a patch page, that the desk has
 abbrev pub AimFits : Desk → Aim → Type 0

@@ -6,20 +6,37 @@ ghost use Prim.Native.Nat.{_≤_, _<_};
 ghost use Rattle.value.specs.Integer.{integerOf};
 ghost use Rattle.value_level.specs.Level.{levelOf};
 ghost use Rattle.text_fields.specs.Words.{wordsFrom, wordIn};
-ghost use Rattle.load.specs.Item.{rangedOf, pairOf, tripleOf, entriesIn, doneAt, faultsHeld, mostFaults};
+ghost use Rattle.load.specs.Item.{rangedOf, pairOf, tripleOf};
+ghost use Rattle.load_items.specs.Done.{entriesIn, doneAt, faultsHeld, mostFaults};
 ghost use Rattle.store_code.specs.Fits.{Fitting};
 ghost use Rattle.load_items.specs.Take.{AimFits, ItemsReady, takenAs, takenOf};
-ghost use Rattle.load_items.specs.Each.{Lies, On, itemAt, EntryFits, isFault, told};
-use store_desk::Desk;
-use text_fields::Field;
-use value_level::Leveled;
-use load::Aim;
+ghost use Rattle.load_items.specs.Each.{Lies, On, itemAt, isFault, told};
+ghost use Rattle.load.specs.Fits.{EntryFits};
 use load::Entry;
-use load::Faults;
-use load::Group;
 use load::Ranged;
 use store::Edit;
+use store_desk::Desk;
+use text_fields::Field;
 use value::Integer;
+use value_level::Leveled;
+
+// How many fields an item has.
+pub enum Group {
+    Pair,
+    Triple,
+}
+
+// The conditions of one record's items in their order. An item has two characters at least, so that forty are room enough.
+pub struct Faults {
+    pub conditions: [u32; 40],
+    pub count: usize,
+}
+
+// Where items go: the slot of the open memory, or a patch page.
+pub enum Aim {
+    Slot(usize),
+    Page(u32),
+}
 
 const MALFORMED_INTEGER: u32 = 171;
 

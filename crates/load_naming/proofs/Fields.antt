@@ -14,7 +14,7 @@ use Rattle.value.specs.declared.Timed.{Timed}
 use Rattle.value.specs.declared.Timed.the-variants.{Value as IsTime}
 use Rattle.value.specs.Field.{pageOf}
 use Rattle.value.specs.Time.{timeOf}
-use Rattle.load.specs.Step.{pageAt, delayOf}
+use Rattle.load.specs.Ask.{pageAt, delayOf}
 use Rattle.load_naming.specs.Line.{Line, FieldIn}
 
 -- ---- the field that was found

@@ -16,7 +16,7 @@ use Rattle.load.specs.declared.Secondary.the-variants.{Up, Down, Followon, Link
 use Rattle.load.specs.declared.Reading.{Reading}
 use Rattle.load.specs.declared.Reading.the-variants.{Wrong as Misread, Change}
 use Rattle.load.specs.Condition.{badTime}
-use Rattle.load.specs.Step.{numberedBy, onTime, delayOf, fadeOf, linkBy, timesOf}
+use Rattle.load.specs.Ask.{numberedBy, onTime, delayOf, fadeOf, linkBy, timesOf}
 use Rattle.load_naming.specs.Line.{Line}
 use Rattle.load_naming.specs.Times.{upBy, downBy, followonBy}
 use Rattle.load_naming.proofs.Fields.{head-at, tail-at}

@@ -4,7 +4,7 @@ use Rattle.value.specs.declared.Timed.{Timed}
 use Rattle.store.specs.declared.Edit.the-variants.{Up, Down, Followon}
 use Rattle.load.specs.declared.Reading.{Reading}
 use Rattle.load.specs.declared.Reading.the-variants.{Change}
-use Rattle.load.specs.Step.{onTime}
+use Rattle.load.specs.Ask.{onTime}
 
 abbrev pub upBy : Timed → Timed → Reading
 upBy fade delay = onTime fade (λ f. onTime delay (λ d. Change (Up f d)))

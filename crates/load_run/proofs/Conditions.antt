@@ -56,9 +56,11 @@ use Rattle.load.specs.declared.Reading.{Reading}
 use Rattle.load.specs.declared.Reading.the-variants.{Wrong as Misread, Change}
 use Rattle.load.specs.Condition.{fullOf, unsupportedOf, badChannel, badDimmer}
 use Rattle.load.specs.Item.{rangedOf, channelOf, dimmerOf, onRanged, onLevel, pairOf, tripleOf, pairsOf, triplesOf, faultsOf, Target, memory, page}
-use Rattle.load.specs.Step.{Step, ended, opened, name, numberedBy, subBy, numeralOf, pageAt, namedBy, namedOf, openedBy, primaryOf, onTime, delayOf, fadeOf, linkBy, timesOf}
-use Rattle.load.specs.Step.{augments, changedBy, itemsDone, obeyedBy, secondaryBy, settle, clearedBy, clearKindOf, clearPatchOf, clearAllOf, clearTables, mostPages, clearBy, patchBy, isThree, identBy}
-use Rattle.load.specs.Step.{skipping, keywordStep, stepOf, outcomeReports}
+use Rattle.load.specs.Ask.{name, numberedBy, subBy, numeralOf, pageAt, namedBy, namedOf, onTime, delayOf, fadeOf, linkBy, timesOf}
+use Rattle.load.specs.Step.{Step, ended, opened, openedBy}
+use Rattle.load.specs.Ask.{augments, mostPages, isThree}
+use Rattle.load.specs.Step.{settle}
+use Rattle.load.specs.Step.{skipping, stepOf, outcomeReports}
 use Rattle.load.specs.Run.{conditionSpan}
 use Rattle.load_run.specs.Count.{Small}
 

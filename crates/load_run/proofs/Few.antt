@@ -20,7 +20,8 @@ use Rattle.text_fields.specs.Words.{Word, isDelimiter, isWord, wordsIn, wordsOf
 use Rattle.load.specs.declared.State.{State}
 use Rattle.load.specs.declared.Outcome.{Outcome}
 use Rattle.load.specs.Condition.{noEnddata, ignoredHigh, ignoredControl}
-use Rattle.load.specs.Step.{nothingOpen, recordStep, conditionsOf, ignoredIn, oneIf, isOverLong, outcomeReports}
+use Rattle.load.specs.Ask.{isOverLong}
+use Rattle.load.specs.Step.{nothingOpen, recordStep, conditionsOf, ignoredIn, oneIf, outcomeReports}
 use Rattle.load.specs.Run.{Report, Run, stops, reportsAt, runFrom, loadOf, allReports, Class, blank, passed, dropped, obeyed, classOf, eqClass, tallyOf, totalsOf}
 use Rattle.load_run.specs.Count.{Small}
 use Rattle.load_run.proofs.Conditions.{Modest, step-said}

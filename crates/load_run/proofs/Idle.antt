@@ -31,8 +31,10 @@ use Rattle.load.specs.declared.Named.{Named}
 use Rattle.load.specs.declared.Named.the-variants.{Refused, Name as Accepted}
 use Rattle.load.specs.declared.Reading.{Reading}
 use Rattle.load.specs.declared.Reading.the-variants.{Wrong as Misread, Change}
-use Rattle.load.specs.Step.{Step, name, pageAt, namedOf, openedBy, primaryOf, timesOf, augments, changedBy, obeyedBy, secondaryBy, clearedBy, clearKindOf}
-use Rattle.load.specs.Step.{clearPatchOf, clearAllOf, clearTables, mostPages, clearBy, patchBy, isThree, identBy, keywordStep, stepOf, recordStep, isOverLong}
+use Rattle.load.specs.Ask.{name, pageAt, namedOf, timesOf, augments}
+use Rattle.load.specs.Step.{Step, openedBy}
+use Rattle.load.specs.Ask.{mostPages, isThree, isOverLong}
+use Rattle.load.specs.Step.{stepOf, recordStep}
 use Rattle.load.specs.Run.{obeyed, classOf}
 
 -- a step that is obeyed, or leaves the store t as it is

@@ -12,7 +12,8 @@ use Rattle.text_fields.specs.Words.{fieldsOf}
 use Rattle.store_code.specs.Fits.{Fitting}
 use Rattle.store_code.proofs.Laws.{fitting-kept}
 use Rattle.load.specs.declared.State.{State}
-use Rattle.load.specs.Step.{Step, nothingOpen, isOverLong, recordStep}
+use Rattle.load.specs.Ask.{isOverLong}
+use Rattle.load.specs.Step.{Step, nothingOpen, recordStep}
 use Rattle.load.specs.Run.{Run, stops, runFrom, loadOf}
 use Rattle.load_step.specs.declared.Held.{Held}
 use Rattle.load_step.specs.Held.{heldOf, Ready, Settled}

@@ -21,8 +21,9 @@ use Rattle.text_fields.proofs.Words.{fields-cleaned}
 use Rattle.load.specs.declared.State.{State}
 use Rattle.load.specs.declared.Outcome.the-variants.{Stopped}
 use Rattle.load.specs.Condition.{overLongRecord}
-use Rattle.load.specs.Item.{faultsHeld}
-use Rattle.load.specs.Step.{Step, stepOf, recordStep, isOverLong, ignoredIn, outcomeReports, conditionsOf}
+use Rattle.load_items.specs.Done.{faultsHeld}
+use Rattle.load.specs.Ask.{isOverLong}
+use Rattle.load.specs.Step.{Step, stepOf, recordStep, ignoredIn, outcomeReports, conditionsOf}
 use Rattle.load.specs.Run.{stops}
 use Rattle.load_step.specs.declared.Stepped.{Stepped}
 use Rattle.load_step.specs.Held.{heldOf, Ready, stepping, steppedOf}

@@ -8,7 +8,7 @@ use lib.Dec.{eqb}
 use lib.ListN.{length, set, take}
 use Rattle.load.specs.declared.Outcome.{Outcome}
 use Rattle.load.specs.declared.Totals.{Totals}
-use Rattle.load.specs.declared.Faults.{Faults}
+use Rattle.load_items.specs.declared.Faults.{Faults}
 use Rattle.load.specs.Condition.{isError, ignoredHigh, ignoredControl}
 use Rattle.load.specs.Step.{oneIf, outcomeReports}
 use Rattle.load.specs.Run.{Report, Class, blank, passed, dropped, obeyed, classOf, eqClass, tallyOf, lastOf, conditionSpan, reportWord}

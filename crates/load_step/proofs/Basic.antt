@@ -21,18 +21,20 @@ use Rattle.value.specs.declared.Version.{Version}
 use Rattle.value.specs.declared.Version.the-variants.{Malformed as BadVersion, Value as IsVersion}
 use Rattle.value.specs.Field.{pageOf}
 use Rattle.store_code.specs.Fits.{Fitting}
-use Rattle.load.specs.declared.Faults.{Faults}
-use Rattle.load.specs.declared.Group.the-variants.{Triple}
-use Rattle.load.specs.declared.Aim.the-variants.{Page}
+use Rattle.load_items.specs.declared.Faults.{Faults}
+use Rattle.load_items.specs.declared.Group.the-variants.{Triple}
+use Rattle.load_items.specs.declared.Aim.the-variants.{Page}
 use Rattle.load.specs.declared.State.{State}
 use Rattle.load.specs.declared.Outcome.{Outcome}
 use Rattle.load.specs.declared.Outcome.the-variants.{Blank, Dropped, Obeyed, Stopped}
 use Rattle.load.specs.Condition.{badPatchPage, identMismatch}
-use Rattle.load.specs.Item.{triplesOf, entriesIn, faultsOf, faultsHeld, page, allDone}
-use Rattle.load.specs.Step.{Step, ended, patchBy, patchStep, isThree, identBy, keywordStep, stepOf}
+use Rattle.load.specs.Item.{triplesOf, faultsOf, page, allDone}
+use Rattle.load_items.specs.Done.{entriesIn, faultsHeld}
+use Rattle.load.specs.Ask.{isThree}
+use Rattle.load.specs.Step.{Step, ended, stepOf}
 use Rattle.load_naming.specs.Line.{Line}
 use Rattle.load_naming.proofs.Fields.{head-at, tail-at}
-use Rattle.load_naming.proofs.Numbers.{PageIn, page-in}
+use Rattle.load.proofs.Read.{PageIn, page-in}
 use Rattle.load_items.specs.Take.{Taken, takenAs, takenOf}
 use Rattle.load_items.proofs.Done.{triples-page, triples-find}
 use Rattle.load_step.specs.declared.Held.{Held}

@@ -23,11 +23,11 @@ use Rattle.store.specs.Change.{everyPage, cleared, clearedPatch}
 use Rattle.load.specs.declared.State.{State}
 use Rattle.load.specs.declared.Outcome.the-variants.{Dropped, Obeyed}
 use Rattle.load.specs.Condition.{badPage}
-use Rattle.load.specs.Step.{Step, ended, settle, pageAt, clearedBy, clearKindOf, clearPatchOf, tablePages, mostPages, clearTable, clearDimmers, clearTables, clearAllOf}
-use Rattle.load.specs.Step.{clearBy, clearOf}
+use Rattle.load.specs.Ask.{pageAt, tablePages, mostPages}
+use Rattle.load.specs.Step.{Step, ended, settle}
 use Rattle.load_naming.specs.Line.{Line}
 use Rattle.load_naming.proofs.Fields.{head-at, tail-at}
-use Rattle.load_naming.proofs.Numbers.{PageIn, page-at-in}
+use Rattle.load.proofs.Read.{PageIn, page-at-in}
 use Rattle.load_step.specs.declared.Held.{Held}
 use Rattle.load_step.specs.declared.Stepped.{Stepped}
 use Rattle.load_step.specs.Held.{Ready, Res, stepping, steppedOf}

@@ -20,7 +20,8 @@ use Rattle.load.specs.declared.State.{State}
 use Rattle.load.specs.declared.Open.{Open}
 use Rattle.load.specs.declared.Open.the-variants.{Nothing, Skipping, Memory}
 use Rattle.load.specs.declared.Outcome.{Outcome}
-use Rattle.load.specs.Step.{ended, noKey, nothingOpen, skipping, name, settleBy, settle}
+use Rattle.load.specs.Ask.{name}
+use Rattle.load.specs.Step.{ended, noKey, nothingOpen, skipping, settleBy, settle}
 use Rattle.load_step.specs.declared.Held.{Held}
 use Rattle.load_step.specs.declared.Stepped.{Stepped}
 use Rattle.load_step.specs.Held.{slotBy, slotOf, heldOf, IsKept, Settled, Ready, stepping, steppedOf}

@@ -42,7 +42,7 @@ use Rattle.store_code.specs.Fits.{Fitting}
 use Rattle.store_code.proofs.Laws.{fitting-kept}
 use Rattle.load.specs.declared.Entry.{Entry}
 use Rattle.load.specs.declared.Entry.the-variants.{Level, Patch, Fault}
-use Rattle.load.specs.declared.Group.the-variants.{Pair, Triple}
+use Rattle.load_items.specs.declared.Group.the-variants.{Pair, Triple}
 use Rattle.load.specs.declared.State.{State}
 use Rattle.load.specs.declared.Open.{Open}
 use Rattle.load.specs.declared.Open.the-variants.{Nothing, Skipping, Memory}
@@ -55,11 +55,14 @@ use Rattle.load.specs.declared.Named.the-variants.{Refused, Name as Accepted}
 use Rattle.load.specs.declared.Reading.{Reading}
 use Rattle.load.specs.declared.Reading.the-variants.{Wrong as Misread, Change}
 use Rattle.load.specs.Condition.{fullOf, unsupportedOf, wrongSecondary, identMismatch}
-use Rattle.load.specs.Item.{pairsOf, triplesOf, entriesIn, faultsOf, mostFaults, faultsHeld, memory, page, allDone}
-use Rattle.load.specs.Step.{Step, ended, skipping, opened, name, pageAt, refused, namedOf, openedBy, primaryOf, augments, timesOf, changedBy, obeyedBy, secondaryBy}
-use Rattle.load.specs.Step.{clearedBy, clearKindOf, clearPatchOf, mostPages, tablePages, clearTable, clearDimmers, clearTables, clearAllOf, clearBy}
-use Rattle.load.specs.Step.{patchBy, isThree, identBy, keywordStep, stepOf}
-use Rattle.load_naming.proofs.Names.{accepted-ok}
+use Rattle.load.specs.Item.{pairsOf, triplesOf, faultsOf, memory, page, allDone}
+use Rattle.load_items.specs.Done.{entriesIn, mostFaults, faultsHeld}
+use Rattle.load.specs.Ask.{name, pageAt, namedOf, augments, timesOf}
+use Rattle.load.specs.Step.{Step, ended, skipping, opened, openedBy}
+use Rattle.load.specs.Ask.{mostPages, tablePages}
+use Rattle.load.specs.Ask.{isThree}
+use Rattle.load.specs.Step.{stepOf}
+use Rattle.load.proofs.Read.{accepted-ok}
 use Rattle.load_items.proofs.Laws.{entries-few}
 use Rattle.load_items.proofs.Done.{pairs-find, pairs-length, triples-find, triples-length}
 use Rattle.load_step.specs.declared.Held.{Held}

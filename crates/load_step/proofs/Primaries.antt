@@ -24,8 +24,9 @@ use Rattle.load.specs.declared.Named.the-variants.{Refused, Name as Accepted}
 use Rattle.load.specs.declared.Open.the-variants.{Skipping}
 use Rattle.load.specs.declared.Outcome.the-variants.{Dropped, Obeyed}
 use Rattle.load.specs.Condition.{fullOf, unsupportedOf}
-use Rattle.load.specs.Step.{Step, ended, skipping, opened, name, refused, openedBy, namedOf, primaryOf}
-use Rattle.load_naming.proofs.Names.{accepted-ok}
+use Rattle.load.specs.Ask.{name, namedOf}
+use Rattle.load.specs.Step.{Step, ended, skipping, opened, openedBy}
+use Rattle.load.proofs.Read.{accepted-ok}
 use Rattle.load_step.specs.declared.Held.{Held}
 use Rattle.load_step.specs.declared.Stepped.{Stepped}
 use Rattle.load_step.specs.Held.{slotBy, heldOf, Res, stepping, steppedOf}

@@ -23,9 +23,9 @@ use Rattle.store.specs.Slots.{find}
 use Rattle.store.specs.Change.{edited, editAt}
 use Rattle.store.proofs.Edits.{edited-at, edit-at-find}
 use Rattle.store_code.specs.Fits.{Fitting, Editing}
-use Rattle.load.specs.declared.Faults.{Faults}
-use Rattle.load.specs.declared.Group.the-variants.{Pair}
-use Rattle.load.specs.declared.Aim.the-variants.{Slot}
+use Rattle.load_items.specs.declared.Faults.{Faults}
+use Rattle.load_items.specs.declared.Group.the-variants.{Pair}
+use Rattle.load_items.specs.declared.Aim.the-variants.{Slot}
 use Rattle.load.specs.declared.State.{State}
 use Rattle.load.specs.declared.Open.{Open}
 use Rattle.load.specs.declared.Open.the-variants.{Nothing, Skipping, Memory}
@@ -35,8 +35,10 @@ use Rattle.load.specs.declared.Secondary.the-variants.{Chan, Up, Down, Followon
 use Rattle.load.specs.declared.Reading.{Reading}
 use Rattle.load.specs.declared.Reading.the-variants.{Wrong as Misread, Change}
 use Rattle.load.specs.Condition.{wrongSecondary}
-use Rattle.load.specs.Item.{pairsOf, entriesIn, faultsOf, faultsHeld, memory, allDone}
-use Rattle.load.specs.Step.{Step, ended, name, numberedBy, augments, onTime, delayOf, fadeOf, linkBy, timesOf, changedBy, obeyedBy, secondaryBy}
+use Rattle.load.specs.Item.{pairsOf, faultsOf, memory, allDone}
+use Rattle.load_items.specs.Done.{entriesIn, faultsHeld}
+use Rattle.load.specs.Ask.{name, numberedBy, augments, onTime, delayOf, fadeOf, linkBy, timesOf}
+use Rattle.load.specs.Step.{Step, ended}
 use Rattle.load.proofs.Ranges.{NumberOk, number-ok}
 use Rattle.load_naming.proofs.Numbers.{TimeFits, time-fits}
 use Rattle.load_items.specs.Take.{Taken, takenAs, takenOf}

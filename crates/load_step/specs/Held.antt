@@ -15,8 +15,9 @@ use Rattle.store_code.specs.Fits.{Fitting}
 use Rattle.load.specs.declared.State.{State}
 use Rattle.load.specs.declared.Open.{Open}
 use Rattle.load.specs.declared.Open.the-variants.{Nothing, Skipping, Memory}
-use Rattle.load.specs.Item.{faultsHeld}
-use Rattle.load.specs.Step.{Step, name}
+use Rattle.load_items.specs.Done.{faultsHeld}
+use Rattle.load.specs.Ask.{name}
+use Rattle.load.specs.Step.{Step}
 use Rattle.load_step.specs.declared.Held.{Held}
 use Rattle.load_step.specs.declared.Stepped.{Stepped}
 

@@ -1,25 +1,21 @@
--- What the private functions speak of: the name of the open memory, answers with no faults, IDENT's outcome. No promise above this crate
+-- What the private functions speak of: the name of the open memory, answers with no faults. No promise above this crate
 -- names these.
 -- Assumes nothing.
-use mathlib.Core.Bool.{cond}
 use mathlib.Core.List.{[]}
 use Rattle.store_desk.specs.declared.Desk.{Desk}
 use Rattle.store_desk.specs.declared.Kind.{Kind}
 use Rattle.store_desk.specs.declared.Kind.the-variants.{Cue}
 use Rattle.store_desk.specs.Name.{Name}
-use Rattle.value.specs.declared.Version.{Version}
-use Rattle.value.specs.declared.Version.the-variants.{Malformed as BadVersion, Value as IsVersion}
 use Rattle.store_code.specs.Fits.{Editing}
 use Rattle.load.specs.declared.State.{State}
 use Rattle.load.specs.declared.Open.{Open}
 use Rattle.load.specs.declared.Open.the-variants.{Nothing, Skipping, Memory}
 use Rattle.load.specs.declared.Outcome.{Outcome}
-use Rattle.load.specs.declared.Outcome.the-variants.{Obeyed, Stopped}
 use Rattle.load.specs.declared.Reading.{Reading}
 use Rattle.load.specs.declared.Reading.the-variants.{Wrong as Misread, Change}
-use Rattle.load.specs.Item.{faultsHeld}
-use Rattle.load.specs.Condition.{identMismatch}
-use Rattle.load.specs.Step.{noKey, name, isThree}
+use Rattle.load_items.specs.Done.{faultsHeld}
+use Rattle.load.specs.Ask.{name}
+use Rattle.load.specs.Step.{noKey}
 use Rattle.load_step.specs.declared.Held.{Held}
 use Rattle.load_step.specs.declared.Stepped.{Stepped}
 
@@ -44,11 +40,6 @@ resting o = record { state = record { «open» = o; key = noKey }; slot = 0 }
 -- an answer with no faults
 abbrev pub endedAs : Held → Outcome → Stepped
 endedAs h o = record { held = h; outcome = o; faults = faultsHeld [] }
-
--- IDENT's outcome
-unfoldable pub identOutcome : Version → Outcome
-identOutcome BadVersion = Stopped identMismatch
-identOutcome (IsVersion major minor) = cond (isThree major minor) Obeyed (Stopped identMismatch)
 
 -- a change that is asked for can be written
 abbrev pub ReadingFits : Desk → Reading → Type 0

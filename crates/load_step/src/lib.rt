@@ -6,26 +6,27 @@ ghost use Prim.Native.Nat.{_≤_};
 ghost use Rattle.store_desk.specs.Name.{KeyFits, okName};
 ghost use Rattle.text_fields.specs.Words.{wordsFrom, wordsOf};
 ghost use Rattle.store_code.specs.Fits.{Fitting};
-ghost use Rattle.load.specs.Item.{faultsHeld, mostFaults};
-ghost use Rattle.load.specs.Step.{name, ended as endedStep, settle, openedBy, primaryOf, changedBy, obeyedBy, secondaryBy, clearKindOf, clearPatchOf, clearTable, clearDimmers, clearTables, clearAllOf, clearOf, patchStep, keywordStep, stepOf};
+ghost use Rattle.load_items.specs.Done.{faultsHeld, mostFaults};
+ghost use Rattle.load.specs.Ask.{name, opens, primaryAsk, changeAsk, obeyedAsk, secondaryAsk, kindAsk, dimmersAsk, kindWipes, dimmerWipes, allWipes, allAsk, clearAsk, patchAsk, identOutcome, keywordAsk};
+ghost use Rattle.load.specs.Step.{ended as endedStep, nothingOpen, settle, wiped, acted, stepOf};
 ghost use Rattle.load_naming.specs.Line.{Line};
 ghost use Rattle.load_step.specs.Held.{heldOf, Ready, Stepping, stepping, steppedOf};
-ghost use Rattle.load_step.specs.Parts.{openName, IsOpen, resting as restingAs, endedAs, identOutcome, ReadingFits};
-use store_desk::Desk;
-use store_desk::Key;
-use store_desk::Kind;
-use text_fields::Item;
-use text_fields::Keyword;
-use load::Aim;
-use load::Faults;
-use load::Group;
+ghost use Rattle.load_step.specs.Parts.{openName, IsOpen, resting as restingAs, endedAs, ReadingFits};
 use load::Named;
 use load::Open;
 use load::Outcome;
 use load::Reading;
 use load::Secondary;
 use load::State;
+use load_items::Aim;
+use load_items::Faults;
+use load_items::Group;
 use store::Place;
+use store_desk::Desk;
+use store_desk::Key;
+use store_desk::Kind;
+use text_fields::Item;
+use text_fields::Keyword;
 use value::Paged;
 use value::Version;
 
@@ -106,7 +107,7 @@ fn refused(condition: u32) -> Stepped
 fn opened(desk: Desk, kind: Kind, key: Key, store: &mut [u8]) -> Stepped
     requires { ⌜ Fitting desk (now store) ⌝ }
     requires { ⌜ okName desk (name kind key) ≡ true ⌝ }
-    ensures { λ r. ⌜ stepping r (now (store .exit)) ≡ steppedOf desk (openedBy desk kind (Named.Name key) (now (store .entry))) ⌝ }
+    ensures { λ r. ⌜ stepping r (now (store .exit)) ≡ steppedOf desk (acted desk nothingOpen (now (store .entry)) (opens kind key)) ⌝ }
 {
     match store_code::start(desk, store, kind, key) {
         Place::At(slot) => {
@@ -129,7 +130,7 @@ fn primary<'a>(
 ) -> Stepped
     requires { ⌜ Fitting desk (now store) ⌝ }
     requires { ⌜ Line (now text) (now columns) at ⌝ }
-    ensures { λ r. ⌜ stepping r (now (store .exit)) ≡ steppedOf desk (primaryOf desk kind (wordsFrom (now (text .entry)) (now (columns .entry)) at) (now (store .entry))) ⌝ }
+    ensures { λ r. ⌜ stepping r (now (store .exit)) ≡ steppedOf desk (acted desk nothingOpen (now (store .entry)) (primaryAsk desk kind (wordsFrom (now (text .entry)) (now (columns .entry)) at))) ⌝ }
 {
     if store_desk::supports(desk, kind) {
         match load_naming::name_at(desk, kind, text, columns, at) {
@@ -148,7 +149,7 @@ fn changed(desk: Desk, held: Held, change: Reading, store: &mut [u8]) -> Stepped
     requires { ⌜ Ready desk (now store) held ⌝ }
     requires { ⌜ IsOpen (held .state .«open») ⌝ }
     requires { ⌜ ReadingFits desk change ⌝ }
-    ensures { λ r. ⌜ stepping r (now (store .exit)) ≡ steppedOf desk (changedBy desk (held .state) (openName (held .state)) change (now (store .entry))) ⌝ }
+    ensures { λ r. ⌜ stepping r (now (store .exit)) ≡ steppedOf desk (acted desk (held .state) (now (store .entry)) (changeAsk (openName (held .state)) change)) ⌝ }
 {
     match change {
         Reading::Wrong(condition) => ended(held, Outcome::Dropped(condition)),
@@ -171,10 +172,18 @@ fn chan<'a>(
     requires { ⌜ Line (now text) (now columns) at ⌝ }
     requires { ⌜ Ready desk (now store) held ⌝ }
     requires { ⌜ IsOpen (held .state .«open») ⌝ }
-    ensures { λ r. ⌜ stepping r (now (store .exit)) ≡ steppedOf desk (obeyedBy desk (held .state) (openName (held .state)) Secondary.Chan (wordsFrom (now (text .entry)) (now (columns .entry)) at) (now (store .entry))) ⌝ }
+    ensures { λ r. ⌜ stepping r (now (store .exit)) ≡ steppedOf desk (acted desk (held .state) (now (store .entry)) (obeyedAsk desk (openName (held .state)) Secondary.Chan (wordsFrom (now (text .entry)) (now (columns .entry)) at))) ⌝ }
 {
     let slot = held.slot;
-    let faults = load_items::take_items(desk, Group::Pair, text, columns, at, store, Aim::Slot(slot));
+    let faults = load_items::take_items(
+        desk,
+        Group::Pair,
+        text,
+        columns,
+        at,
+        store,
+        Aim::Slot(slot),
+    );
     Stepped {
         held,
         outcome: Outcome::Obeyed,
@@ -195,14 +204,34 @@ fn obeyed<'a>(
     requires { ⌜ Line (now text) (now columns) at ⌝ }
     requires { ⌜ Ready desk (now store) held ⌝ }
     requires { ⌜ IsOpen (held .state .«open») ⌝ }
-    ensures { λ r. ⌜ stepping r (now (store .exit)) ≡ steppedOf desk (obeyedBy desk (held .state) (openName (held .state)) e (wordsFrom (now (text .entry)) (now (columns .entry)) at) (now (store .entry))) ⌝ }
+    ensures { λ r. ⌜ stepping r (now (store .exit)) ≡ steppedOf desk (acted desk (held .state) (now (store .entry)) (obeyedAsk desk (openName (held .state)) e (wordsFrom (now (text .entry)) (now (columns .entry)) at))) ⌝ }
 {
     match e {
         Secondary::Chan => chan(desk, held, text, columns, at, store),
-        Secondary::Up => changed(desk, held, load_naming::change_at(e, text, columns, at), store),
-        Secondary::Down => changed(desk, held, load_naming::change_at(e, text, columns, at), store),
-        Secondary::Followon => changed(desk, held, load_naming::change_at(e, text, columns, at), store),
-        Secondary::Link => changed(desk, held, load_naming::change_at(e, text, columns, at), store),
+        Secondary::Up => changed(
+            desk,
+            held,
+            load_naming::change_at(e, text, columns, at),
+            store,
+        ),
+        Secondary::Down => changed(
+            desk,
+            held,
+            load_naming::change_at(e, text, columns, at),
+            store,
+        ),
+        Secondary::Followon => changed(
+            desk,
+            held,
+            load_naming::change_at(e, text, columns, at),
+            store,
+        ),
+        Secondary::Link => changed(
+            desk,
+            held,
+            load_naming::change_at(e, text, columns, at),
+            store,
+        ),
     }
 }
 
@@ -219,7 +248,7 @@ fn secondary<'a>(
     requires { ⌜ Fitting desk (now store) ⌝ }
     requires { ⌜ Line (now text) (now columns) at ⌝ }
     requires { ⌜ Ready desk (now store) held ⌝ }
-    ensures { λ r. ⌜ stepping r (now (store .exit)) ≡ steppedOf desk (secondaryBy desk (held .state) (held .state .«open») e (wordsFrom (now (text .entry)) (now (columns .entry)) at) (now (store .entry))) ⌝ }
+    ensures { λ r. ⌜ stepping r (now (store .exit)) ≡ steppedOf desk (acted desk (held .state) (now (store .entry)) (secondaryAsk desk (held .state .key) (held .state .«open») e (wordsFrom (now (text .entry)) (now (columns .entry)) at))) ⌝ }
 {
     let state = held.state;
     let open = state.open;
@@ -275,7 +304,7 @@ fn clear_kind<'a>(
     requires { ⌜ Fitting desk (now store) ⌝ }
     requires { ⌜ Line (now text) (now columns) at ⌝ }
     requires { ⌜ Ready desk (now store) held ⌝ }
-    ensures { λ r. ⌜ stepping r (now (store .exit)) ≡ steppedOf desk (clearKindOf desk (held .state) kind (wordsFrom (now (text .entry)) (now (columns .entry)) at) (now (store .entry))) ⌝ }
+    ensures { λ r. ⌜ stepping r (now (store .exit)) ≡ steppedOf desk (acted desk (held .state) (now (store .entry)) (kindAsk desk kind (wordsFrom (now (text .entry)) (now (columns .entry)) at))) ⌝ }
 {
     if store_desk::supports(desk, kind) {
         match load_naming::page_at(EVERY_PAGE, store_desk::pages(desk, kind), text, columns, at) {
@@ -301,7 +330,7 @@ fn clear_patch<'a>(
     requires { ⌜ Fitting desk (now store) ⌝ }
     requires { ⌜ Line (now text) (now columns) at ⌝ }
     requires { ⌜ Ready desk (now store) held ⌝ }
-    ensures { λ r. ⌜ stepping r (now (store .exit)) ≡ steppedOf desk (clearPatchOf desk (held .state) (wordsFrom (now (text .entry)) (now (columns .entry)) at) (now (store .entry))) ⌝ }
+    ensures { λ r. ⌜ stepping r (now (store .exit)) ≡ steppedOf desk (acted desk (held .state) (now (store .entry)) (dimmersAsk desk (wordsFrom (now (text .entry)) (now (columns .entry)) at))) ⌝ }
 {
     match load_naming::page_at(EVERY_PAGE, desk.patch_pages, text, columns, at) {
         Paged::Bad => ended(held, Outcome::Dropped(BAD_PAGE)),
@@ -316,7 +345,7 @@ fn clear_patch<'a>(
 // A table without that page is left alone.
 fn clear_table(desk: Desk, kind: Kind, page: u32, store: &mut [u8])
     requires { ⌜ Fitting desk (now store) ⌝ }
-    ensures { λ _. ⌜ now (store .exit) ≡ clearTable desk kind page (now (store .entry)) ⌝ }
+    ensures { λ _. ⌜ now (store .exit) ≡ wiped desk (kindWipes desk page kind) (now (store .entry)) ⌝ }
 {
     if page <= load_naming::table_pages(desk, kind) {
         store_code::clear_kind(desk, store, kind, page);
@@ -325,7 +354,7 @@ fn clear_table(desk: Desk, kind: Kind, page: u32, store: &mut [u8])
 
 fn clear_dimmers(desk: Desk, page: u32, store: &mut [u8])
     requires { ⌜ Fitting desk (now store) ⌝ }
-    ensures { λ _. ⌜ now (store .exit) ≡ clearDimmers desk page (now (store .entry)) ⌝ }
+    ensures { λ _. ⌜ now (store .exit) ≡ wiped desk (dimmerWipes desk page) (now (store .entry)) ⌝ }
 {
     if page <= desk.patch_pages {
         store_code::clear_patch(desk, store, page);
@@ -334,7 +363,7 @@ fn clear_dimmers(desk: Desk, page: u32, store: &mut [u8])
 
 fn clear_tables(desk: Desk, page: u32, store: &mut [u8])
     requires { ⌜ Fitting desk (now store) ⌝ }
-    ensures { λ _. ⌜ now (store .exit) ≡ clearTables desk page (now (store .entry)) ⌝ }
+    ensures { λ _. ⌜ now (store .exit) ≡ wiped desk (allWipes desk page) (now (store .entry)) ⌝ }
 {
     clear_dimmers(desk, page, &mut *store);
     clear_table(desk, Kind::Cue, page, &mut *store);
@@ -353,7 +382,7 @@ fn clear_all<'a>(
     requires { ⌜ Fitting desk (now store) ⌝ }
     requires { ⌜ Line (now text) (now columns) at ⌝ }
     requires { ⌜ Ready desk (now store) held ⌝ }
-    ensures { λ r. ⌜ stepping r (now (store .exit)) ≡ steppedOf desk (clearAllOf desk (held .state) (wordsFrom (now (text .entry)) (now (columns .entry)) at) (now (store .entry))) ⌝ }
+    ensures { λ r. ⌜ stepping r (now (store .exit)) ≡ steppedOf desk (acted desk (held .state) (now (store .entry)) (allAsk desk (wordsFrom (now (text .entry)) (now (columns .entry)) at))) ⌝ }
 {
     match load_naming::page_at(EVERY_PAGE, load_naming::most_pages(desk), text, columns, at) {
         Paged::Bad => ended(held, Outcome::Dropped(BAD_PAGE)),
@@ -376,7 +405,7 @@ fn clear<'a>(
     requires { ⌜ Fitting desk (now store) ⌝ }
     requires { ⌜ Line (now text) (now columns) at ⌝ }
     requires { ⌜ Ready desk (now store) held ⌝ }
-    ensures { λ r. ⌜ stepping r (now (store .exit)) ≡ steppedOf desk (clearOf desk (held .state) (wordsFrom (now (text .entry)) (now (columns .entry)) at) (now (store .entry))) ⌝ }
+    ensures { λ r. ⌜ stepping r (now (store .exit)) ≡ steppedOf desk (acted desk (held .state) (now (store .entry)) (clearAsk desk (wordsFrom (now (text .entry)) (now (columns .entry)) at))) ⌝ }
 {
     let f = text_fields::field_at(text, columns, at);
     let end = f.end;
@@ -404,7 +433,7 @@ fn patch<'a>(
     requires { ⌜ Fitting desk (now store) ⌝ }
     requires { ⌜ Line (now text) (now columns) at ⌝ }
     requires { ⌜ Ready desk (now store) held ⌝ }
-    ensures { λ r. ⌜ stepping r (now (store .exit)) ≡ steppedOf desk (patchStep desk (held .state) (wordsFrom (now (text .entry)) (now (columns .entry)) at) (now (store .entry))) ⌝ }
+    ensures { λ r. ⌜ stepping r (now (store .exit)) ≡ steppedOf desk (acted desk (held .state) (now (store .entry)) (patchAsk desk (wordsFrom (now (text .entry)) (now (columns .entry)) at))) ⌝ }
 {
     let f = text_fields::field_at(text, columns, at);
     match value::read_page(text_fields::word(text, f), desk.patch_pages) {
@@ -459,7 +488,7 @@ fn obey<'a>(
     requires { ⌜ Fitting desk (now store) ⌝ }
     requires { ⌜ Line (now text) (now columns) at ⌝ }
     requires { ⌜ Ready desk (now store) held ⌝ }
-    ensures { λ r. ⌜ stepping r (now (store .exit)) ≡ steppedOf desk (keywordStep desk (held .state) k (wordsFrom (now (text .entry)) (now (columns .entry)) at) (now (store .entry))) ⌝ }
+    ensures { λ r. ⌜ stepping r (now (store .exit)) ≡ steppedOf desk (acted desk (held .state) (now (store .entry)) (keywordAsk desk (held .state) k (wordsFrom (now (text .entry)) (now (columns .entry)) at))) ⌝ }
 {
     match k {
         Keyword::Ident => ended(held, ident(load_naming::version_at(text, columns, at))),

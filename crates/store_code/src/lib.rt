@@ -14,13 +14,13 @@ ghost use Rattle.store.specs.Change.{lowestUnused, newSeat, seat as seatOf, bla
 ghost use Rattle.store.specs.Order.{slotWord};
 ghost use Rattle.store_code.specs.Fits.{Fitting, Editing, OnPatch};
 ghost use Rattle.store_code.specs.Answer.{nameOf, startedAs, startOf, LevelsOf};
+use store::Edit;
+use store::Place;
 use store_desk::Desk;
 use store_desk::Key;
 use store_desk::Kind;
 use store_head::Head;
 use store_head::Patch;
-use store::Edit;
-use store::Place;
 
 // ---- slots and their heads
 

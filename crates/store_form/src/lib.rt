@@ -1,11 +1,11 @@
 // Good form of a store (paper 01, "The store", and R4 of "Calls turned away"): a slot out of form by itself, a slot that repeats an earlier
 // one, a patch entry out of form.
+use store::Place;
 use store_desk::Desk;
 use store_desk::Key;
 use store_desk::Kind;
 use store_head::Head;
 use store_head::Patch;
-use store::Place;
 ghost use mathlib.Core.Path.{_≡_};
 ghost use mathlib.Core.Bool.{true, _&&_};
 ghost use Prim.Native.Nat.{_≤_, _<_};
@@ -333,7 +333,10 @@ fn entry_fits(desk: Desk, store: &[u8], entry: usize) -> bool
     requires { ⌜ entry < entriesOf desk ⌝ }
     ensures { λ r. ⌜ r ≡ entryFits desk (now (store .entry)) entry ⌝ }
 {
-    patch_fits(desk, store_head::decode_patch(entry_bytes(desk, store, entry)))
+    patch_fits(
+        desk,
+        store_head::decode_patch(entry_bytes(desk, store, entry)),
+    )
 }
 
 // The first patch entry that is out of form.

@@ -1,3 +1,4 @@
 pub mod Classes
 pub mod Words
 pub mod Keys
+pub mod Counts

@@ -23,17 +23,17 @@ use Rattle.text_records.specs.Cleaning.{isHigh, isControl, isMark, Kept,
 use Rattle.text_records.specs.Kinds.{highKind, controlKind, markKind, keptKind, kindOf, seenFrom}
 
 -- ---- a character's kind
-high-control : (c : ℕ) → isHigh c ≡ true → isControl c ≡ false
+pub high-control : (c : ℕ) → isHigh c ≡ true → isControl c ≡ false
 unfolding isHigh isControl
 high-control c e =
     let h : 128 ≤ c = leb-true 128 c e in
     cond-false (ltb c 32) (not (eqb c 9)) (eqb c 127) (le-ltb c 32 (omega arith)) ∙ ne-eqb c 127 (omega arith)
 
-mark-plain : (c : ℕ) → isMark c ≡ true → isHigh c ≡ false
+pub mark-plain : (c : ℕ) → isMark c ≡ true → isHigh c ≡ false
 unfolding isMark isHigh
 mark-plain c e = let h : c ≡ 33 = eqb-true c 33 e in lt-leb 128 c (omega arith)
 
-mark-text : (c : ℕ) → isMark c ≡ true → isControl c ≡ false
+pub mark-text : (c : ℕ) → isMark c ≡ true → isControl c ≡ false
 unfolding isMark isControl
 mark-text c e =
     let h : c ≡ 33 = eqb-true c 33 e in

@@ -2,3 +2,4 @@ pub mod Stream
 pub mod Received
 pub mod Cleaning
 pub mod Plain
+pub mod Counts

@@ -53,13 +53,14 @@ use Rattle.load.specs.declared.Reading.{Reading}
 use Rattle.load.specs.declared.Reading.the-variants.{Wrong as Misread, Change}
 use Rattle.load.specs.Condition.{fullOf, unsupportedOf, wrongSecondary, overLongRecord, identMismatch}
 use Rattle.load.specs.Item.{memory, page, done, allDone, pairsOf, triplesOf}
-use Rattle.load.specs.Step.{Step, ended, nothingOpen, opened, name, namedOf, refused, openedBy, primaryOf}
-use Rattle.load.specs.Step.{augments, timesOf, changedBy, obeyedBy, secondaryBy}
-use Rattle.load.specs.Step.{clearedBy, pageAt, clearKindOf, clearPatchOf, tablePages, mostPages}
-use Rattle.load.specs.Step.{clearTable, clearDimmers, clearTables, clearAllOf, clearBy}
-use Rattle.load.specs.Step.{patchBy, isThree, identBy, keywordStep, stepOf, isOverLong, recordStep}
+use Rattle.load.specs.Ask.{name, namedOf}
+use Rattle.load.specs.Step.{Step, ended, nothingOpen, opened, openedBy}
+use Rattle.load.specs.Ask.{augments, timesOf}
+use Rattle.load.specs.Ask.{pageAt, tablePages, mostPages}
+use Rattle.load.specs.Ask.{isThree, isOverLong}
+use Rattle.load.specs.Step.{stepOf, recordStep}
 use Rattle.load.specs.Run.{Run, loadOf, runFrom, stops, only, andThen}
-use Rattle.load_items.specs.Each.{EntryFits}
+use Rattle.load.specs.Fits.{EntryFits}
 use Rattle.load_items.proofs.Laws.{pair-fits}
 use Rattle.theorem_rehearse.proofs.Ready.{NoLevel, ReadingOk, reading-ok}
 

@@ -20,7 +20,7 @@ use Rattle.store.specs.Good.{Ready}
 use Rattle.store.proofs.Start.{kept-ok}
 use Rattle.store.proofs.Clear.{clear-view}
 use Rattle.store.proofs.Patches.{clear-patch-memory}
-use Rattle.load.specs.Step.{tablePages, clearTable, clearDimmers, clearTables}
+use Rattle.load.specs.Ask.{tablePages}
 use Rattle.theorem_rehearse.specs.Rehearse.{Larger, isKept}
 use Rattle.theorem_rehearse.proofs.Fields.{more-tables}
 use Rattle.theorem_rehearse.proofs.Ready.{clear-dimmers-ready, clear-table-ready}

@@ -32,10 +32,11 @@ use Rattle.load.specs.declared.State.{State}
 use Rattle.load.specs.declared.Secondary.{Secondary}
 use Rattle.load.specs.declared.Secondary.the-variants.{Chan, Up, Down, Followon, Link}
 use Rattle.load.specs.Item.{page, done, allDone}
-use Rattle.load.specs.Step.{Step, namedOf, primaryOf}
-use Rattle.load.specs.Step.{secondaryBy}
-use Rattle.load.specs.Step.{clearedBy, clearKindOf, clearPatchOf, mostPages, clearDimmers, clearTables, clearAllOf, clearBy}
-use Rattle.load.specs.Step.{patchBy, keywordStep, stepOf, isOverLong, recordStep}
+use Rattle.load.specs.Ask.{namedOf}
+use Rattle.load.specs.Step.{Step}
+use Rattle.load.specs.Ask.{mostPages}
+use Rattle.load.specs.Ask.{isOverLong}
+use Rattle.load.specs.Step.{stepOf, recordStep}
 use Rattle.theorem_rehearse.specs.Rehearse.{Larger}
 use Rattle.theorem_rehearse.specs.Frame.{isNamed, isOpen, clearsKind, Framed}
 use Rattle.theorem_rehearse.proofs.Fields.{Pages, bad-pages, beyond-page, same-page, pages, pages-at, more-most, patch-most}

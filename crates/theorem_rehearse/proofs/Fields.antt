@@ -35,7 +35,7 @@ use Rattle.load.specs.declared.Numeral.the-variants.{Wrong, Number}
 use Rattle.load.specs.declared.Named.{Named}
 use Rattle.load.specs.declared.Named.the-variants.{Refused, Name as Accepted}
 use Rattle.load.specs.Condition.{badPage, badSub, malformedSub}
-use Rattle.load.specs.Step.{name, numberedBy, subBy, numeralOf, pageAt, namedBy, namedOf, tablePages, mostPages}
+use Rattle.load.specs.Ask.{name, numberedBy, subBy, numeralOf, pageAt, namedBy, namedOf, tablePages, mostPages}
 use Rattle.load.proofs.Ranges.{NumberOk, number-ok}
 use Rattle.theorem_rehearse.specs.Rehearse.{Larger}
 

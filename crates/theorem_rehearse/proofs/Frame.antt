@@ -52,10 +52,12 @@ use Rattle.load.specs.declared.Reading.{Reading}
 use Rattle.load.specs.declared.Reading.the-variants.{Wrong as Misread, Change}
 use Rattle.load.specs.Condition.{fullOf, unsupportedOf, wrongSecondary, overLongRecord, identMismatch}
 use Rattle.load.specs.Item.{memory, page, done, allDone, pairsOf, triplesOf}
-use Rattle.load.specs.Step.{Step, ended, opened, name, namedOf, refused, openedBy, primaryOf, pageAt}
-use Rattle.load.specs.Step.{augments, timesOf, changedBy, obeyedBy, secondaryBy}
-use Rattle.load.specs.Step.{clearedBy, clearKindOf, clearPatchOf, tablePages, mostPages, clearTable, clearDimmers, clearTables, clearAllOf, clearBy}
-use Rattle.load.specs.Step.{patchBy, isThree, identBy, keywordStep, stepOf, isOverLong, recordStep}
+use Rattle.load.specs.Ask.{name, namedOf, pageAt}
+use Rattle.load.specs.Step.{Step, ended, opened, openedBy}
+use Rattle.load.specs.Ask.{augments, timesOf}
+use Rattle.load.specs.Ask.{tablePages, mostPages}
+use Rattle.load.specs.Ask.{isThree, isOverLong}
+use Rattle.load.specs.Step.{stepOf, recordStep}
 use Rattle.theorem_rehearse.specs.Frame.{Action, primary, secondary, other, actionOf, actionIn, isNamed, isOpen, onGood, clearsKind, clearsMemory, changesMemory, patchesDimmer, clearsDimmers, changesDimmer, Framed, Frame}
 use Rattle.theorem_rehearse.proofs.Fields.{Pages, bad-pages, beyond-page, same-page, pages, pages-here, NamedOk, named-ok}
 use Rattle.theorem_rehearse.proofs.Items.{TripleFits, Triples, triple-faults, beyond-triple, same-patch as same-triple, Each, none, next, triples}

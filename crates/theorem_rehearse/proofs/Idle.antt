@@ -32,10 +32,12 @@ use Rattle.load.specs.declared.Named.the-variants.{Refused, Name as Accepted}
 use Rattle.load.specs.declared.Reading.{Reading}
 use Rattle.load.specs.declared.Reading.the-variants.{Wrong as Misread, Change}
 use Rattle.load.specs.Condition.{fullOf, unsupportedOf, wrongSecondary, overLongRecord}
-use Rattle.load.specs.Step.{Step, ended, opened, name, namedOf, refused, openedBy, primaryOf, pageAt}
-use Rattle.load.specs.Step.{augments, timesOf, changedBy, obeyedBy, secondaryBy}
-use Rattle.load.specs.Step.{clearedBy, clearKindOf, clearPatchOf, mostPages, clearTables, clearAllOf, clearBy}
-use Rattle.load.specs.Step.{patchBy, keywordStep, stepOf, isOverLong, recordStep}
+use Rattle.load.specs.Ask.{name, namedOf, pageAt}
+use Rattle.load.specs.Step.{Step, ended, opened, openedBy}
+use Rattle.load.specs.Ask.{augments, timesOf}
+use Rattle.load.specs.Ask.{mostPages}
+use Rattle.load.specs.Ask.{isOverLong}
+use Rattle.load.specs.Step.{stepOf, recordStep}
 use Rattle.theorem_rehearse.specs.Frame.{Idle}
 use Rattle.theorem_rehearse.proofs.Frame.{ident-none}
 

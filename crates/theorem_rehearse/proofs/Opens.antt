@@ -16,7 +16,8 @@ use Rattle.store.specs.View.{Memory as Kept-memory, absent, kept, memoryAt, mem
 use Rattle.load.specs.declared.Open.{Open}
 use Rattle.load.specs.declared.Open.the-variants.{Nothing, Skipping, Memory}
 use Rattle.load.specs.declared.State.{State}
-use Rattle.load.specs.Step.{name, nothingOpen, settleBy, settle}
+use Rattle.load.specs.Ask.{name}
+use Rattle.load.specs.Step.{nothingOpen, settleBy, settle}
 use Rattle.theorem_rehearse.specs.Rehearse.{Larger, isKept}
 use Rattle.theorem_rehearse.proofs.Views.{keeps, beside-kept}
 use Rattle.theorem_rehearse.proofs.Clears.{Cleared}

@@ -57,10 +57,12 @@ use Rattle.load.specs.declared.Reading.{Reading}
 use Rattle.load.specs.declared.Reading.the-variants.{Wrong as Misread, Change}
 use Rattle.load.specs.Condition.{fullOf, unsupportedOf, wrongSecondary, overLongRecord, identMismatch}
 use Rattle.load.specs.Item.{memory, page, done, allDone, pairsOf}
-use Rattle.load.specs.Step.{Step, ended, opened, name, namedOf, refused, openedBy, primaryOf}
-use Rattle.load.specs.Step.{augments, onTime, delayOf, fadeOf, linkBy, numberedBy, timesOf, changedBy, obeyedBy, secondaryBy}
-use Rattle.load.specs.Step.{clearedBy, pageAt, clearKindOf, clearPatchOf, tablePages, mostPages, clearTable, clearDimmers, clearTables, clearAllOf, clearBy}
-use Rattle.load.specs.Step.{patchBy, isThree, identBy, keywordStep, stepOf, isOverLong, recordStep}
+use Rattle.load.specs.Ask.{name, namedOf}
+use Rattle.load.specs.Step.{Step, ended, opened, openedBy}
+use Rattle.load.specs.Ask.{augments, onTime, delayOf, fadeOf, linkBy, numberedBy, timesOf}
+use Rattle.load.specs.Ask.{pageAt, tablePages, mostPages}
+use Rattle.load.specs.Ask.{isThree, isOverLong}
+use Rattle.load.specs.Step.{stepOf, recordStep}
 use Rattle.load.proofs.Ranges.{TimeOk, time-ok}
 use Rattle.theorem_rehearse.proofs.Fields.{NumeralOk, numeral-ok, Pages, bad-pages, beyond-page, same-page, pages, pages-here, NamedOk, named-ok}
 use Rattle.theorem_rehearse.proofs.Items.{Triples, triple-faults, beyond-triple, same-patch, Each, none, next, triples}

@@ -17,7 +17,8 @@ use Rattle.load.specs.declared.Outcome.{Outcome}
 use Rattle.load.specs.declared.Outcome.the-variants.{Dropped}
 use Rattle.load.specs.declared.State.{State}
 use Rattle.load.specs.Condition.{noEnddata}
-use Rattle.load.specs.Step.{Step, nothingOpen, isOverLong, ignoredIn, outcomeReports, conditionsOf, recordStep}
+use Rattle.load.specs.Ask.{isOverLong}
+use Rattle.load.specs.Step.{Step, nothingOpen, ignoredIn, outcomeReports, conditionsOf, recordStep}
 use Rattle.load.specs.Run.{Report, Run, reportsAt, allReports}
 use Rattle.theorem_rehearse.specs.Rehearse.{Rehearsal, loaded, isFull, hasFull, HadRoom, Ships, Complete, SamePatch, Rehearsed}
 use Rattle.theorem_rehearse.proofs.Ready.{record-ready}

@@ -37,10 +37,12 @@ use Rattle.load.specs.declared.Named.the-variants.{Refused, Name as Accepted}
 use Rattle.load.specs.declared.Reading.{Reading}
 use Rattle.load.specs.declared.Reading.the-variants.{Wrong as Misread, Change}
 use Rattle.load.specs.Condition.{fullOf, unsupportedOf, wrongSecondary, overLongRecord, identMismatch}
-use Rattle.load.specs.Step.{Step, ended, nothingOpen, opened, name, namedOf, refused, openedBy, primaryOf, pageAt}
-use Rattle.load.specs.Step.{augments, timesOf, changedBy, obeyedBy, secondaryBy}
-use Rattle.load.specs.Step.{clearedBy, clearKindOf, clearPatchOf, mostPages, clearTables, clearAllOf, clearBy}
-use Rattle.load.specs.Step.{patchBy, isThree, identBy, keywordStep, stepOf, isOverLong, recordStep, conditionsOf}
+use Rattle.load.specs.Ask.{name, namedOf, pageAt}
+use Rattle.load.specs.Step.{Step, ended, nothingOpen, opened, openedBy}
+use Rattle.load.specs.Ask.{augments, timesOf}
+use Rattle.load.specs.Ask.{mostPages}
+use Rattle.load.specs.Ask.{isThree, isOverLong}
+use Rattle.load.specs.Step.{stepOf, recordStep, conditionsOf}
 use Rattle.load.specs.Run.{Report, Run, reportsAt, stops, only, andThen, runFrom, loadOf}
 
 -- ---- what never stops a load

@@ -45,10 +45,13 @@ use Rattle.load.specs.declared.Reading.{Reading}
 use Rattle.load.specs.declared.Reading.the-variants.{Wrong as Misread, Change}
 use Rattle.load.specs.Condition.{fullOf, unsupportedOf, wrongSecondary, identMismatch}
 use Rattle.load.specs.Item.{pairsOf}
-use Rattle.load.specs.Step.{Step, ended, opened, name, namedOf, refused, openedBy, primaryOf, pageAt}
-use Rattle.load.specs.Step.{augments, timesOf, changedBy, obeyedBy, secondaryBy}
-use Rattle.load.specs.Step.{settle, clearedBy, clearKindOf, clearPatchOf, mostPages, clearTables, clearAllOf, clearBy}
-use Rattle.load.specs.Step.{patchBy, patchStep, isThree, identBy, keywordStep, stepOf, isOverLong, recordStep}
+use Rattle.load.specs.Ask.{name, namedOf, pageAt}
+use Rattle.load.specs.Step.{Step, ended, opened, openedBy}
+use Rattle.load.specs.Ask.{augments, timesOf}
+use Rattle.load.specs.Ask.{mostPages}
+use Rattle.load.specs.Step.{settle}
+use Rattle.load.specs.Ask.{isThree, isOverLong}
+use Rattle.load.specs.Step.{stepOf, recordStep}
 use Rattle.theorem_rehearse.specs.Rehearse.{Larger, isFull, isKept}
 use Rattle.theorem_rehearse.proofs.Fields.{Pages, bad-pages, beyond-page, same-page, pages, pages-at, Names, refused-names, beyond-name, same-name, names, NamedOk, named-ok, not-supported, supports, more-pages, more-most, table-most}
 use Rattle.theorem_rehearse.proofs.Items.{pairs}

@@ -35,7 +35,8 @@ use Rattle.load.specs.declared.State.{State}
 use Rattle.load.specs.declared.Named.{Named}
 use Rattle.load.specs.declared.Named.the-variants.{Refused, Name as Accepted}
 use Rattle.load.specs.Item.{triplesOf}
-use Rattle.load.specs.Step.{name, namedOf, pageAt, tablePages, mostPages, isOverLong, recordStep}
+use Rattle.load.specs.Ask.{name, namedOf, pageAt, tablePages, mostPages, isOverLong}
+use Rattle.load.specs.Step.{recordStep}
 
 -- ---- what a keyword may change at all
 pub data Action : Type 0 where

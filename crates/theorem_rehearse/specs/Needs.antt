@@ -12,7 +12,7 @@ use Rattle.store_desk.specs.Size.{storeLength}
 use Rattle.store_desk.specs.Name.{Name}
 use Rattle.store.specs.View.{memoryOf, patchedTo}
 use Rattle.load.specs.Run.{allReports}
-use Rattle.load.specs.Step.{name}
+use Rattle.load.specs.Ask.{name}
 use Rattle.theorem_rehearse.specs.Rehearse.{Rehearsal, loaded, hasFull, isKept}
 
 -- the limits in the paper's order: channels, dimmers, cues; no groups and no submasters; pages of cues, one of each other kind

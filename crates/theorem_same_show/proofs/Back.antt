@@ -19,7 +19,7 @@ use Rattle.text_records.specs.Stream.{recordsOf}
 use Rattle.store.specs.View.{memoryOf}
 use Rattle.store.specs.Good.{Ready}
 use Rattle.load.specs.declared.State.{State}
-use Rattle.load.specs.Step.{nothingOpen, clearTables}
+use Rattle.load.specs.Step.{nothingOpen}
 use Rattle.load.specs.Run.{runFrom, loadOf}
 use Rattle.save_lines.specs.Line.{joined}
 use Rattle.save.specs.Lines.{patchLines, kindLines, linesOf, streamOf}

@@ -18,7 +18,7 @@ use Rattle.store.specs.Change.{hits, cleared, clearedPatch}
 use Rattle.store.specs.Good.{Ready}
 use Rattle.store.proofs.Clear.{clear-length, clear-patch, clear-tail, clear-view, clear-good}
 use Rattle.store.proofs.Patches.{same-patch, clear-patch-view, clear-patch-length, clear-patch-tail, clear-patch-good}
-use Rattle.load.specs.Step.{tablePages, clearTable, clearDimmers, clearTables}
+use Rattle.load.specs.Ask.{tablePages}
 use Rattle.theorem_same_show.proofs.Changed.{Beside, beside-next}
 use Rattle.theorem_same_show.proofs.Patching.{Patching}
 

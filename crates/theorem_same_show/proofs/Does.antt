@@ -52,9 +52,11 @@ use Rattle.load.specs.declared.Reading.{Reading}
 use Rattle.load.specs.declared.Reading.the-variants.{Change}
 use Rattle.load.specs.Condition.{fullOf, badChannel, badDimmer}
 use Rattle.load.specs.Item.{rangedOf, onRanged, onLevel, pairOf, tripleOf, pairsOf, triplesOf, faultsOf, memory, page, done, allDone}
-use Rattle.load.specs.Step.{ended, opened, name, recordStep, stepOf, keywordStep, isOverLong, ignoredIn, itemsDone}
-use Rattle.load.specs.Step.{numberedBy, subBy, numeralOf, pageAt, namedBy, namedOf, openedBy, primaryOf, refused}
-use Rattle.load.specs.Step.{augments, onTime, delayOf, fadeOf, linkBy, timesOf, changedBy, obeyedBy, secondaryBy, patchBy}
+use Rattle.load.specs.Ask.{name, isOverLong}
+use Rattle.load.specs.Step.{ended, opened, recordStep, stepOf, ignoredIn}
+use Rattle.load.specs.Ask.{numberedBy, subBy, numeralOf, pageAt, namedBy, namedOf}
+use Rattle.load.specs.Step.{openedBy}
+use Rattle.load.specs.Ask.{augments, onTime, delayOf, fadeOf, linkBy, timesOf}
 use Rattle.save_lines.specs.Line.{patchText, primaryText, delayText, Lit, pairsText}
 use Rattle.theorem_same_show.proofs.Fair.{Fair, fair-quiet}
 use Rattle.theorem_same_show.proofs.Spelled.{spelled, fields-of}

@@ -26,7 +26,8 @@ use Rattle.store.specs.Change.{seat, started, edited}
 use Rattle.store.specs.Form.{hasTimes, hasLink}
 use Rattle.store.proofs.Edits.{Values}
 use Rattle.load.specs.declared.State.{State}
-use Rattle.load.specs.Step.{opened, name}
+use Rattle.load.specs.Ask.{name}
+use Rattle.load.specs.Step.{opened}
 use Rattle.save_lines.specs.Line.{timeLine, linkLine, headLines, Lit, litFrom, mostPairs, chanLinesIn, chanLines}
 use Rattle.save.specs.Lines.{memoryLines}
 use Rattle.theorem_same_show.proofs.Worded.{AllLit}

@@ -33,7 +33,8 @@ use Rattle.store.proofs.Edits.{Values, values-of}
 use Rattle.store.proofs.Loss.{bytes-take, bytes-drop}
 use Rattle.store.proofs.Ordered.{Among, in-order-used, used-in-order}
 use Rattle.load.specs.declared.State.{State}
-use Rattle.load.specs.Step.{opened, name}
+use Rattle.load.specs.Ask.{name}
+use Rattle.load.specs.Step.{opened}
 use Rattle.save.specs.Lines.{memoryLines, slotLines}
 use Rattle.theorem_same_show.proofs.Does.{editedAll}
 use Rattle.theorem_same_show.proofs.Runs.{Runs, done, runs-append}

@@ -16,7 +16,8 @@ use Rattle.value.specs.Parts.{cutAt}
 use Rattle.value.specs.Field.{versionedOf, versionOf}
 use Rattle.load.specs.declared.State.{State}
 use Rattle.load.specs.declared.Outcome.the-variants.{Obeyed, Stopped}
-use Rattle.load.specs.Step.{Step, ended, nothingOpen, recordStep, stepOf, keywordStep, identBy, clearBy, clearAllOf, clearedBy, pageAt, settleBy, clearTables, ignoredIn, conditionsOf, outcomeReports}
+use Rattle.load.specs.Ask.{pageAt}
+use Rattle.load.specs.Step.{Step, ended, nothingOpen, recordStep, stepOf, settleBy, ignoredIn, conditionsOf, outcomeReports}
 use Rattle.load.specs.Run.{reportsAt, stops, Run, only, andThen, runFrom, allReports, blank, passed, dropped, obeyed, classOf, eqClass, tallyOf, lastOf, closingOf, totalsOf}
 use Rattle.theorem_same_show.proofs.Fair.{isFair, Fair, AllFair}
 use Rattle.theorem_same_show.proofs.Does.{Does}

@@ -41,8 +41,10 @@ use Rattle.value.specs.Time.{rangedOf as rangedTime, partOf, joinOf, laterOf, c
 use Rattle.value.specs.Field.{versionedOf, versionOf, pagedOf, pageOf}
 use Rattle.value_level.specs.Level.{hexWordOf, hexOf, levelWordOf, upperOf, levelOf}
 use Rattle.load.specs.Item.{rangedOf, onRanged, onLevel, pairOf, tripleOf, pairsOf, triplesOf, faultsOf, done, allDone}
-use Rattle.load.specs.Step.{numberedBy, subBy, numeralOf, pageAt, namedBy, namedOf, openedBy, primaryOf, augments, onTime, delayOf, fadeOf, linkBy, timesOf, changedBy, obeyedBy, secondaryBy}
-use Rattle.load.specs.Step.{settleBy, clearedBy, tablePages, mostPages, clearTable, clearDimmers, clearTables, clearAllOf, clearBy, patchBy, identBy, keywordStep, stepOf, recordStep, ignoredIn, outcomeReports, conditionsOf}
+use Rattle.load.specs.Ask.{numberedBy, subBy, numeralOf, pageAt, namedBy, namedOf, augments, onTime, delayOf, fadeOf, linkBy, timesOf}
+use Rattle.load.specs.Step.{openedBy}
+use Rattle.load.specs.Ask.{tablePages, mostPages}
+use Rattle.load.specs.Step.{settleBy, stepOf, recordStep, ignoredIn, outcomeReports, conditionsOf}
 use Rattle.load.specs.Run.{stops, runFrom, loadOf}
 use Rattle.value_written.specs.Text.{digitChar, digitsOn, countFrom, countOf, integerText, fractionText, numberText, levelText, partText, clockText, timeText}
 use Rattle.save_lines.specs.Line.{joined, patchText, patchLine, kindText, primaryText, delayText, timeLine, linkLine, headLines, litFrom, pairText, pairsText, chanLinesIn, chanLines}

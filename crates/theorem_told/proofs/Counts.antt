@@ -22,7 +22,8 @@ use Rattle.text_fields.specs.Words.{Word, isDelimiter, isWord, wordsIn, wordsOf
 use Rattle.load.specs.declared.State.{State}
 use Rattle.load.specs.declared.Outcome.the-variants.{Stopped}
 use Rattle.load.specs.Condition.{overLongRecord, noEnddata, ignoredHigh, ignoredControl}
-use Rattle.load.specs.Step.{Step, ended, nothingOpen, stepOf, isOverLong, recordStep, oneIf, ignoredIn, outcomeReports, conditionsOf}
+use Rattle.load.specs.Ask.{isOverLong}
+use Rattle.load.specs.Step.{Step, ended, nothingOpen, stepOf, recordStep, oneIf, ignoredIn, outcomeReports, conditionsOf}
 use Rattle.load.specs.Run.{Run, Report, stops, reportsAt, runFrom, loadOf, allReports}
 use Rattle.theorem_told.proofs.Runs.{run-none, run-stops, run-goes}
 use Rattle.theorem_told.proofs.Steps.{step-sound}

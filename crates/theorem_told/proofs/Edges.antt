@@ -25,7 +25,8 @@ use Rattle.value_level.specs.Level.{hexWordOf, hexOf, levelWordOf, upperOf, lev
 use Rattle.load.specs.Condition.{isError}
 use Rattle.load.specs.Item.{rangedOf as rangedOf₂, onRanged, onLevel, pairOf, pairsOf, faultsOf, done, allDone}
 use Rattle.load.specs.Run.{stops, runFrom, loadOf, allReports, classOf, eqClass, tallyOf, lastOf, closingOf, reportWord, totalsOf}
-use Rattle.load.specs.Step.{numberedBy, numeralOf, pageAt, namedBy, namedOf, openedBy, primaryOf, augments, onTime, delayOf, fadeOf, timesOf, changedBy, obeyedBy, secondaryBy, keywordStep, stepOf, recordStep, ignoredIn, outcomeReports, conditionsOf}
+use Rattle.load.specs.Ask.{numberedBy, numeralOf, pageAt, namedBy, namedOf, augments, onTime, delayOf, fadeOf, timesOf}
+use Rattle.load.specs.Step.{openedBy, stepOf, recordStep, ignoredIn, outcomeReports, conditionsOf}
 use Rattle.theorem_told.specs.Edges.{edges, wantedOf, keptBy, loaded, answerOf}
 
 pub edges-hold : map answerOf edges ≡ map wantedOf edges

@@ -60,9 +60,12 @@ use Rattle.load.specs.declared.Reading.{Reading}
 use Rattle.load.specs.declared.Reading.the-variants.{Wrong as Misread, Change}
 use Rattle.load.specs.Condition.{fullOf, unsupportedOf, badPage, overLongRecord, identMismatch, unknownKeyword, unknownItem, wrongSecondary, badPatchPage, badDimmer}
 use Rattle.load.specs.Item.{rangedOf, channelOf, dimmerOf, onRanged, onLevel, tripleOf, pairsOf, triplesOf, faultsOf, Target, memory, page, done, allDone}
-use Rattle.load.specs.Step.{Step, ended, nothingOpen, skipping, opened, name, refused, subBy, numeralOf, pageAt, namedBy, namedOf, openedBy, primaryOf}
-use Rattle.load.specs.Step.{augments, timesOf, changedBy, itemsDone, obeyedBy, secondaryBy, settleBy, settle, clearedBy, clearKindOf, clearPatchOf, tablePages, mostPages, clearTable, clearDimmers, clearTables, clearAllOf, clearBy}
-use Rattle.load.specs.Step.{patchBy, isThree, identBy, keywordStep, stepOf, isOverLong, recordStep, conditionsOf}
+use Rattle.load.specs.Ask.{name, subBy, numeralOf, pageAt, namedBy, namedOf}
+use Rattle.load.specs.Step.{Step, ended, nothingOpen, skipping, opened, openedBy}
+use Rattle.load.specs.Ask.{augments, timesOf, tablePages, mostPages}
+use Rattle.load.specs.Step.{settleBy, settle}
+use Rattle.load.specs.Ask.{isThree, isOverLong}
+use Rattle.load.specs.Step.{stepOf, recordStep, conditionsOf}
 use Rattle.load.specs.Run.{Run, stops, only, andThen, runFrom, loadOf, allReports, totalsOf}
 use Rattle.theorem_told.specs.Classes.{withBehind}
 use Rattle.theorem_told.proofs.Runs.{run-none, run-stops, run-goes}

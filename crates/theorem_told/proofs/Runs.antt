@@ -16,22 +16,6 @@ use Rattle.load.specs.Step.{Step, recordStep, conditionsOf}
 use Rattle.load.specs.Run.{Run, Report, stops, none, only, andThen, reportsAt, runFrom}
 use Rattle.theorem_told.specs.Classes.{joined, goneOn}
 
--- ---- one record at a time
-pub run-none : (d : Desk) (n : ℕ) (s : State) (t : List ℕ) → runFrom d n s t [] ≡ none s t
-unfolding runFrom
-run-none d n s t = refl
-
-module _ (d : Desk) (n : ℕ) (s : State) (t r : List ℕ) (rs : List (List ℕ)) where
-  pub run-stops : stops (recordStep d s r t .outcome) ≡ true → runFrom d n s t (r ∷ rs) ≡ only (n + 1) r (recordStep d s r t)
-  unfolding runFrom
-  run-stops e = cond-true _ _ _ e
-
-  pub run-goes : stops (recordStep d s r t .outcome) ≡ false
-      → runFrom d n s t (r ∷ rs)
-      ≡ andThen (n + 1) r (recordStep d s r t) (runFrom d (n + 1) (recordStep d s r t .state) (recordStep d s r t .store) rs)
-  unfolding runFrom
-  run-goes e = cond-false _ _ _ e
-
 -- ---- in two parts
 pub gone-stopped : (d : Desk) (n : ℕ) (x : Run) (rs : List (List ℕ)) → x .stopped ≡ true → goneOn d n x rs ≡ x
 unfolding goneOn

@@ -42,9 +42,11 @@ use Rattle.load.specs.declared.Reading.{Reading}
 use Rattle.load.specs.declared.Reading.the-variants.{Wrong as Misread, Change}
 use Rattle.load.specs.Condition.{fullOf, unsupportedOf, badPage, identMismatch, unknownKeyword, unknownItem, wrongSecondary, badPatchPage}
 use Rattle.load.specs.Item.{pairsOf, triplesOf, faultsOf, Target, memory, page}
-use Rattle.load.specs.Step.{Step, ended, skipping, opened, name, refused, namedOf, openedBy, primaryOf, augments, timesOf, changedBy, obeyedBy, secondaryBy}
-use Rattle.load.specs.Step.{pageAt, settle, clearedBy, clearKindOf, clearPatchOf, mostPages, clearTables, clearAllOf, clearBy, itemsDone, patchBy, isThree, identBy}
-use Rattle.load.specs.Step.{keywordStep, stepOf, outcomeReports}
+use Rattle.load.specs.Ask.{name, namedOf, augments, timesOf}
+use Rattle.load.specs.Step.{Step, ended, skipping, opened, openedBy}
+use Rattle.load.specs.Ask.{pageAt, mostPages, isThree}
+use Rattle.load.specs.Step.{settle}
+use Rattle.load.specs.Step.{stepOf, outcomeReports}
 
 -- ---- no more dropped items than fields
 faults-few : (es : List Entry) → length (faultsOf es) ≤ length es

@@ -9,7 +9,8 @@ use Rattle.text_fields.specs.Words.{fieldsOf}
 use Rattle.load.specs.declared.State.{State}
 use Rattle.load.specs.declared.Outcome.the-variants.{Obeyed}
 use Rattle.load.specs.Run.{classOf, obeyed}
-use Rattle.load.specs.Step.{Step, isOverLong, recordStep}
+use Rattle.load.specs.Ask.{isOverLong}
+use Rattle.load.specs.Step.{Step, recordStep}
 use Rattle.theorem_told.proofs.Steps.{step-sound}
 
 -- blank, passed, dropped or stopped: every byte is as it was

@@ -1,7 +1,7 @@
 -- `none` meets its contract: forty zeros and a count of 0 hold no fault.
 -- Assumes nothing.
 use Rattle.cells.specs.Pad.{padded}
-use Rattle.load.specs.Item.{faultsHeld}
+use Rattle.load_items.specs.Done.{faultsHeld}
 use mathlib.Core.Path.{refl}
 use Rattle.load_items.proofs.none.Statement.{statement}
 use Rattle.load_items.proofs.none.Tie as tie

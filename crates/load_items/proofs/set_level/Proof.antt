@@ -1,7 +1,7 @@
 -- `set_level` meets its contract: a level is set, and no other item changes the slot.
 -- Assumes nothing.
 use Rattle.load_items.proofs.Laws.{slot-level, slot-patch, slot-fault}
-use Rattle.load_items.specs.Each.{EntryFits}
+use Rattle.load.specs.Fits.{EntryFits}
 use mathlib.Core.Path.{subst}
 use borrow.Author.Needs.{needs}
 use Rattle.load_items.proofs.set_level.Statement.{statement}

@@ -1,7 +1,7 @@
 -- `set_patch` meets its contract: a dimmer is patched, and no other item changes the page.
 -- Assumes nothing.
 use Rattle.load_items.proofs.Laws.{page-level, page-patch, page-fault}
-use Rattle.load_items.specs.Each.{EntryFits}
+use Rattle.load.specs.Fits.{EntryFits}
 use native.Mathlib.Omega.{arith}
 use mathlib.Core.Path.{subst}
 use borrow.Author.Needs.{needs}

@@ -1,6 +1,6 @@
 -- `augments` meets its contract, secondary by secondary.
 -- Assumes nothing.
-use Rattle.load.specs.Step.{augments}
+use Rattle.load.specs.Ask.{augments}
 use borrow.Author.Needs.{needs}
 use Rattle.load_naming.proofs.augments.Statement.{statement}
 use Rattle.load_naming.proofs.augments.Tie as tie

@@ -2,7 +2,7 @@
 -- Assumes nothing.
 use Rattle.load_naming.proofs.Fields.{field-in, line-next}
 use Rattle.load_naming.proofs.Times.{change-up, change-down, change-followon, change-link}
-use Rattle.load.specs.Step.{timesOf}
+use Rattle.load.specs.Ask.{timesOf}
 use borrow.Author.Needs.{needs}
 use Rattle.load_naming.proofs.change_at.Statement.{statement}
 use Rattle.load_naming.proofs.change_at.Tie as tie

@@ -2,7 +2,7 @@
 -- Assumes nothing.
 use borrow.Author.Needs.{needs}
 use mathlib.Core.Path.{_∙_, sym, ap}
-use Rattle.load.specs.Step.{numberedBy}
+use Rattle.load.specs.Ask.{numberedBy}
 use Rattle.load_naming.proofs.cue_number.Statement.{statement}
 use Rattle.load_naming.proofs.cue_number.Tie as tie
 

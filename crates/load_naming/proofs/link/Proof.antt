@@ -1,7 +1,7 @@
 -- `link` meets its contract, case by case.
 -- Assumes nothing.
 use borrow.Author.Needs.{needs}
-use Rattle.load.specs.Step.{linkBy}
+use Rattle.load.specs.Ask.{linkBy}
 use Rattle.load_naming.proofs.link.Statement.{statement}
 use Rattle.load_naming.proofs.link.Tie as tie
 

@@ -1,7 +1,7 @@
 -- `most_pages` meets its contract.
 -- Assumes nothing.
 use borrow.Author.Needs.{needs}
-use Rattle.load.specs.Step.{mostPages}
+use Rattle.load.specs.Ask.{mostPages}
 use Rattle.load_naming.proofs.most_pages.Statement.{statement}
 use Rattle.load_naming.proofs.most_pages.Tie as tie
 

@@ -1,7 +1,7 @@
 -- `sub_number` meets its contract, case by case.
 -- Assumes nothing.
 use mathlib.Core.Path.{_∙_, ap}
-use Rattle.load.specs.Step.{subBy}
+use Rattle.load.specs.Ask.{subBy}
 use Rattle.load_naming.proofs.Numbers.{sub-malformed, sub-zero, sub-high, sub-good}
 use borrow.Author.Needs.{needs}
 use Rattle.load_naming.proofs.sub_number.Statement.{statement}

@@ -1,7 +1,7 @@
 -- `table_pages` meets its contract: with and without the kind.
 -- Assumes nothing.
 use mathlib.Core.Path.{sym, _∙_}
-use Rattle.load.specs.Step.{tablePages}
+use Rattle.load.specs.Ask.{tablePages}
 use Rattle.cells.proofs.Split.{cond-true, cond-false}
 use borrow.Author.Needs.{needs}
 use Rattle.load_naming.proofs.table_pages.Statement.{statement}

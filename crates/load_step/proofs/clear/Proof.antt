@@ -1,7 +1,6 @@
 -- `clear` meets its contract, item by item.
 -- Assumes nothing.
 use borrow.Author.Needs.{needs}
-use Rattle.load.specs.Step.{clearBy}
 use Rattle.load_naming.proofs.Fields.{field-in, line-next}
 use Rattle.load_step.proofs.Holding.{stays-as}
 use Rattle.load_step.proofs.Clearing.{clear-as}

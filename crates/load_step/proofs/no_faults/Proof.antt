@@ -2,7 +2,7 @@
 -- Assumes nothing.
 use mathlib.Core.Path.{refl}
 use Rattle.cells.specs.Pad.{padded}
-use Rattle.load.specs.Item.{faultsHeld}
+use Rattle.load_items.specs.Done.{faultsHeld}
 use Rattle.load_step.proofs.no_faults.Statement.{statement}
 use Rattle.load_step.proofs.no_faults.Tie as tie
 

@@ -2,7 +2,6 @@
 -- Assumes nothing.
 use mathlib.Core.Path.{_∙_, ap}
 use Rattle.load.specs.declared.Outcome.the-variants.{Passed}
-use Rattle.load.specs.Step.{keywordStep}
 use Rattle.load_step.specs.declared.Held.{Held}
 use Rattle.load_step.specs.Parts.{endedAs}
 use Rattle.load_step.proofs.Holding.{stays-as, skipping-as}

@@ -2,7 +2,6 @@
 -- Assumes nothing.
 use borrow.Author.Needs.{needs}
 use mathlib.Core.Path.{refl}
-use Rattle.load.specs.Step.{obeyedBy}
 use Rattle.load_step.proofs.Secondaries.{change-fits, obeyed-chan, obeyed-as}
 use Rattle.load_step.proofs.obeyed.Statement.{statement}
 use Rattle.load_step.proofs.obeyed.Tie as tie

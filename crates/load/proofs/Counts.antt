@@ -1,0 +1,171 @@
+-- How many: a record has no more conditions than characters, a load no more records than the stream has bytes and no more reports but
+-- 0100, and the four tallies sum to the records read. By induction on the records.
+-- Assumes nothing.
+use mathlib.Core.Path.{_≡_, refl, ap, _∙_}
+use mathlib.Core.Bool.{Bool, true, false, cond}
+use mathlib.Core.List.{List, [], _∷_, _++_, flatten}
+use Prim.Native.Nat.{ℕ, suc, _+_, _≤_, _<_, zero-le, suc-le-suc}
+use native.Mathlib.Omega.{arith}
+use lib.ListN.{length, length-append, length-map}
+use borrow.Author.Tests.{ltb-true}
+use Rattle.cells.proofs.Split.{by-test, by-bool}
+use Rattle.store_desk.specs.declared.Desk.{Desk}
+use Rattle.text_records.specs.Stream.{recordsOf}
+use Rattle.text_records.specs.Received.{longest}
+use Rattle.text_records.specs.Cleaning.{isHigh, isControl, has, keptOf}
+use Rattle.text_records.proofs.Stream.{records-count}
+use Rattle.text_fields.specs.Words.{fieldsOf}
+use Rattle.load.specs.declared.State.{State}
+use Rattle.load.specs.declared.Outcome.{Outcome}
+use Rattle.load.specs.Condition.{noEnddata, ignoredHigh, ignoredControl}
+use Rattle.load.specs.Ask.{isOverLong, askOf}
+use Rattle.load.specs.Step.{nothingOpen, acted, recordStep, conditionsOf, ignoredIn, oneIf, outcomeReports}
+use Rattle.load.specs.Run.{conditionSpan, Report, Run, stops, reportsAt, runFrom, loadOf, allReports, Class, blank, passed, dropped, obeyed, classOf, eqClass, tallyOf, totalsOf}
+use Rattle.text_records.proofs.Counts.{tell, seen-few, characters-few}
+use Rattle.text_fields.proofs.Counts.{fields-few}
+use Rattle.load.specs.Fits.{Small}
+use Rattle.load.proofs.Steps.{Modest, step-said}
+
+-- ---- a record's ignored characters are reported at most once a sort
+one-few : (b : Bool) (c : ℕ) → length (oneIf b c) ≡ tell b
+one-few true c = refl
+one-few false c = refl
+
+ignored-few : (r : List ℕ) → length (ignoredIn r) + length (keptOf r) ≤ length r
+unfolding ignoredIn
+ignored-few r =
+    let a : length (oneIf (has isHigh r) ignoredHigh) ≡ tell (has isHigh r) = one-few (has isHigh r) ignoredHigh in
+    let b : length (oneIf (has isControl r) ignoredControl) ≡ tell (has isControl r) = one-few (has isControl r) ignoredControl in
+    let l : length (oneIf (has isHigh r) ignoredHigh ++ oneIf (has isControl r) ignoredControl)
+    ≡ length (oneIf (has isHigh r) ignoredHigh) + length (oneIf (has isControl r) ignoredControl) =
+    length-append (oneIf (has isHigh r) ignoredHigh) (oneIf (has isControl r) ignoredControl) in
+    let h : tell (has isHigh r) + tell (has isControl r) + length (keptOf r) ≤ length r = seen-few r in
+    omega arith
+
+-- ---- a condition has a character at least
+pub small-join : (cs bs : List ℕ) → Small cs → Small bs → Small (cs ++ bs)
+unfolding Small
+small-join [] bs h g = g
+small-join (c ∷ cs) bs h g = (h .0, small-join cs bs (h .1) g)
+
+one-small : (b : Bool) (c : ℕ) → c < conditionSpan → Small (oneIf b c)
+unfolding Small
+one-small true c h = (h, tt)
+one-small false c h = tt
+
+pub ignored-small : (high control : Bool) → Small (oneIf high ignoredHigh ++ oneIf control ignoredControl)
+ignored-small high control =
+    small-join (oneIf high ignoredHigh) (oneIf control ignoredControl) (one-small high ignoredHigh (omega arith)) (one-small control ignoredControl (omega arith))
+
+said-join : (n k : ℕ) (cs : List ℕ) {bs : List ℕ} → length cs + n ≤ k → Small cs → Modest n bs → Modest k (cs ++ bs)
+said-join n k cs {bs} h g m =
+    let l : length (cs ++ bs) ≡ length cs + length bs = length-append cs bs in
+    let f : length bs ≤ n = m .few in
+    record { few = omega arith; small = small-join cs bs g (m .small) }
+
+long-said : (d : Desk) (s : State) (r t : List ℕ) → isOverLong r ≡ true → Modest (length r) (conditionsOf r (recordStep d s r t))
+unfolding conditionsOf recordStep outcomeReports Small acted askOf
+long-said d s r t e =
+    let l : longest < length r = ltb-true longest (length r) e in
+    let h : 1 ≤ length r = omega arith in
+    rw e (record { few = h; small = (omega arith, tt) })
+
+pub record-said : (d : Desk) (s : State) (r t : List ℕ) → Modest (length r) (conditionsOf r (recordStep d s r t))
+unfolding conditionsOf recordStep ignoredIn askOf
+record-said d s r t =
+    by-bool (isOverLong r)
+    (λ e. long-said d s r t e)
+    (λ e.
+    let i : length (ignoredIn r) + length (keptOf r) ≤ length r = ignored-few r in
+    let f : length (fieldsOf r) ≤ length (keptOf r) = fields-few r in
+    let h : length (ignoredIn r) + length (fieldsOf r) ≤ length r = omega arith in
+    rw e (said-join (length (fieldsOf r)) (length r) (ignoredIn r) h (ignored-small (has isHigh r) (has isControl r)) (step-said d s (fieldsOf r) t)))
+
+-- ---- a load's records and reports
+module _ (d : Desk) where
+  run-records : (n : ℕ) (s : State) (t : List ℕ) (rs : List (List ℕ)) → length (runFrom d n s t rs .outcomes) ≤ length rs
+  unfolding runFrom
+  run-records n s t [] = zero-le
+  run-records n s t (r ∷ rs) =
+      let x = recordStep d s r t in
+      by-test (λ (y : Run). length (y .outcomes) ≤ suc (length rs)) (stops (x .outcome)) _ _
+      (λ e. suc-le-suc zero-le)
+      (λ e. suc-le-suc (run-records (n + 1) (x .state) (x .store) rs))
+
+  run-reports : (n : ℕ) (s : State) (t : List ℕ) (rs : List (List ℕ)) → length (runFrom d n s t rs .reports) ≤ length (flatten rs)
+  unfolding runFrom flatten
+  run-reports n s t [] = zero-le
+  run-reports n s t (r ∷ rs) =
+      let x = recordStep d s r t in
+      let more = runFrom d (n + 1) (x .state) (x .store) rs .reports in
+      let here : List Report = reportsAt (n + 1) (conditionsOf r x) in
+      let m : length here ≡ length (conditionsOf r x) = length-map (conditionsOf r x) _ in
+      let f : length (conditionsOf r x) ≤ length r = record-said d s r t .few in
+      let l : length (r ++ flatten rs) ≡ length r + length (flatten rs) = length-append r (flatten rs) in
+      let ih : length more ≤ length (flatten rs) = run-reports (n + 1) (x .state) (x .store) rs in
+      let j : length (here ++ more) ≡ length here + length more = length-append here more in
+      by-test (λ (y : Run). length (y .reports) ≤ length (r ++ flatten rs)) (stops (x .outcome)) _ _
+      (λ e. let g : length here ≤ length (r ++ flatten rs) = omega arith in g)
+      (λ e. let g : length (here ++ more) ≤ length (r ++ flatten rs) = omega arith in g)
+
+-- a load reads no more records than the stream has bytes
+pub load-records : (d : Desk) (t s : List ℕ) → length (loadOf d t s .outcomes) ≤ length s
+unfolding loadOf
+load-records d t s =
+    let a : length (runFrom d 0 nothingOpen t (recordsOf s) .outcomes) ≤ length (recordsOf s) = run-records d 0 nothingOpen t (recordsOf s) in
+    let b : length (recordsOf s) ≤ length s = records-count s in
+    omega arith
+
+-- and makes no more reports but 0100
+pub load-reports : (d : Desk) (t s : List ℕ) → length (loadOf d t s .reports) ≤ length s
+unfolding loadOf
+load-reports d t s =
+    let a : length (runFrom d 0 nothingOpen t (recordsOf s) .reports) ≤ length (flatten (recordsOf s)) = run-reports d 0 nothingOpen t (recordsOf s) in
+    let b : length (flatten (recordsOf s)) ≤ length s = characters-few s in
+    omega arith
+
+all-few : (x : Run) → length (allReports x) ≤ length (x .reports) + 1
+unfolding allReports
+all-few x =
+    by-test (λ (rs : List Report). length rs ≤ length (x .reports) + 1) (x .stopped) _ _
+    (λ e. let h : length (x .reports) ≤ length (x .reports) + 1 = omega arith in h)
+    (λ e.
+    let r : Report = record { number = length (x .outcomes); condition = noEnddata } in
+    let l : length (x .reports ++ (r ∷ [])) ≡ length (x .reports) + 1 = length-append (x .reports) (r ∷ []) in
+    let h : length (x .reports ++ (r ∷ [])) ≤ length (x .reports) + 1 = omega arith in
+    h)
+
+pub load-all-reports : (d : Desk) (t s : List ℕ) → length (allReports (loadOf d t s)) ≤ length s + 1
+load-all-reports d t s =
+    let a : length (allReports (loadOf d t s)) ≤ length (loadOf d t s .reports) + 1 = all-few (loadOf d t s) in
+    let b : length (loadOf d t s .reports) ≤ length s = load-reports d t s in
+    omega arith
+
+-- ---- each record read is in one tally
+one-class : (k : Class) (a b c e : ℕ)
+    → cond (eqClass blank k) (suc a) a + cond (eqClass obeyed k) (suc b) b + cond (eqClass passed k) (suc c) c + cond (eqClass dropped k) (suc e) e
+    ≡ suc (a + b + c + e)
+unfolding eqClass
+one-class blank a b c e = omega arith
+one-class passed a b c e = omega arith
+one-class dropped a b c e = omega arith
+one-class obeyed a b c e = omega arith
+
+pub tallies-sum : (os : List Outcome) → tallyOf blank os + tallyOf obeyed os + tallyOf passed os + tallyOf dropped os ≡ length os
+unfolding tallyOf
+tallies-sum [] = refl
+tallies-sum (o ∷ os) = one-class (classOf o) (tallyOf blank os) (tallyOf obeyed os) (tallyOf passed os) (tallyOf dropped os) ∙ ap suc (tallies-sum os)
+
+-- so that none is above their number
+pub tally-few : (k : Class) (os : List Outcome) → tallyOf k os ≤ length os
+unfolding tallyOf
+tally-few k [] = zero-le
+tally-few k (o ∷ os) =
+    let h : tallyOf k os ≤ length os = tally-few k os in
+    by-test (λ (n : ℕ). n ≤ suc (length os)) (eqClass k (classOf o)) _ _ (λ e. suc-le-suc h) (λ e. omega arith)
+
+pub load-tallies : (d : Desk) (t s : List ℕ)
+    → totalsOf (loadOf d t s) .blank + totalsOf (loadOf d t s) .obeyed + totalsOf (loadOf d t s) .passed + totalsOf (loadOf d t s) .dropped
+    ≡ length (loadOf d t s .outcomes)
+unfolding totalsOf
+load-tallies d t s = tallies-sum (loadOf d t s .outcomes)

@@ -1,0 +1,264 @@
+-- What a record asks for, with what holds of it: keyword by keyword, once; every law of a step is then by these seven cases.
+-- Assumes nothing.
+use mathlib.Core.Path.{_≡_, refl}
+use mathlib.Core.Bool.{true, false}
+use mathlib.Core.List.{List, [], _∷_, _++_}
+use Prim.Native.Nat.{ℕ, _+_, _*_, _≤_, _<_}
+use native.Mathlib.Omega.{arith}
+use lib.Dec.{leb, lit<}
+use lib.ListN.{length}
+use borrow.Author.Tests.{leb-true}
+use Rattle.cells.proofs.Split.{by-test}
+use Rattle.store_desk.specs.declared.Desk.{Desk}
+use Rattle.store_desk.specs.declared.Key.{Key}
+use Rattle.store_desk.specs.declared.Kind.{Kind}
+use Rattle.store_desk.specs.declared.Kind.the-variants.{Cue, Group, Sub}
+use Rattle.store_desk.specs.Size.{Within, InRange}
+use Rattle.store_desk.specs.Name.{pagesOf, supported, okName}
+use Rattle.text_fields.specs.declared.Keyword.{Keyword}
+use Rattle.text_fields.specs.declared.Keyword.the-variants as key
+use Rattle.text_fields.specs.declared.Item.{Item}
+use Rattle.text_fields.specs.declared.Item.the-variants.{All, Cues, Groups, Patch as Patches, Subs, Local as LocalItem, Other}
+use Rattle.text_fields.specs.Words.{Word, fieldsOf, headOf, tailOf}
+use Rattle.text_fields.specs.Keywords.{keywordOf, itemOf}
+use Rattle.value.specs.declared.Version.{Version}
+use Rattle.value.specs.declared.Version.the-variants.{Malformed as BadVersion, Value as IsVersion}
+use Rattle.value.specs.declared.Paged.{Paged}
+use Rattle.value.specs.declared.Paged.the-variants.{Bad, Value as IsPage}
+use Rattle.value.specs.Field.{versionOf, pageOf}
+use Rattle.store.specs.declared.Edit.{Edit}
+use Rattle.store.specs.Change.{everyPage}
+use Rattle.load.specs.declared.Entry.{Entry}
+use Rattle.load.specs.declared.Open.{Open}
+use Rattle.load.specs.declared.Open.the-variants.{Nothing, Skipping, Memory}
+use Rattle.load.specs.declared.State.{State}
+use Rattle.load.specs.declared.Outcome.{Outcome}
+use Rattle.load.specs.declared.Outcome.the-variants.{Blank, Passed, Obeyed, Dropped, Stopped}
+use Rattle.load.specs.declared.Secondary.{Secondary}
+use Rattle.load.specs.declared.Secondary.the-variants.{Chan, Up, Down, Followon, Link}
+use Rattle.load.specs.declared.Named.{Named}
+use Rattle.load.specs.declared.Named.the-variants.{Refused, Name as Accepted}
+use Rattle.load.specs.declared.Reading.{Reading}
+use Rattle.load.specs.declared.Reading.the-variants.{Wrong as Misread, Change}
+use Rattle.load.specs.Condition.{fullOf, unsupportedOf, wrongSecondary, overLongRecord, identMismatch}
+use Rattle.load.specs.Item.{memory, page, pairsOf, triplesOf}
+use Rattle.load.specs.Ask.{Wipe, table, dimmers, Ask, rests, skips, opens, edits, items, clears, name}
+use Rattle.load.specs.Ask.{namedOf, namedAsk, primaryAsk, augments, timesOf, changeAsk, obeyedAsk, secondaryAsk, pageAt, pagedAsk, kindAsk, dimmersAsk}
+use Rattle.load.specs.Ask.{tablePages, mostPages, kindWipes, dimmerWipes, allWipes, allAsk, itemAsk, triplesAsk, isThree, identOutcome}
+use Rattle.load.specs.Ask.{keywordAsk, fieldsAsk, isOverLong, askOf}
+use Rattle.load.specs.Fits.{AllFit}
+use Rattle.load.specs.Run.{conditionSpan, stops}
+use Rattle.load.proofs.Entries.{pairs-fit, triples-fit, pairs-few, triples-few}
+use Rattle.load.proofs.Read.{NamedOk, named-ok, PageIn, page-in, page-at-in, ChangeOk, ReadingOk, reading-ok}
+
+-- ---- what holds of it
+
+-- the condition of an outcome fits a report
+abbrev pub OutcomeFits : Outcome → Type 0
+OutcomeFits Blank = Unit {0}
+OutcomeFits Passed = Unit {0}
+OutcomeFits (Dropped c) = c < conditionSpan
+OutcomeFits Obeyed = Unit {0}
+OutcomeFits (Stopped c) = c < conditionSpan
+
+-- not obeyed, and the load goes on
+abbrev pub Idles : Outcome → Type 0
+Idles o = (o ≡ Obeyed → ⊥) × (stops o ≡ false)
+
+-- each page is one of its table's, or every page
+abbrev pub WipeFits : Desk → Wipe → Type 0
+WipeFits d (table k p) = p ≤ pagesOf d k
+WipeFits d (dimmers p) = p ≤ d .«patch_pages»
+
+abbrev pub WipesFit : Desk → List Wipe → Type 0
+WipesFit d [] = Unit {0}
+WipesFit d (w ∷ ws) = WipeFits d w × WipesFit d ws
+
+-- of a record with n fields behind its keyword
+pub data Deed (d : Desk) (s : State) (n : ℕ) : Ask → Type 0 where
+  resting : (o : Outcome) → OutcomeFits o → Deed d s n (rests o)
+  skipping : (o : Outcome) → OutcomeFits o → Idles o → Deed d s n (skips o)
+  opening : (k : Kind) (y : Key) → (InRange d → okName d (name k y) ≡ true) → Deed d s n (opens k y)
+  editing : (k : Kind) → s .«open» ≡ Memory k → (e : Edit) → ChangeOk k e → Deed d s n (edits (name k (s .key)) e)
+  setting : (k : Kind) → s .«open» ≡ Memory k → (es : List Entry) → AllFit d es → 2 * length es ≤ n + 1
+      → Deed d s n (items (memory (name k (s .key))) es)
+  patching : (p : ℕ) → Within 1 p (d .«patch_pages») → (es : List Entry) → AllFit d es → 2 * length es ≤ n + 1
+      → Deed d s n (items (page p) es)
+  clearing : (xs : List Wipe) → WipesFit d xs → Deed d s n (clears xs)
+
+-- ---- conditions that fit
+pub full-fits : (k : Kind) → fullOf k < conditionSpan
+unfolding fullOf
+full-fits Cue = lit< tt
+full-fits Group = lit< tt
+full-fits Sub = lit< tt
+
+unsupported-fits : (k : Kind) → unsupportedOf k < conditionSpan
+unfolding unsupportedOf
+unsupported-fits Cue = lit< tt
+unsupported-fits Group = lit< tt
+unsupported-fits Sub = lit< tt
+
+dropped-idles : (c : ℕ) → Idles (Dropped c)
+unfolding stops
+dropped-idles c = ((λ e. let z : _≡_ {A = ℕ} 0 1 = cc in absurd (omega arith)), refl)
+
+passed-idles : Idles Passed
+unfolding stops
+passed-idles = ((λ e. let z : _≡_ {A = ℕ} 0 1 = cc in absurd (omega arith)), refl)
+
+-- ---- CLEAR ALL: the tables that have the page
+table-pages : (d : Desk) (k : Kind) → tablePages d k ≤ pagesOf d k
+unfolding tablePages
+table-pages d k = by-test (λ (x : ℕ). x ≤ pagesOf d k) (supported d k) (pagesOf d k) 0 (λ e. omega arith) (λ e. omega arith)
+
+kind-wipes : (d : Desk) (p : ℕ) (k : Kind) → WipesFit d (kindWipes d p k)
+unfolding kindWipes
+kind-wipes d p k =
+    by-test (WipesFit d) (leb p (tablePages d k)) (table k p ∷ []) []
+    (λ e.
+    let h = leb-true p (tablePages d k) e in
+    let g = table-pages d k in
+    ((let l : p ≤ pagesOf d k = omega arith in l), tt))
+    (λ e. tt)
+
+dimmer-wipes : (d : Desk) (p : ℕ) → WipesFit d (dimmerWipes d p)
+unfolding dimmerWipes
+dimmer-wipes d p =
+    by-test (WipesFit d) (leb p (d .«patch_pages»)) (dimmers p ∷ []) [] (λ e. (leb-true p (d .«patch_pages») e, tt)) (λ e. tt)
+
+both-wipes : (d : Desk) (a b : List Wipe) → WipesFit d a → WipesFit d b → WipesFit d (a ++ b)
+both-wipes d [] b h g = g
+both-wipes d (w ∷ a) b h g = (h .0, both-wipes d a b (h .1) g)
+
+all-wipes : (d : Desk) (p : ℕ) → WipesFit d (allWipes d p)
+unfolding allWipes
+all-wipes d p =
+    let c : List Wipe = kindWipes d p Cue in
+    let g : List Wipe = kindWipes d p Group in
+    let u : List Wipe = kindWipes d p Sub in
+    both-wipes d (dimmerWipes d p) (c ++ (g ++ u)) (dimmer-wipes d p)
+    (both-wipes d c (g ++ u) (kind-wipes d p Cue) (both-wipes d g u (kind-wipes d p Group) (kind-wipes d p Sub)))
+
+module _ (d : Desk) (s : State) (n : ℕ) where
+  -- ---- primaries
+  named-deed : (k : Kind) (x : Named) → NamedOk d k x → Deed d s n (namedAsk k x)
+  unfolding namedAsk
+  named-deed k (Refused c) h = skipping (Dropped c) h (dropped-idles c)
+  named-deed k (Accepted y) h = opening k y h
+
+  primary-deed : (k : Kind) (ws : List Word) → Deed d s n (primaryAsk d k ws)
+  unfolding primaryAsk
+  primary-deed k ws =
+      by-test (Deed d s n) (supported d k) (namedAsk k (namedOf d k ws)) (skips (Dropped (unsupportedOf k)))
+      (λ e. named-deed k (namedOf d k ws) (named-ok d k e ws))
+      (λ e. skipping (Dropped (unsupportedOf k)) (unsupported-fits k) (dropped-idles (unsupportedOf k)))
+
+  -- ---- CLEAR
+  paged-deed : (limit : ℕ) (x : Paged) → PageIn everyPage limit x → (f : ℕ → List Wipe) → ((p : ℕ) → p ≤ limit → WipesFit d (f p))
+      → Deed d s n (pagedAsk x f)
+  unfolding pagedAsk
+  paged-deed limit Bad h f g = resting (Dropped _) (lit< tt)
+  paged-deed limit (IsPage p) h f g = clearing (f p) (g p (h .1))
+
+  at-deed : (limit : ℕ) (ws : List Word) (f : ℕ → List Wipe) → ((p : ℕ) → p ≤ limit → WipesFit d (f p))
+      → Deed d s n (pagedAsk (pageAt everyPage limit ws) f)
+  at-deed limit ws f g = paged-deed limit (pageAt everyPage limit ws) (page-at-in everyPage everyPage limit (omega arith) (omega arith) ws) f g
+
+  kind-deed : (k : Kind) (ws : List Word) → Deed d s n (kindAsk d k ws)
+  unfolding kindAsk
+  kind-deed k ws =
+      by-test (Deed d s n) (supported d k) (pagedAsk (pageAt everyPage (pagesOf d k) ws) (λ p. table k p ∷ [])) (rests Obeyed)
+      (λ e. at-deed (pagesOf d k) ws (λ p. table k p ∷ []) (λ p h. (h, tt)))
+      (λ e. resting Obeyed tt)
+
+  clear-deed : (i : Item) (ws : List Word) → Deed d s n (itemAsk d i ws)
+  unfolding itemAsk allAsk dimmersAsk
+  clear-deed All ws = at-deed (mostPages d) ws (allWipes d) (λ p h. all-wipes d p)
+  clear-deed Cues ws = kind-deed Cue ws
+  clear-deed Groups ws = kind-deed Group ws
+  clear-deed Patches ws = at-deed (d .«patch_pages») ws (λ p. dimmers p ∷ []) (λ p h. (h, tt))
+  clear-deed Subs ws = kind-deed Sub ws
+  clear-deed LocalItem ws = resting Obeyed tt
+  clear-deed Other ws = resting (Dropped _) (lit< tt)
+
+  ident-deed : (v : Version) → Deed d s n (rests (identOutcome v))
+  unfolding identOutcome
+  ident-deed BadVersion = resting (Stopped identMismatch) (lit< tt)
+  ident-deed (IsVersion a b) =
+      by-test (λ (o : Outcome). Deed d s n (rests o)) (isThree a b) Obeyed (Stopped identMismatch)
+      (λ e. resting Obeyed tt)
+      (λ e. resting (Stopped identMismatch) (lit< tt))
+
+  -- ---- PATCH
+  patch-deed : (x : Paged) → PageIn 1 (d .«patch_pages») x → (ws : List Word) → length ws ≤ n → Deed d s n (triplesAsk d x ws)
+  unfolding triplesAsk
+  patch-deed Bad h ws l = resting (Dropped _) (lit< tt)
+  patch-deed (IsPage p) h ws l = patching p h (triplesOf d ws) (triples-fit d ws) (let f = triples-few d ws in omega arith)
+
+-- ---- secondaries
+module _ (d : Desk) (s : State) (ws : List Word) where
+  changed-deed : (k : Kind) → s .«open» ≡ Memory k → (x : Reading) → ReadingOk k x → Deed d s (length ws) (changeAsk (name k (s .key)) x)
+  unfolding changeAsk
+  changed-deed k h (Misread c) o = resting (Dropped c) o
+  changed-deed k h (Change e) o = editing k h e o
+
+  obeyed-deed : (k : Kind) → s .«open» ≡ Memory k → (e : Secondary) → augments k e ≡ true → Deed d s (length ws) (obeyedAsk d (name k (s .key)) e ws)
+  unfolding obeyedAsk
+  obeyed-deed k h Chan a = setting k h (pairsOf d ws) (pairs-fit d ws) (pairs-few d ws)
+  obeyed-deed k h Up a = changed-deed k h (timesOf Up ws) (reading-ok k Up a ws)
+  obeyed-deed k h Down a = changed-deed k h (timesOf Down ws) (reading-ok k Down a ws)
+  obeyed-deed k h Followon a = changed-deed k h (timesOf Followon ws) (reading-ok k Followon a ws)
+  obeyed-deed k h Link a = changed-deed k h (timesOf Link ws) (reading-ok k Link a ws)
+
+  secondary-deed : (o : Open) → s .«open» ≡ o → (e : Secondary) → Deed d s (length ws) (secondaryAsk d (s .key) o e ws)
+  unfolding secondaryAsk
+  secondary-deed Nothing h e = resting (Dropped wrongSecondary) (lit< tt)
+  secondary-deed Skipping h e = resting Passed tt
+  secondary-deed (Memory k) h e =
+      by-test (Deed d s (length ws)) (augments k e) (obeyedAsk d (name k (s .key)) e ws) (rests (Dropped wrongSecondary))
+      (λ a. obeyed-deed k h e a)
+      (λ a. resting (Dropped wrongSecondary) (lit< tt))
+
+-- ---- the keywords
+pub tail-few : (ws : List Word) → length (tailOf ws) ≤ length ws
+tail-few [] = omega arith
+tail-few (w ∷ ws) = omega arith
+
+module _ (d : Desk) (s : State) where
+  keyword-deed : (k : Keyword) (ws : List Word) → Deed d s (length ws) (keywordAsk d s k ws)
+  unfolding keywordAsk
+  keyword-deed key.Ident ws = ident-deed d s (length ws) (versionOf (headOf ws .chars))
+  keyword-deed key.Clear ws = clear-deed d s (length ws) (itemOf (headOf ws .chars)) (tailOf ws)
+  keyword-deed key.Patch ws =
+      patch-deed d s (length ws) (pageOf (d .«patch_pages») (headOf ws .chars)) (page-in 1 (d .«patch_pages») (omega arith) (headOf ws .chars)) (tailOf ws)
+      (tail-few ws)
+  keyword-deed key.Cue ws = primary-deed d s (length ws) Cue ws
+  keyword-deed key.Group ws = primary-deed d s (length ws) Group ws
+  keyword-deed key.Sub ws = primary-deed d s (length ws) Sub ws
+  keyword-deed key.Chan ws = secondary-deed d s ws (s .«open») refl Chan
+  keyword-deed key.Up ws = secondary-deed d s ws (s .«open») refl Up
+  keyword-deed key.Down ws = secondary-deed d s ws (s .«open») refl Down
+  keyword-deed key.Followon ws = secondary-deed d s ws (s .«open») refl Followon
+  keyword-deed key.Link ws = secondary-deed d s ws (s .«open») refl Link
+  keyword-deed key.Enddata ws = resting (Stopped 0) (lit< tt)
+  keyword-deed key.Manufacturer ws = resting Passed tt
+  keyword-deed key.Console ws = resting Passed tt
+  keyword-deed key.Set ws = resting Passed tt
+  keyword-deed key.Text ws = resting Passed tt
+  keyword-deed key.Part ws = resting Passed tt
+  keyword-deed key.Local ws = skipping Passed tt passed-idles
+  keyword-deed key.Comment ws = resting Passed tt
+  keyword-deed key.Unknown ws = resting (Dropped _) (lit< tt)
+
+  pub fields-deed : (ws : List Word) → Deed d s (length (tailOf ws)) (fieldsAsk d s ws)
+  unfolding fieldsAsk
+  fields-deed [] = resting Blank tt
+  fields-deed (w ∷ ws) = keyword-deed (keywordOf (w .chars)) ws
+
+  pub record-deed : (r : List ℕ) → Deed d s (length (tailOf (fieldsOf r))) (askOf d s r)
+  unfolding askOf
+  record-deed r =
+      by-test (Deed d s (length (tailOf (fieldsOf r)))) (isOverLong r) (rests (Stopped overLongRecord)) (fieldsAsk d s (fieldsOf r))
+      (λ e. resting (Stopped overLongRecord) (lit< tt))
+      (λ e. fields-deed (fieldsOf r))

@@ -1,0 +1,124 @@
+-- CHAN's pairs and PATCH's triples on one desk: each lies in its range, or its condition fits a report; and two fields at least make one.
+-- By cases on each field.
+-- Assumes nothing.
+use mathlib.Core.Path.{_≡_, refl}
+use mathlib.Core.List.{List, [], _∷_}
+use Prim.Native.Nat.{ℕ, _+_, _*_, _≤_, _<_}
+use native.Mathlib.Omega.{arith}
+use lib.ListN.{length}
+use lib.Dec.{lit<}
+use Rattle.cells.proofs.Split.{by-test}
+use Rattle.store_desk.specs.declared.Desk.{Desk}
+use Rattle.store_desk.specs.Size.{isWithin}
+use Rattle.store_desk.specs.Size.{Within as InLimits}
+use Rattle.store_desk.proofs.Size.{within}
+use Rattle.text_fields.specs.Words.{Word, missing}
+use Rattle.value.specs.declared.Integer.{Integer}
+use Rattle.value.specs.declared.Integer.the-variants.{Malformed, Value}
+use Rattle.value.specs.Integer.{integerOf}
+use Rattle.value_level.specs.declared.Leveled.{Leveled}
+use Rattle.value_level.specs.declared.Leveled.the-variants.{NotPercent, NotHex, Value as IsLevel}
+use Rattle.value_level.specs.declared.Worded.{Worded}
+use Rattle.value_level.specs.declared.Worded.the-variants.{NotPercent as NoPercent, NotHex as NoHex, Value as IsWord}
+use Rattle.value_level.specs.Level.{levelWordOf, upperOf, levelOf}
+use Rattle.value_level.proofs.Levels.{word-below}
+use Rattle.load.specs.declared.Entry.{Entry}
+use Rattle.load.specs.declared.Entry.the-variants.{Level, Patch, Fault}
+use Rattle.load.specs.declared.Ranged.{Ranged}
+use Rattle.load.specs.declared.Ranged.the-variants.{Within, Wrong}
+use Rattle.load.specs.Condition.{malformedInteger, badHex, badChannel, badDimmer, badPercent}
+use Rattle.load.specs.Item.{rangedOf, dimmerOf, onRanged, onLevel, pairOf, tripleOf, pairsOf, triplesOf, faultsOf}
+use Rattle.load.specs.Fits.{EntryFits, AllFit}
+
+-- ---- a field in its range
+ranged-fits : (P : Entry → Type 0) (limit beyond : ℕ) (i : Integer) (column : ℕ) (f : ℕ → Entry)
+    → P (Fault malformedInteger column) → P (Fault beyond column) → ((n : ℕ) → InLimits 1 n limit → P (f n))
+    → P (onRanged (rangedOf limit beyond i) column f)
+unfolding rangedOf onRanged
+ranged-fits P limit beyond Malformed column f bad high good = bad
+ranged-fits P limit beyond (Value n) column f bad high good =
+    by-test (λ (r : Ranged). P (onRanged r column f)) (isWithin 1 n limit) (Within n) (Wrong beyond)
+    (λ e. good n (within 1 n limit e))
+    (λ e. high)
+
+-- a level is a byte
+abbrev pub LevelOk : Leveled → Type 0
+LevelOk NotPercent = Unit {0}
+LevelOk NotHex = Unit {0}
+LevelOk (IsLevel v) = v < 256
+
+level-by : (s : List ℕ) (x : Worded) → levelWordOf s ≡ x → LevelOk (upperOf x)
+unfolding upperOf
+level-by s NoPercent e = tt
+level-by s NoHex e = tt
+level-by s (IsWord w) e = let l : w < 65536 = word-below s e in omega arith
+
+pub level-ok : (s : List ℕ) → LevelOk (levelOf s)
+unfolding levelOf
+level-ok s = level-by s (levelWordOf s) refl
+
+level-fits : (P : Entry → Type 0) (x : Leveled) → LevelOk x → (column : ℕ) (f : ℕ → Entry)
+    → P (Fault badPercent column) → P (Fault badHex column) → ((v : ℕ) → v < 256 → P (f v)) → P (onLevel x column f)
+unfolding onLevel
+level-fits P NotPercent h column f percent hex good = percent
+level-fits P NotHex h column f percent hex good = hex
+level-fits P (IsLevel v) h column f percent hex good = good v h
+
+-- ---- pairs and triples
+module _ (d : Desk) where
+  pub pair-fits : (c l : Word) → EntryFits d (pairOf d c l)
+  unfolding pairOf
+  pair-fits c l =
+      ranged-fits (EntryFits d) (d .channels) badChannel (integerOf (c .chars)) (c .column)
+      (λ n. onLevel (levelOf (l .chars)) (l .column) (λ v. Level n v))
+      (lit< tt) (lit< tt)
+      (λ n h.
+      level-fits (EntryFits d) (levelOf (l .chars)) (level-ok (l .chars)) (l .column) (λ v. Level n v) (lit< tt) (lit< tt) (λ v b. (h, b)))
+
+  pub triple-fits : (c m l : Word) → EntryFits d (tripleOf d c m l)
+  unfolding tripleOf
+  triple-fits c m l =
+      ranged-fits (EntryFits d) (d .channels) badChannel (integerOf (c .chars)) (c .column)
+      (λ n. onRanged (dimmerOf d m) (m .column) (λ k. onLevel (levelOf (l .chars)) (l .column) (λ v. Patch n k v)))
+      (lit< tt) (lit< tt)
+      (λ n h.
+      ranged-fits (EntryFits d) (d .dimmers) badDimmer (integerOf (m .chars)) (m .column)
+      (λ k. onLevel (levelOf (l .chars)) (l .column) (λ v. Patch n k v))
+      (lit< tt) (lit< tt)
+      (λ k g.
+      level-fits (EntryFits d) (levelOf (l .chars)) (level-ok (l .chars)) (l .column) (λ v. Patch n k v) (lit< tt) (lit< tt) (λ v b. (h, g, b))))
+
+  pub pairs-fit : (ws : List Word) → AllFit d (pairsOf d ws)
+  unfolding pairsOf
+  pairs-fit [] = tt
+  pairs-fit (c ∷ []) = (pair-fits c missing, tt)
+  pairs-fit (c ∷ (l ∷ ws)) = (pair-fits c l, pairs-fit ws)
+
+  pub triples-fit : (ws : List Word) → AllFit d (triplesOf d ws)
+  unfolding triplesOf
+  triples-fit [] = tt
+  triples-fit (c ∷ []) = (triple-fits c missing missing, tt)
+  triples-fit (c ∷ (m ∷ [])) = (triple-fits c m missing, tt)
+  triples-fit (c ∷ (m ∷ (l ∷ ws))) = (triple-fits c m l, triples-fit ws)
+
+  -- ---- two fields at least make one item, but for the last
+  pub pairs-few : (ws : List Word) → 2 * length (pairsOf d ws) ≤ length ws + 1
+  unfolding pairsOf
+  pairs-few [] = omega arith
+  pairs-few (c ∷ []) = omega arith
+  pairs-few (c ∷ (l ∷ ws)) = let r = pairs-few ws in omega arith
+
+  pub triples-few : (ws : List Word) → 2 * length (triplesOf d ws) ≤ length ws + 1
+  unfolding triplesOf
+  triples-few [] = omega arith
+  triples-few (c ∷ []) = omega arith
+  triples-few (c ∷ (m ∷ [])) = omega arith
+  triples-few (c ∷ (m ∷ (l ∷ ws))) = let r = triples-few ws in omega arith
+
+-- and each has one fault at most
+pub faults-few : (es : List Entry) → length (faultsOf es) ≤ length es
+unfolding faultsOf
+faults-few [] = omega arith
+faults-few (Level n v ∷ es) = let h = faults-few es in omega arith
+faults-few (Patch n k v ∷ es) = let h = faults-few es in omega arith
+faults-few (Fault condition column ∷ es) = let h = faults-few es in omega arith

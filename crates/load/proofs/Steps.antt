@@ -1,0 +1,167 @@
+-- What every step keeps to, by the seven cases of what a record asks for: a record that is not obeyed changes no byte of the store; good
+-- form is kept; its reports, one for the record or one for each item that is dropped, are no more than its fields, and fit their bits.
+-- Assumes nothing.
+use mathlib.Core.Path.{_≡_, refl}
+use mathlib.Core.Bool.{true}
+use mathlib.Core.List.{List, [], _∷_, _++_}
+use Prim.Native.Nat.{ℕ, suc, _+_, _*_, _≤_, _<_}
+use native.Mathlib.Omega.{arith}
+use lib.Dec.{ltb}
+use lib.ListN.{length}
+use Rattle.cells.specs.Search.{Found, at, nowhere}
+use Rattle.cells.proofs.Split.{by-test}
+use Rattle.store_desk.specs.declared.Desk.{Desk}
+use Rattle.store_desk.specs.declared.Key.{Key}
+use Rattle.store_desk.specs.declared.Kind.{Kind}
+use Rattle.store_desk.specs.Size.{Within}
+use Rattle.store_desk.specs.Name.{Name, okName}
+use Rattle.text_fields.specs.Words.{Word, fieldsOf, tailOf}
+use Rattle.store.specs.declared.Edit.the-variants.{Level as SetLevel}
+use Rattle.store.specs.Change.{seat, edited, cleared, clearedPatch}
+use Rattle.store.specs.Memories.{has}
+use Rattle.store.specs.Good.{Ready}
+use Rattle.store.proofs.Start.{start-good}
+use Rattle.store.proofs.Edits.{edit-good}
+use Rattle.store.proofs.Clear.{clear-good}
+use Rattle.store.proofs.Patches.{patch-good, clear-patch-good}
+use Rattle.load.specs.declared.Entry.{Entry}
+use Rattle.load.specs.declared.Entry.the-variants.{Level, Patch, Fault}
+use Rattle.load.specs.declared.State.{State}
+use Rattle.load.specs.declared.Outcome.{Outcome}
+use Rattle.load.specs.declared.Outcome.the-variants.{Blank, Passed, Obeyed, Dropped, Stopped}
+use Rattle.load.specs.Condition.{fullOf}
+use Rattle.load.specs.Item.{faultsOf, memory, page, done, allDone}
+use Rattle.load.specs.Ask.{Wipe, table, dimmers, Ask, name, fieldsAsk}
+use Rattle.load.specs.Step.{Step, wiped, openedBy, acted, stepOf, recordStep, outcomeReports}
+use Rattle.load.specs.Fits.{AllFit, Small}
+use Rattle.load.specs.Run.{conditionSpan}
+use Rattle.load.proofs.Entries.{faults-few}
+use Rattle.load.proofs.Deed.{OutcomeFits, WipesFit, Deed, resting, skipping, opening, editing, setting, patching, clearing, full-fits, fields-deed, record-deed}
+
+-- ---- not obeyed, not touched
+module _ (d : Desk) (s : State) (n : ℕ) (t : List ℕ) where
+  abbrev Still : Step → Type 0
+  Still x = (x .outcome ≡ Obeyed → ⊥) → x .store ≡ t
+
+  opened-still : (k : Kind) (y : Key) (a : Found) → Still (openedBy d k y a t)
+  unfolding openedBy
+  opened-still k y (at i) h = absurd (h refl)
+  opened-still k y nowhere h = refl
+
+  deed-still : {a : Ask} → Deed d s n a → Still (acted d s t a)
+  unfolding acted
+  deed-still (resting o f) h = refl
+  deed-still (skipping o f i) h = refl
+  deed-still (opening k y o) h = opened-still k y (seat d t (name k y)) h
+  deed-still (editing k o e c) h = absurd (h refl)
+  deed-still (setting k o es f l) h = absurd (h refl)
+  deed-still (patching p w es f l) h = absurd (h refl)
+  deed-still (clearing xs f) h = absurd (h refl)
+
+pub untouched : (d : Desk) (s : State) (r t : List ℕ) → (recordStep d s r t .outcome ≡ Obeyed → ⊥) → recordStep d s r t .store ≡ t
+unfolding recordStep
+untouched d s r t = deed-still d s (length (tailOf (fieldsOf r))) t (record-deed d s r)
+
+-- ---- good form is kept
+pub level-ready : (d : Desk) (t : List ℕ) → Ready d t → (n : Name) (channel v : ℕ) → Ready d (edited d t n (SetLevel channel v))
+level-ready d t r n channel v = edit-good d t r n (SetLevel channel v) (unfold has in refl) tt
+
+memory-ready : (d : Desk) (n : Name) (es : List Entry) (t : List ℕ) → Ready d t → Ready d (allDone d (memory n) t es)
+unfolding allDone done
+memory-ready d n [] t r = r
+memory-ready d n (Level channel v ∷ es) t r = memory-ready d n es (edited d t n (SetLevel channel v)) (level-ready d t r n channel v)
+memory-ready d n (Patch channel dimmer v ∷ es) t r = memory-ready d n es t r
+memory-ready d n (Fault c x ∷ es) t r = memory-ready d n es t r
+
+page-ready : (d : Desk) (p : ℕ) → Within 1 p (d .«patch_pages») → (es : List Entry) → AllFit d es → (t : List ℕ) → Ready d t
+    → Ready d (allDone d (page p) t es)
+unfolding allDone done
+page-ready d p w [] f t r = r
+page-ready d p w (Level channel v ∷ es) f t r = page-ready d p w es (f .1) t r
+page-ready d p w (Patch channel dimmer v ∷ es) f t r =
+    page-ready d p w es (f .1) _ (patch-good d t (r .long) (r .range) p dimmer channel v w (f .0 .1) (f .0 .0) (f .0 .2) r)
+page-ready d p w (Fault c x ∷ es) f t r = page-ready d p w es (f .1) t r
+
+wiped-ready : (d : Desk) (xs : List Wipe) → WipesFit d xs → (t : List ℕ) → Ready d t → Ready d (wiped d xs t)
+unfolding wiped
+wiped-ready d [] f t r = r
+wiped-ready d (table k p ∷ xs) f t r = wiped-ready d xs (f .1) (cleared d t k p) (clear-good d t r k p)
+wiped-ready d (dimmers p ∷ xs) f t r = wiped-ready d xs (f .1) (clearedPatch d t p) (clear-patch-good d t (r .long) p (f .0) r)
+
+module _ (d : Desk) (s : State) (n : ℕ) (t : List ℕ) (r : Ready d t) where
+  opened-ready : (k : Kind) (y : Key) → okName d (name k y) ≡ true → (a : Found) → Ready d (openedBy d k y a t .store)
+  unfolding openedBy
+  opened-ready k y o (at i) = start-good d t r (name k y) o
+  opened-ready k y o nowhere = r
+
+  pub deed-ready : {a : Ask} → Deed d s n a → Ready d (acted d s t a .store)
+  unfolding acted
+  deed-ready (resting o f) = r
+  deed-ready (skipping o f i) = r
+  deed-ready (opening k y o) = opened-ready k y (o (r .range)) (seat d t (name k y))
+  deed-ready (editing k o e c) = edit-good d t r (name k (s .key)) e (c .0) (c .1)
+  deed-ready (setting k o es f l) = memory-ready d (name k (s .key)) es t r
+  deed-ready (patching p w es f l) = page-ready d p w es f t r
+  deed-ready (clearing xs f) = wiped-ready d xs f t r
+
+pub record-ready : (d : Desk) (t : List ℕ) → Ready d t → (s : State) (x : List ℕ) → Ready d (recordStep d s x t .store)
+unfolding recordStep
+record-ready d t r s x = deed-ready d s (length (tailOf (fieldsOf x))) t r (record-deed d s x)
+
+-- ---- what is reported of a step
+abbrev pub saidBy : Step → List ℕ
+saidBy x = outcomeReports (x .outcome) ++ x .faults
+
+-- conditions that are small, and at most so many
+pub record Modest (n : ℕ) (cs : List ℕ) : Type 0 where
+  pub few : length cs ≤ n
+  pub small : Small cs
+
+faults-small : (d : Desk) (es : List Entry) → AllFit d es → Small (faultsOf es)
+unfolding faultsOf Small
+faults-small d [] f = tt
+faults-small d (Level n v ∷ es) f = faults-small d es (f .1)
+faults-small d (Patch n k v ∷ es) f = faults-small d es (f .1)
+faults-small d (Fault c x ∷ es) f = (f .0, faults-small d es (f .1))
+
+module _ (d : Desk) (s : State) (n : ℕ) (t : List ℕ) where
+  none-said : (m : ℕ) → Modest m []
+  unfolding Small
+  none-said m = record { few = omega arith; small = tt }
+
+  one-said : (c : ℕ) → c < conditionSpan → Modest (suc n) (c ∷ [])
+  unfolding Small
+  one-said c h = record { few = omega arith; small = (h, tt) }
+
+  outcome-said : (o : Outcome) → OutcomeFits o → Modest (suc n) (outcomeReports o ++ [])
+  unfolding outcomeReports
+  outcome-said Blank f = none-said (suc n)
+  outcome-said Passed f = none-said (suc n)
+  outcome-said (Dropped c) f = one-said c f
+  outcome-said Obeyed f = none-said (suc n)
+  outcome-said (Stopped c) f = by-test (λ (l : List ℕ). Modest (suc n) (l ++ [])) (ltb 0 c) (c ∷ []) [] (λ e. one-said c f) (λ e. none-said (suc n))
+
+  items-said : (es : List Entry) → AllFit d es → 2 * length es ≤ n + 1 → Modest (suc n) (outcomeReports Obeyed ++ faultsOf es)
+  unfolding outcomeReports
+  items-said es f l = let h = faults-few es in record { few = omega arith; small = faults-small d es f }
+
+  opened-said : (k : Kind) (y : Key) (a : Found) → Modest (suc n) (saidBy (openedBy d k y a t))
+  unfolding openedBy
+  opened-said k y (at i) = outcome-said Obeyed tt
+  opened-said k y nowhere = outcome-said (Dropped (fullOf k)) (full-fits k)
+
+  deed-said : {a : Ask} → Deed d s n a → Modest (suc n) (saidBy (acted d s t a))
+  unfolding acted
+  deed-said (resting o f) = outcome-said o f
+  deed-said (skipping o f i) = outcome-said o f
+  deed-said (opening k y o) = opened-said k y (seat d t (name k y))
+  deed-said (editing k o e c) = outcome-said Obeyed tt
+  deed-said (setting k o es f l) = items-said es f l
+  deed-said (patching p w es f l) = items-said es f l
+  deed-said (clearing xs f) = outcome-said Obeyed tt
+
+-- a record with no field has none
+pub step-said : (d : Desk) (s : State) (ws : List Word) (t : List ℕ) → Modest (length ws) (saidBy (stepOf d s ws t))
+unfolding fieldsAsk acted outcomeReports
+step-said d s [] t = none-said d s 0 t 0
+step-said d s (w ∷ ws) t = deed-said d s (length ws) t (fields-deed d s (w ∷ ws))

@@ -1,0 +1,24 @@
+-- What holds of an item that is read: an obeyed one names a channel, and a dimmer, that the desk has, and its level is a byte; a fault's
+-- condition fits a report. For laws and for private functions; no promise names these.
+-- Assumes nothing.
+use mathlib.Core.List.{List, [], _∷_}
+use Prim.Native.Nat.{ℕ, _<_}
+use Rattle.store_desk.specs.declared.Desk.{Desk}
+use Rattle.store_desk.specs.Size.{Within}
+use Rattle.load.specs.declared.Entry.{Entry}
+use Rattle.load.specs.declared.Entry.the-variants.{Level, Patch, Fault}
+use Rattle.load.specs.Run.{conditionSpan}
+
+abbrev pub EntryFits : Desk → Entry → Type 0
+EntryFits d (Level channel v) = Within 1 channel (d .channels) × (v < 256)
+EntryFits d (Patch channel dimmer v) = Within 1 channel (d .channels) × Within 1 dimmer (d .dimmers) × (v < 256)
+EntryFits d (Fault condition column) = condition < conditionSpan
+
+abbrev pub AllFit : Desk → List Entry → Type 0
+AllFit d [] = Unit {0}
+AllFit d (e ∷ es) = EntryFits d e × AllFit d es
+
+-- conditions that fit a report
+unfoldable pub Small : List ℕ → Type 0
+Small [] = Unit {0}
+Small (c ∷ cs) = (c < conditionSpan) × Small cs
