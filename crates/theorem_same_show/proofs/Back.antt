@@ -19,7 +19,9 @@ use Rattle.text_records.specs.Stream.{recordsOf}
 use Rattle.store.specs.View.{memoryOf}
 use Rattle.store.specs.Good.{Ready}
 use Rattle.load.specs.declared.State.{State}
-use Rattle.load.specs.Step.{nothingOpen}
+use Rattle.store.specs.Change.{everyPage}
+use Rattle.load.specs.Ask.{allWipes}
+use Rattle.load.specs.Step.{nothingOpen, wiped}
 use Rattle.load.specs.Run.{runFrom, loadOf}
 use Rattle.save_lines.specs.Line.{joined}
 use Rattle.save.specs.Lines.{patchLines, kindLines, linesOf, streamOf}
@@ -65,8 +67,8 @@ pub record Back (d : Desk) (s t : List ℕ) : Type 0 where
   pub tail : drop (storeLength d) store ≡ drop (storeLength d) t
 
 module _ (d : Desk) (s t : List ℕ) (rs : Ready d s) (b : Bytes s) (rt : Ready d t) where
-  patch : Patched d s t nothingOpen (clearTables d 0 t) (patchLines d s) (entriesOf d)
-  patch = patch-read d s rs t nothingOpen (clearTables d 0 t) (clear-read d t rt s)
+  patch : Patched d s t nothingOpen (wiped d (allWipes d everyPage) t) (patchLines d s) (entriesOf d)
+  patch = patch-read d s rs t nothingOpen (wiped d (allWipes d everyPage) t) (clear-read d t rt s)
 
   abbrev t₀ : List ℕ
   t₀ = patch .store

@@ -2,7 +2,7 @@
 -- Assumes nothing.
 use mathlib.Core.Path.{_≡_, refl, sym, ap, _∙_, subst}
 use mathlib.Core.Bool.{true}
-use mathlib.Core.List.{List}
+use mathlib.Core.List.{List, [], _∷_, _++_}
 use Prim.Native.Nat.{ℕ, _≤_}
 use native.Mathlib.Omega.{arith}
 use lib.Dec.{leb}
@@ -14,11 +14,12 @@ use Rattle.store_desk.specs.declared.Kind.the-variants.{Cue, Group, Sub}
 use Rattle.store_desk.specs.Name.{Name, eqKind}
 use Rattle.store_desk.proofs.Name.{eq-kind-true}
 use Rattle.store.specs.View.{absent, memoryOf}
-use Rattle.store.specs.Change.{hits, cleared, clearedPatch}
+use Rattle.store.specs.Change.{everyPage, hits, cleared, clearedPatch}
 use Rattle.store.specs.Good.{Ready}
 use Rattle.store.proofs.Clear.{clear-length, clear-patch, clear-tail, clear-view, clear-good}
 use Rattle.store.proofs.Patches.{same-patch, clear-patch-view, clear-patch-length, clear-patch-tail, clear-patch-good}
-use Rattle.load.specs.Ask.{tablePages}
+use Rattle.load.specs.Ask.{Wipe, table, dimmers, tablePages, kindWipes, dimmerWipes, allWipes}
+use Rattle.load.specs.Step.{wiped}
 use Rattle.theorem_same_show.proofs.Changed.{Beside, beside-next}
 use Rattle.theorem_same_show.proofs.Patching.{Patching}
 
@@ -47,13 +48,17 @@ module _ (d : Desk) (t : List ℕ) (r : Ready d t) (k : Kind) where
       }
 
 -- ---- all of it
-clear-table : (d : Desk) (k : Kind) (t : List ℕ) → clearTable d k 0 t ≡ cleared d t k 0
-unfolding clearTable
-clear-table d k t = cond-true (leb 0 (tablePages d k)) (cleared d t k 0) t (le-leb 0 (tablePages d k) (omega arith))
+kind-wipes : (d : Desk) (k : Kind) → kindWipes d everyPage k ≡ table k everyPage ∷ []
+unfolding kindWipes
+kind-wipes d k = cond-true (leb 0 (tablePages d k)) (table k everyPage ∷ []) [] (le-leb 0 (tablePages d k) (omega arith))
 
-clear-dimmers : (d : Desk) (t : List ℕ) → clearDimmers d 0 t ≡ clearedPatch d t 0
-unfolding clearDimmers
-clear-dimmers d t = cond-true (leb 0 (d .«patch_pages»)) (clearedPatch d t 0) t (le-leb 0 (d .«patch_pages») (omega arith))
+dimmer-wipes : (d : Desk) → dimmerWipes d everyPage ≡ dimmers everyPage ∷ []
+unfolding dimmerWipes
+dimmer-wipes d = cond-true (leb 0 (d .«patch_pages»)) (dimmers everyPage ∷ []) [] (le-leb 0 (d .«patch_pages») (omega arith))
+
+all-wipes : (d : Desk) → allWipes d everyPage ≡ dimmers everyPage ∷ (table Cue everyPage ∷ (table Group everyPage ∷ (table Sub everyPage ∷ [])))
+unfolding allWipes
+all-wipes d = λ i. dimmer-wipes d i ++ (kind-wipes d Cue i ++ (kind-wipes d Group i ++ kind-wipes d Sub i))
 
 module _ (d : Desk) (t : List ℕ) (r : Ready d t) where
   abbrev bare₀ : List ℕ
@@ -68,13 +73,9 @@ module _ (d : Desk) (t : List ℕ) (r : Ready d t) where
   abbrev bare₃ : List ℕ
   bare₃ = cleared d bare₂ Sub 0
 
-  tables : clearTables d 0 t ≡ bare₃
-  unfolding clearTables
-  tables =
-      clear-table d Sub _
-      ∙ ap (λ (u : List ℕ). cleared d u Sub 0)
-      (clear-table d Group _
-      ∙ ap (λ (u : List ℕ). cleared d u Group 0) (clear-table d Cue _ ∙ ap (λ (u : List ℕ). cleared d u Cue 0) (clear-dimmers d t)))
+  tables : wiped d (allWipes d everyPage) t ≡ bare₃
+  unfolding wiped
+  tables = ap (λ (ws : List Wipe). wiped d ws t) (all-wipes d)
 
   no-page : 0 ≤ d .«patch_pages»
   no-page = omega arith
@@ -96,7 +97,7 @@ module _ (d : Desk) (t : List ℕ) (r : Ready d t) where
   kinds : Beside d bare₀ bare₃
   kinds = beside-next {u = bare₂} (beside-next {u = bare₁} (kind-beside d bare₀ r₀ Cue) (kind-beside d bare₁ r₁ Group)) (kind-beside d bare₂ r₂ Sub)
 
-  pub clear-read : (s : List ℕ) → Patching d s t (clearTables d 0 t) 0
+  pub clear-read : (s : List ℕ) → Patching d s t (wiped d (allWipes d everyPage) t) 0
   clear-read s =
       subst (λ (u : List ℕ). Patching d s t u 0) (sym tables)
       (record {

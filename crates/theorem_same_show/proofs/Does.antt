@@ -36,7 +36,6 @@ use Rattle.value_written.proofs.Texts.{fraction-none}
 use Rattle.value_written.proofs.Undone.{integer-read, page-read, number-read, level-read, time-read}
 use Rattle.store.specs.declared.Edit.{Edit}
 use Rattle.store.specs.declared.Edit.the-variants.{Up, Down, Followon, Link, Level}
-use Rattle.store.specs.Slots.{onFound}
 use Rattle.store.specs.Change.{seat, started, edited, patched}
 use Rattle.store.specs.Form.{hasTimes, hasLink}
 use Rattle.load.specs.declared.State.{State}
@@ -45,15 +44,13 @@ use Rattle.load.specs.declared.Entry.{Entry}
 use Rattle.load.specs.declared.Entry.the-variants.{Level as LevelOf, Patch as PatchOf}
 use Rattle.load.specs.declared.Ranged.{Ranged}
 use Rattle.load.specs.declared.Ranged.the-variants.{Within as InLimits}
-use Rattle.load.specs.declared.Named.{Named}
 use Rattle.load.specs.declared.Named.the-variants.{Name as Accepted}
 use Rattle.load.specs.declared.Numeral.the-variants.{Number}
-use Rattle.load.specs.declared.Reading.{Reading}
 use Rattle.load.specs.declared.Reading.the-variants.{Change}
-use Rattle.load.specs.Condition.{fullOf, badChannel, badDimmer}
+use Rattle.load.specs.Condition.{badChannel, badDimmer}
 use Rattle.load.specs.Item.{rangedOf, onRanged, onLevel, pairOf, tripleOf, pairsOf, triplesOf, faultsOf, memory, page, done, allDone}
-use Rattle.load.specs.Ask.{name, isOverLong}
-use Rattle.load.specs.Step.{ended, opened, recordStep, stepOf, ignoredIn}
+use Rattle.load.specs.Ask.{items, name, isOverLong, askOf, fieldsAsk, keywordAsk, namedAsk, primaryAsk, changeAsk, obeyedAsk, secondaryAsk, triplesAsk}
+use Rattle.load.specs.Step.{ended, opened, acted, recordStep, stepOf, ignoredIn}
 use Rattle.load.specs.Ask.{numberedBy, subBy, numeralOf, pageAt, namedBy, namedOf}
 use Rattle.load.specs.Step.{openedBy}
 use Rattle.load.specs.Ask.{augments, onTime, delayOf, fadeOf, linkBy, timesOf}
@@ -73,10 +70,12 @@ module _ {l : List ℕ} {xs : List (List ℕ)} (w : Line l xs) where
   line-quiet = ap (λ (z : List ℕ). cond (isOverLong l) [] z) (fair-quiet l (w .fair)) ∙ cond-same (isOverLong l) []
 
   line-step : (d : Desk) (s : State) (t : List ℕ) → (cs : List ℕ) × (recordStep d s l t ≡ stepOf d s (spelled xs cs) t)
-  unfolding recordStep
+  unfolding recordStep askOf
   line-step d s t =
-      let f = fields-of l xs (w .fair) (w .words) in
-      (f .0, cond-false (isOverLong l) _ _ (le-ltb 80 (length l) (w .short)) ∙ ap (λ (ws : List Word). stepOf d s ws t) (f .1))
+      let f = fields-of l xs (w .fair) (w .words) in (
+        f .0,
+        ap (acted d s t) (cond-false (isOverLong l) _ _ (le-ltb 80 (length l) (w .short)) ∙ ap (λ (ws : List Word). fieldsAsk d s ws) (f .1)),
+      )
 
   -- a step of its fields, whatever their columns
   does-of : (d : Desk) (s : State) (t : List ℕ) (s₁ : State) (t₁ : List ℕ) → ((cs : List ℕ) → stepOf d s (spelled xs cs) t ≡ ended s₁ Obeyed t₁) → Does d s t l s₁ t₁
@@ -96,11 +95,11 @@ kind-keyword Cue = refl
 kind-keyword Group = refl
 kind-keyword Sub = refl
 
-kind-step : (d : Desk) (s : State) (k : Kind) (ws : List Word) (t : List ℕ) → keywordStep d s (kindKeyword k) ws t ≡ primaryOf d k ws t
-unfolding kindKeyword keywordStep
-kind-step d s Cue ws t = refl
-kind-step d s Group ws t = refl
-kind-step d s Sub ws t = refl
+kind-ask : (d : Desk) (s : State) (k : Kind) (ws : List Word) → keywordAsk d s (kindKeyword k) ws ≡ primaryAsk d k ws
+unfolding kindKeyword keywordAsk
+kind-ask d s Cue ws = refl
+kind-ask d s Group ws = refl
+kind-ask d s Sub ws = refl
 
 -- ---- the primaries
 number-zero : (w f : ℕ) → f ≡ 0 → numberText w f ≡ integerText w
@@ -147,22 +146,18 @@ module _ (d : Desk) (r : InRange d) where
         namedBy (numeral-of k y (getD cs 0 0) (ok-within d (name k y) o) i)
         (page-read (pagesOf d k) (y .page) (p .0) (p .1) l i))
 
-    opened-step : (t : List ℕ) (i : ℕ) → seat d t (name k y) ≡ at i → openedBy d k (Accepted y) t ≡ ended (opened k y) Obeyed (started d t (name k y))
-    unfolding openedBy onFound
-    opened-step t i e =
-        ap (λ (f : Found). onFound f (λ j. ended (opened k y) Obeyed (started d t (name k y))) (refused (fullOf k) t)) e
-
     primary-step : (s : State) (t : List ℕ) (i : ℕ) → seat d t (name k y) ≡ at i → (cs : List ℕ)
         → stepOf d s (spelled (kindWord k ∷ numberText (y .whole) (y .fraction) ∷ integerText (y .page) ∷ []) cs) t
         ≡ ended (opened k y) Obeyed (started d t (name k y))
-    unfolding stepOf spelled primaryOf
+    unfolding fieldsAsk spelled primaryAsk namedAsk acted openedBy
     primary-step s t i e cs =
         let ws : List Word = spelled (numberText (y .whole) (y .fraction) ∷ integerText (y .page) ∷ []) (drop 1 cs) in
-        ap (λ (c : Keyword). keywordStep d s c ws t) (kind-keyword k)
-        ∙ kind-step d s k ws t
-        ∙ cond-true (supported d k) (openedBy d k (namedOf d k ws) t) _ (ok-supported d (name k y) o)
-        ∙ ap (λ (n : Named). openedBy d k n t) (named-of (drop 1 cs))
-        ∙ opened-step t i e
+        ap (acted d s t)
+        (ap (λ (c : Keyword). keywordAsk d s c ws) (kind-keyword k)
+        ∙ kind-ask d s k ws
+        ∙ cond-true (supported d k) (namedAsk k (namedOf d k ws)) _ (ok-supported d (name k y) o)
+        ∙ ap (namedAsk k) (named-of (drop 1 cs)))
+        ∙ ap (λ (f : Found). openedBy d k y f t) e
 
     pub primary-does : (s : State) (t : List ℕ) (i : ℕ) → seat d t (name k y) ≡ at i
         → Does d s t (primaryText k y) (opened k y) (started d t (name k y))
@@ -274,13 +269,14 @@ module _ (d : Desk) (r : InRange d) where
           → stepOf d s (spelled (bytes "PATCH" ∷ integerText p ∷ integerText (x .channel) ∷ integerText m ∷ levelText (x .level) ∷ []) cs) t
           ≡ ended s Obeyed (patched d t p m (x .channel) (x .level))
       patch-step cs =
-          unfold stepOf keywordStep spelled triplesOf patchBy faultsOf allDone done in
+          unfold fieldsAsk keywordAsk spelled triplesOf triplesAsk faultsOf allDone done acted in
           (let l : p ≤ cap = omega (arith, r .patchPages .1) in
           let ws : List Word = spelled (integerText (x .channel) ∷ integerText m ∷ levelText (x .level) ∷ []) (drop 1 (drop 1 cs)) in
-          ap (λ (c : Keyword). keywordStep d s c (spelled (integerText p ∷ integerText (x .channel) ∷ integerText m ∷ levelText (x .level) ∷ []) (drop 1 cs)) t) keyword-patch
-          ∙ ap (λ (g : Paged). patchBy d s g ws t) (page-read (d .«patch_pages») p (hp .0) (hp .1) l)
-          ∙ ap (λ (e : Entry). itemsDone d s (page p) (e ∷ []) t)
-          (triple-of (x .channel) m (x .level) (getD (drop 1 (drop 1 cs)) 0 0) (getD (drop 1 (drop 1 (drop 1 cs))) 0 0) (getD (drop 1 (drop 1 (drop 1 (drop 1 cs)))) 0 0) hc hm hv))
+          ap (acted d s t)
+          (ap (λ (c : Keyword). keywordAsk d s c (spelled (integerText p ∷ integerText (x .channel) ∷ integerText m ∷ levelText (x .level) ∷ []) (drop 1 cs))) keyword-patch
+          ∙ ap (λ (g : Paged). triplesAsk d g ws) (page-read (d .«patch_pages») p (hp .0) (hp .1) l)
+          ∙ ap (λ (e : Entry). items (page p) (e ∷ []))
+          (triple-of (x .channel) m (x .level) (getD (drop 1 (drop 1 cs)) 0 0) (getD (drop 1 (drop 1 (drop 1 cs))) 0 0) (getD (drop 1 (drop 1 (drop 1 (drop 1 cs)))) 0 0) hc hm hv)))
 
 -- ---- the secondaries, of the open memory
 lit-faults : (ps : List Lit) → faultsOf (litEntries ps) ≡ []
@@ -297,30 +293,27 @@ module _ (d : Desk) (k : Kind) (y : Key) (t : List ℕ) where
   abbrev now : State
   now = opened k y
 
-  -- the fields ask for a change
-  changed : (e : Edit) {x : Reading} → x ≡ Change e → changedBy d now (name k y) x t ≡ ended now Obeyed (edited d t (name k y) e)
-  unfolding changedBy
-  changed e q = ap (λ (x : Reading). changedBy d now (name k y) x t) q
-
   module _ (fade delay : ℕ) (hf : fade ≤ 35999999) (hd : delay ≤ 35999999) (h : hasTimes k ≡ true) where
     up-step : (cs : List ℕ) → stepOf d now (spelled (bytes "UP" ∷ timeText fade ∷ delayWords delay) cs) t ≡ ended now Obeyed (edited d t (name k y) (Up fade delay))
-    unfolding stepOf keywordStep spelled secondaryBy obeyedBy augments timesOf
+    unfolding fieldsAsk keywordAsk spelled secondaryAsk obeyedAsk augments timesOf changeAsk acted
     up-step cs =
         let ws : List Word = spelled (timeText fade ∷ delayWords delay) (drop 1 cs) in
-        ap (λ (c : Keyword). keywordStep d now c ws t) keyword-up
+        ap (acted d now t)
+        (ap (λ (c : Keyword). keywordAsk d now c ws) keyword-up
         ∙ cond-true (hasTimes k) _ _ h
-        ∙ changed (Up fade delay) (fade-of (λ a b. Up a b) fade delay hf hd (drop 1 cs))
+        ∙ ap (changeAsk (name k y)) (fade-of (λ a b. Up a b) fade delay hf hd (drop 1 cs)))
 
     pub up-does : Does d now t (bytes "UP " ++ (timeText fade ++ delayText delay)) now (edited d t (name k y) (Up fade delay))
     up-does = does-of (up-line fade delay hf hd) d now t now (edited d t (name k y) (Up fade delay)) up-step
 
     down-step : (cs : List ℕ) → stepOf d now (spelled (bytes "DOWN" ∷ timeText fade ∷ delayWords delay) cs) t ≡ ended now Obeyed (edited d t (name k y) (Down fade delay))
-    unfolding stepOf keywordStep spelled secondaryBy obeyedBy augments timesOf
+    unfolding fieldsAsk keywordAsk spelled secondaryAsk obeyedAsk augments timesOf changeAsk acted
     down-step cs =
         let ws : List Word = spelled (timeText fade ∷ delayWords delay) (drop 1 cs) in
-        ap (λ (c : Keyword). keywordStep d now c ws t) keyword-down
+        ap (acted d now t)
+        (ap (λ (c : Keyword). keywordAsk d now c ws) keyword-down
         ∙ cond-true (hasTimes k) _ _ h
-        ∙ changed (Down fade delay) (fade-of (λ a b. Down a b) fade delay hf hd (drop 1 cs))
+        ∙ ap (changeAsk (name k y)) (fade-of (λ a b. Down a b) fade delay hf hd (drop 1 cs)))
 
     pub down-does : Does d now t (bytes "DOWN " ++ (timeText fade ++ delayText delay)) now (edited d t (name k y) (Down fade delay))
     down-does = does-of (down-line fade delay hf hd) d now t now (edited d t (name k y) (Down fade delay)) down-step
@@ -328,34 +321,36 @@ module _ (d : Desk) (k : Kind) (y : Key) (t : List ℕ) where
   module _ (h : hasLink k ≡ true) where
     module _ (time : ℕ) (l : time ≤ 35999999) where
       followon-step : (cs : List ℕ) → stepOf d now (spelled (bytes "FOLLOWON" ∷ timeText time ∷ delayWords 0) cs) t ≡ ended now Obeyed (edited d t (name k y) (Followon time))
-      unfolding stepOf keywordStep spelled secondaryBy obeyedBy augments timesOf onTime
+      unfolding fieldsAsk keywordAsk spelled secondaryAsk obeyedAsk augments timesOf changeAsk acted onTime
       followon-step cs =
-          ap (λ (c : Keyword). keywordStep d now c (spelled (timeText time ∷ delayWords 0) (drop 1 cs)) t) keyword-followon
+          ap (acted d now t)
+          (ap (λ (c : Keyword). keywordAsk d now c (spelled (timeText time ∷ delayWords 0) (drop 1 cs))) keyword-followon
           ∙ cond-true (hasLink k) _ _ h
-          ∙ changed (Followon time) (ap (λ (x : Timed). onTime x (λ a. Change (Followon a))) (time-read time l))
+          ∙ ap (λ (x : Timed). changeAsk (name k y) (onTime x (λ a. Change (Followon a)))) (time-read time l))
 
       pub followon-does : Does d now t (bytes "FOLLOWON " ++ (timeText time ++ delayText 0)) now (edited d t (name k y) (Followon time))
       followon-does = does-of (followon-line time 0 l (omega arith)) d now t now (edited d t (name k y) (Followon time)) followon-step
 
     module _ (whole fraction : ℕ) (o : okNumber whole fraction ≡ true) where
       link-step : (cs : List ℕ) → stepOf d now (spelled (bytes "LINK" ∷ numberText whole fraction ∷ []) cs) t ≡ ended now Obeyed (edited d t (name k y) (Link whole fraction))
-      unfolding stepOf keywordStep spelled secondaryBy obeyedBy augments timesOf linkBy numberedBy
+      unfolding fieldsAsk keywordAsk spelled secondaryAsk obeyedAsk augments timesOf changeAsk acted linkBy numberedBy
       link-step cs =
           let n = ok-number whole fraction o in
-          ap (λ (c : Keyword). keywordStep d now c (spelled (numberText whole fraction ∷ []) (drop 1 cs)) t) keyword-link
+          ap (acted d now t)
+          (ap (λ (c : Keyword). keywordAsk d now c (spelled (numberText whole fraction ∷ []) (drop 1 cs))) keyword-link
           ∙ cond-true (hasLink k) _ _ h
-          ∙ changed (Link whole fraction)
-          (ap (λ (x : Numbered). linkBy (numberedBy x)) (number-read whole fraction (n .1) (n .2) (λ e. omega (arith, n .0))))
+          ∙ ap (λ (x : Numbered). changeAsk (name k y) (linkBy (numberedBy x))) (number-read whole fraction (n .1) (n .2) (λ e. omega (arith, n .0))))
 
       pub link-does : Does d now t (bytes "LINK " ++ numberText whole fraction) now (edited d t (name k y) (Link whole fraction))
       link-does = does-of (link-line whole fraction (ok-number whole fraction o .1)) d now t now (edited d t (name k y) (Link whole fraction)) link-step
 
   module _ (r : InRange d) (ps : List Lit) (a : AllLit d ps) where
     chan-step : (cs : List ℕ) → stepOf d now (spelled (bytes "CHAN" ∷ pairWords ps) cs) t ≡ ended now Obeyed (editedAll d t (name k y) (litEdits ps))
-    unfolding stepOf keywordStep spelled secondaryBy obeyedBy augments
+    unfolding fieldsAsk keywordAsk spelled secondaryAsk obeyedAsk augments acted
     chan-step cs =
-        ap (λ (c : Keyword). keywordStep d now c (spelled (pairWords ps) (drop 1 cs)) t) keyword-chan
-        ∙ ap (λ (es : List Entry). itemsDone d now (memory (name k y)) es t) (pairs-of d r ps a (drop 1 cs))
+        ap (acted d now t)
+        (ap (λ (c : Keyword). keywordAsk d now c (spelled (pairWords ps) (drop 1 cs))) keyword-chan
+        ∙ ap (λ (es : List Entry). items (memory (name k y)) es) (pairs-of d r ps a (drop 1 cs)))
         ∙ (λ i. record { state = now; outcome = Obeyed; faults = lit-faults ps i; store = lit-done d (name k y) ps t i })
 
     pub chan-does : length ps ≤ 8 → Does d now t (bytes "CHAN" ++ pairsText ps) now (editedAll d t (name k y) (litEdits ps))

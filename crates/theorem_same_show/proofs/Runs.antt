@@ -16,23 +16,24 @@ use Rattle.value.specs.Parts.{cutAt}
 use Rattle.value.specs.Field.{versionedOf, versionOf}
 use Rattle.load.specs.declared.State.{State}
 use Rattle.load.specs.declared.Outcome.the-variants.{Obeyed, Stopped}
-use Rattle.load.specs.Ask.{pageAt}
-use Rattle.load.specs.Step.{Step, ended, nothingOpen, recordStep, stepOf, settleBy, ignoredIn, conditionsOf, outcomeReports}
+use Rattle.store.specs.Change.{everyPage}
+use Rattle.load.specs.Ask.{pageAt, pagedAsk, allWipes, allAsk, itemAsk, identOutcome, keywordAsk, fieldsAsk, askOf}
+use Rattle.load.specs.Step.{Step, ended, nothingOpen, acted, wiped, recordStep, settleBy, ignoredIn, conditionsOf, outcomeReports}
 use Rattle.load.specs.Run.{reportsAt, stops, Run, only, andThen, runFrom, allReports, blank, passed, dropped, obeyed, classOf, eqClass, tallyOf, lastOf, closingOf, totalsOf}
 use Rattle.theorem_same_show.proofs.Fair.{isFair, Fair, AllFair}
 use Rattle.theorem_same_show.proofs.Does.{Does}
 
 -- ---- the lines that are always the same
 pub ident-does : (d : Desk) (s : State) (t : List ℕ) → Does d s t (bytes "IDENT 3:0") s t
-unfolding recordStep stepOf keywordStep identBy fieldsOf wordsOf wordsIn isDelimiter span has keptFrom isHigh isControl isMark keywordOf meaningOf keywordRows sameWord sameText upper versionOf versionedOf integerOf runOf digitsFrom digitOf cutAt ignoredIn isFair
+unfolding recordStep askOf acted fieldsAsk keywordAsk identOutcome fieldsOf wordsOf wordsIn isDelimiter span has keptFrom isHigh isControl isMark keywordOf meaningOf keywordRows sameWord sameText upper versionOf versionedOf integerOf runOf digitsFrom digitOf cutAt ignoredIn isFair
 ident-does d s t = record { fair = refl; quiet = refl; step = refl }
 
-pub clear-does : (d : Desk) (t : List ℕ) → Does d nothingOpen t (bytes "CLEAR ALL") nothingOpen (clearTables d 0 t)
-unfolding recordStep stepOf keywordStep clearBy clearAllOf clearedBy pageAt settleBy fieldsOf wordsOf wordsIn isDelimiter span has keptFrom isHigh isControl isMark keywordOf meaningOf keywordRows sameWord sameText upper itemOf itemRows ignoredIn isFair
+pub clear-does : (d : Desk) (t : List ℕ) → Does d nothingOpen t (bytes "CLEAR ALL") nothingOpen (wiped d (allWipes d everyPage) t)
+unfolding recordStep askOf acted fieldsAsk keywordAsk itemAsk allAsk pagedAsk pageAt settleBy fieldsOf wordsOf wordsIn isDelimiter span has keptFrom isHigh isControl isMark keywordOf meaningOf keywordRows sameWord sameText upper itemOf itemRows ignoredIn isFair
 clear-does d t = record { fair = refl; quiet = refl; step = refl }
 
 end-step : (d : Desk) (s : State) (t : List ℕ) → recordStep d s (bytes "ENDDATA") t ≡ ended s (Stopped 0) t
-unfolding recordStep stepOf keywordStep fieldsOf wordsOf wordsIn isDelimiter span has keptFrom isHigh isControl isMark keywordOf meaningOf keywordRows sameWord sameText upper
+unfolding recordStep askOf acted fieldsAsk keywordAsk fieldsOf wordsOf wordsIn isDelimiter span has keptFrom isHigh isControl isMark keywordOf meaningOf keywordRows sameWord sameText upper
 end-step d s t = refl
 
 end-quiet : (s : State) (t : List ℕ) → conditionsOf (bytes "ENDDATA") (ended s (Stopped 0) t) ≡ []
