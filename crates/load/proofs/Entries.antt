@@ -1,7 +1,6 @@
 -- CHAN's pairs and PATCH's triples on one desk: each lies in its range, or its condition fits a report; and two fields at least make one.
 -- By cases on each field.
 -- Assumes nothing.
-use mathlib.Core.Path.{_≡_, refl}
 use mathlib.Core.List.{List, [], _∷_}
 use Prim.Native.Nat.{ℕ, _+_, _*_, _≤_, _<_}
 use native.Mathlib.Omega.{arith}
@@ -18,10 +17,8 @@ use Rattle.value.specs.declared.Integer.the-variants.{Malformed, Value}
 use Rattle.value.specs.Integer.{integerOf}
 use Rattle.value_level.specs.declared.Leveled.{Leveled}
 use Rattle.value_level.specs.declared.Leveled.the-variants.{NotPercent, NotHex, Value as IsLevel}
-use Rattle.value_level.specs.declared.Worded.{Worded}
-use Rattle.value_level.specs.declared.Worded.the-variants.{NotPercent as NoPercent, NotHex as NoHex, Value as IsWord}
-use Rattle.value_level.specs.Level.{levelWordOf, upperOf, levelOf}
-use Rattle.value_level.proofs.Levels.{word-below}
+use Rattle.value_level.specs.Level.{levelOf}
+use Rattle.value_level.proofs.Levels.{LevelOk, level-ok}
 use Rattle.load.specs.declared.Entry.{Entry}
 use Rattle.load.specs.declared.Entry.the-variants.{Level, Patch, Fault}
 use Rattle.load.specs.declared.Ranged.{Ranged}
@@ -40,22 +37,6 @@ ranged-fits P limit beyond (Value n) column f bad high good =
     by-test (λ (r : Ranged). P (onRanged r column f)) (isWithin 1 n limit) (Within n) (Wrong beyond)
     (λ e. good n (within 1 n limit e))
     (λ e. high)
-
--- a level is a byte
-abbrev pub LevelOk : Leveled → Type 0
-LevelOk NotPercent = Unit {0}
-LevelOk NotHex = Unit {0}
-LevelOk (IsLevel v) = v < 256
-
-level-by : (s : List ℕ) (x : Worded) → levelWordOf s ≡ x → LevelOk (upperOf x)
-unfolding upperOf
-level-by s NoPercent e = tt
-level-by s NoHex e = tt
-level-by s (IsWord w) e = let l : w < 65536 = word-below s e in omega arith
-
-pub level-ok : (s : List ℕ) → LevelOk (levelOf s)
-unfolding levelOf
-level-ok s = level-by s (levelWordOf s) refl
 
 level-fits : (P : Entry → Type 0) (x : Leveled) → LevelOk x → (column : ℕ) (f : ℕ → Entry)
     → P (Fault badPercent column) → P (Fault badHex column) → ((v : ℕ) → v < 256 → P (f v)) → P (onLevel x column f)

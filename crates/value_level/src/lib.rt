@@ -1,9 +1,9 @@
-// Levels (§7.5): a percentage by Table C-2, or hexadecimal digits, read from a field's characters into 16 bits or 8.
-// Both readers are total: any bytes have an answer. Which condition a malformed level gives is said above this crate.
+// Levels (§7.5): a percentage by Table C-2, or hexadecimal digits, read from a field's characters into a byte.
+// The reader is total: any bytes have an answer. Which condition a malformed level gives is said above this crate.
 use value::Integer;
 ghost use mathlib.Core.Path.{_≡_};
-ghost use Prim.Native.Nat.{_*_, _≤_};
-ghost use Rattle.value_level.specs.Level.{percentByte, percentOf, hexOf, isMark, levelWordOf, levelOf};
+ghost use Prim.Native.Nat.{_≤_};
+ghost use Rattle.value_level.specs.Level.{percentByte, percentOf, hexOf, isHexMark, levelOf};
 
 const HEXADECIMAL: u32 = 16;
 
@@ -126,53 +126,46 @@ pub fn percent_byte(p: usize) -> u8
     PERCENT[p]
 }
 
-// A level in 16 bits.
-pub enum Worded {
+// A level's byte, or in which of the two formats it is malformed.
+pub enum Leveled {
     NotPercent,
     NotHex,
-    Value(u32),
+    Value(u8),
 }
 
-// A byte given twice: a level of two digits, or of a percentage, in 16 bits.
-fn twice(b: u8) -> u32
-    ensures { λ r. ⌜ r ≡ b * 257 ⌝ }
-{
-    b as u32 * 257
-}
-
-fn percent(p: Integer) -> Worded
+fn percent(p: Integer) -> Leveled
     ensures { λ r. ⌜ r ≡ percentOf p ⌝ }
 {
     let Integer::Value(v) = p else {
-        return Worded::NotPercent;
+        return Leveled::NotPercent;
     };
     if PERCENT_MAX < v {
-        return Worded::NotPercent;
+        return Leveled::NotPercent;
     }
     if PERCENT_FULL < v {
-        return Worded::Value(twice(percent_byte(PERCENT_FULL as usize)));
+        return Leveled::Value(percent_byte(PERCENT_FULL as usize));
     }
-    Worded::Value(twice(percent_byte(v as usize)))
+    Leveled::Value(percent_byte(v as usize))
 }
 
-// The digits after the H. One or two are a byte, three or four a word.
-fn hexadecimal(s: &[u8]) -> Worded
+// The digits after the H. One or two are the byte; of three or four the last two are discarded.
+fn hexadecimal(s: &[u8]) -> Leveled
     ensures { λ r. ⌜ r ≡ hexOf (now (s .entry)) ⌝ }
 {
     if HEX_DIGITS < s.len() {
-        return Worded::NotHex;
+        return Leveled::NotHex;
     }
     let Integer::Value(v) = value::run(s, HEXADECIMAL) else {
-        return Worded::NotHex;
+        return Leveled::NotHex;
     };
     if s.len() <= 2 {
-        return Worded::Value(v * 257);
+        return Leveled::Value(v as u8);
     }
-    Worded::Value(v)
+    Leveled::Value((v / 256) as u8)
 }
 
 fn hex_mark(c: u8) -> bool
-    ensures { λ r. ⌜ r ≡ isMark c ⌝ }
+    ensures { λ r. ⌜ r ≡ isHexMark c ⌝ }
 {
     if c == b'H' {
         return true;
@@ -180,31 +173,14 @@ fn hex_mark(c: u8) -> bool
     c == b'h'
 }
 
-pub fn read_level_word(s: &[u8]) -> Worded
-    ensures { λ r. ⌜ r ≡ levelWordOf (now (s .entry)) ⌝ }
+pub fn read_level(s: &[u8]) -> Leveled
+    ensures { λ r. ⌜ r ≡ levelOf (now (s .entry)) ⌝ }
 {
     if s.len() == 0 {
-        return Worded::NotPercent;
+        return Leveled::NotPercent;
     }
     if hex_mark(s[0]) {
         return hexadecimal(&s[1..]);
     }
     percent(value::read_integer(s))
-}
-
-pub enum Leveled {
-    NotPercent,
-    NotHex,
-    Value(u8),
-}
-
-// A desk of one byte keeps the upper half.
-pub fn read_level(s: &[u8]) -> Leveled
-    ensures { λ r. ⌜ r ≡ levelOf (now (s .entry)) ⌝ }
-{
-    match read_level_word(s) {
-        Worded::NotPercent => Leveled::NotPercent,
-        Worded::NotHex => Leveled::NotHex,
-        Worded::Value(w) => Leveled::Value((w / 256) as u8),
-    }
 }

@@ -15,19 +15,18 @@ use Rattle.value.specs.declared.Integer.the-variants.{Value}
 use Rattle.value.specs.declared.Numbered.the-variants.{Value as IsNumber}
 use Rattle.value.specs.declared.Timed.the-variants.{Value as IsTime}
 use Rattle.value.specs.declared.Paged.the-variants.{Value as IsPage}
-use Rattle.value_level.specs.declared.Worded.the-variants.{Value as IsWord}
 use Rattle.value_level.specs.declared.Leveled.the-variants.{Value as IsLevel}
 use Rattle.value.specs.Integer.{cap, digitOf, digitsFrom, runOf, integerOf}
 use Rattle.value.specs.Parts.{point, colon, isOther}
 use Rattle.value.specs.Number.{fractionDigits, number, numberOf}
 use Rattle.value.specs.Time.{firstMax, laterMax, tenthsDigits, partOf, clockOf, timeOf}
 use Rattle.value.specs.Field.{pageOf}
-use Rattle.value_level.specs.Level.{twice, hexDigits, levelWordOf, levelOf}
+use Rattle.value_level.specs.Level.{hexDigits, levelOf}
 use Rattle.value.proofs.Digits.{digit-decimal, digit-capital, digits-nil, digits-cons, run-start}
 use Rattle.value.proofs.Numbers.{number-good, page-good, page-is}
 use Rattle.value.proofs.Times.{part-good, part-is, join-good, time-good}
 use Rattle.value.proofs.Splits.{number-whole, number-parts, time-whole, time-parts, clock-whole, clock-parts, later-whole, later-parts}
-use Rattle.value_level.proofs.Levels.{hex-read, hex-byte, level-hex, upper-word}
+use Rattle.value_level.proofs.Levels.{hex-read, hex-byte, level-hex}
 use Rattle.value_written.specs.Text.{digitChar, digitsOn, digitsText, countOf, integerText, numberText, levelText, partText, clockText, timeText}
 use Rattle.value_written.proofs.Texts.{char-decimal, char-capital, text-length, integer-enough, integer-count, fraction-none, fraction-some, decimals-all, integer-all, clock-all, clock-seconds, clock-minutes, clock-hours}
 
@@ -133,9 +132,9 @@ number-read w f a b z =
     ∙ number-good (integer-read w l) (fixed-read fractionDigits f (omega arith) n m) a z)
 
 -- ---- levels
-pub word-read : (l : ℕ) → l < 256 → levelWordOf (levelText l) ≡ IsWord (twice l)
+pub level-read : (l : ℕ) → l < 256 → levelOf (levelText l) ≡ IsLevel l
 unfolding levelText
-word-read l h =
+level-read l h =
     let t : length (digitsText 16 2 l) ≡ 2 = text-length 16 2 l in
     let a : length (digitsText 16 2 l) ≤ hexDigits = omega arith in
     let b : length (digitsText 16 2 l) ≤ 2 = omega arith in
@@ -143,9 +142,6 @@ word-read l h =
     level-hex (72 ∷ digitsText 16 2 l) refl
     ∙ hex-read (digitsText 16 2 l) a
     ∙ hex-byte (length (digitsText 16 2 l)) (run-read 16 (omega arith) (omega arith) 2 l (omega arith) h c) b
-
-pub level-read : (l : ℕ) → l < 256 → levelOf (levelText l) ≡ IsLevel l
-level-read l h = upper-word (levelText l) (word-read l h) ∙ ap IsLevel (let e : twice l / 256 ≡ l = omega arith in e)
 
 -- ---- times
 first-read : (n : ℕ) → n ≤ firstMax → partOf firstMax (integerText n) ≡ Value n

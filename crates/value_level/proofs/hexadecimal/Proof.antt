@@ -1,10 +1,8 @@
 -- `hexadecimal` meets its contract, case by case.
 -- Assumes nothing.
-use mathlib.Core.Path.{sym, _∙_, subst}
+use mathlib.Core.Path.{sym, _∙_}
 use native.Mathlib.Omega.{arith}
-use Rattle.value.specs.Integer.{cap, AtMost}
-use Rattle.value.proofs.Digits.{run-capped}
-use Rattle.value_level.proofs.Levels.{hex-long, hex-read, hex-malformed, hex-byte, hex-word}
+use Rattle.value_level.proofs.Levels.{hex-long, hex-read, hex-malformed, hex-byte, hex-upper, two-digits, four-digits}
 use borrow.Author.Needs.{needs}
 use Rattle.value_level.proofs.hexadecimal.Statement.{statement}
 use Rattle.value_level.proofs.hexadecimal.Tie as tie
@@ -26,22 +24,32 @@ returns-2 c =
     sym
     (hex-read _ (c .before .before .before .if1 .left) ∙ hex-malformed _ (sym (c .before .before .run .ensures) ∙ c .enum-told .given .1))
 
-mul-t6 : tie.Need-mul-t6
-mul-t6 c =
-    omega
-    (arith, subst (AtMost cap) (sym (c .before .before .before .before .run .ensures) ∙ c .before .before .v .given .1) (run-capped 16 (c .before .before .before .before .before .before .before .args .s .now)))
+cast-t6 : tie.Need-cast-t6
+cast-t6 c = omega (arith, two-digits (c .before .before .before .before .before .before .before .args .s .now) (sym (c .before .before .before .before .run .ensures) ∙ c .before .before .v .given .1) (c .if2 .taken))
 
 returns-3 : tie.Need-returns-3
 returns-3 c =
     sym
     (hex-read _ (c .before .before .before .before .before .if1 .left) ∙ hex-byte _ (sym (c .before .before .before .before .run .ensures) ∙ c .before .before .v .given .1) (c .if2 .taken))
 
+cast-t8 : tie.Need-cast-t8
+cast-t8 c = omega (arith, four-digits (c .before .before .before .before .before .before .before .args .s .now) (sym (c .before .before .before .before .run .ensures) ∙ c .before .before .v .given .1) (c .before .before .before .before .before .if1 .left))
+
 returns-4 : tie.Need-returns-4
 returns-4 c =
     sym
-    (hex-read _ (c .before .before .before .before .before .if1 .left) ∙ hex-word _ (sym (c .before .before .before .before .run .ensures) ∙ c .before .before .v .given .1) (c .if2 .left))
+    (hex-read _ (c .before .before .before .before .before .if1 .left) ∙ hex-upper _ (sym (c .before .before .before .before .run .ensures) ∙ c .before .before .v .given .1) (c .if2 .left))
 
 pub hexadecimal-spec : {M : Type 1} → statement M
 hexadecimal-spec =
     tie.close
-    (tie.spec returns run-requires enum-known-v enum-told returns-2 mul-t6 returns-3 returns-4)
+    (tie.spec
+    returns
+    run-requires
+    enum-known-v
+    enum-told
+    returns-2
+    cast-t6
+    returns-3
+    cast-t8
+    returns-4)

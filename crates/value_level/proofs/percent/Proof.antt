@@ -1,8 +1,7 @@
 -- `percent` meets its contract, case by case.
 -- Assumes nothing.
 use mathlib.Core.Path.{sym, ap, _∙_}
-use Rattle.value_level.specs.Level.{twice}
-use Rattle.value_level.specs.declared.Worded.the-variants.{Value}
+use Rattle.value_level.specs.declared.Leveled.the-variants.{Value}
 use Rattle.value_level.proofs.Levels.{percent-malformed, percent-large, percent-full, percent-of}
 use borrow.Author.Needs.{needs}
 use Rattle.value_level.proofs.percent.Statement.{statement}
@@ -26,14 +25,8 @@ cast-percent-byte c = search needs
 percent-byte-requires : tie.Need-percent-byte-requires
 percent-byte-requires c κs = search needs
 
-twice-requires : tie.Need-twice-requires
-twice-requires c κs = search needs
-
 returns-3 : tie.Need-returns-3
-returns-3 c =
-    ap Value (c .twice .ensures ∙ ap twice (c .before .percent-byte .ensures))
-    ∙ sym
-    (percent-full (c .before .before .before .before .before .p .given .1) (c .before .before .before .if1 .left) (c .before .before .if2 .taken))
+returns-3 c = ap Value (c .percent-byte .ensures) ∙ sym (percent-full (c .before .before .before .before .p .given .1) (c .before .before .if1 .left) (c .before .if2 .taken))
 
 cast-percent-byte-2 : tie.Need-cast-percent-byte-2
 cast-percent-byte-2 c = search needs
@@ -41,13 +34,8 @@ cast-percent-byte-2 c = search needs
 percent-byte-requires-2 : tie.Need-percent-byte-requires-2
 percent-byte-requires-2 c κs = search needs
 
-twice-requires-2 : tie.Need-twice-requires-2
-twice-requires-2 c κs = search needs
-
 returns-4 : tie.Need-returns-4
-returns-4 c =
-    ap Value (c .twice2 .ensures ∙ ap twice (c .before .percent-byte2 .ensures))
-    ∙ sym (percent-of (c .before .before .before .before .before .p .given .1) (c .before .before .if2 .left))
+returns-4 c = ap Value (c .percent-byte2 .ensures) ∙ sym (percent-of (c .before .before .before .before .p .given .1) (c .before .if2 .left))
 
 pub percent-spec : {M : Type 1} → statement M
 percent-spec =
@@ -59,9 +47,7 @@ percent-spec =
     returns-2
     cast-percent-byte
     percent-byte-requires
-    twice-requires
     returns-3
     cast-percent-byte-2
     percent-byte-requires-2
-    twice-requires-2
     returns-4)

@@ -1,47 +1,64 @@
--- `read_level` meets its contract: the upper half of a word that has 16 bits.
+-- `read_level` meets its contract: the two formats told apart by the first character.
 -- Assumes nothing.
-use mathlib.Core.Path.{sym, _∙_}
-use native.Mathlib.Omega.{arith}
-use Rattle.value_level.proofs.Levels.{word-below, upper-percent, upper-hex, upper-word}
+use mathlib.Core.Path.{sym, ap, _∙_}
+use Rattle.cells.proofs.Put.{tail-is}
+use Rattle.value_level.specs.Level.{percentOf, hexOf}
+use Rattle.value_level.proofs.Levels.{level-empty, level-hex, level-percent}
 use borrow.Author.Needs.{needs}
 use Rattle.value_level.proofs.read_level.Statement.{statement}
 use Rattle.value_level.proofs.read_level.Tie as tie
 
-read-level-word-requires : tie.Need-read-level-word-requires
-read-level-word-requires c κs = search needs
-
-enum-told : tie.Need-enum-told
-enum-told c = search needs
-
-enum-told-2 : tie.Need-enum-told-2
-enum-told-2 c = search needs
-
-enum-known-w : tie.Need-enum-known-w
-enum-known-w c = search needs
-
-cast-t6 : tie.Need-cast-t6
-cast-t6 c =
-    omega
-    (arith, word-below (c .before .before .before .before .before .args .s .now) (sym (c .before .before .before .read-level-word .ensures) ∙ c .before .w .given .1))
-
 returns : tie.Need-returns
-returns c = sym (upper-percent _ (sym (c .before .before .read-level-word .ensures) ∙ c .enum-told .given .1))
+returns c = sym (level-empty _ (c .if1 .taken))
+
+shared-slice-read-hex-mark : tie.Need-shared-slice-read-hex-mark
+shared-slice-read-hex-mark c = search needs
+
+hex-mark-requires : tie.Need-hex-mark-requires
+hex-mark-requires c κs = search needs
+
+sub-hexadecimal : tie.Need-sub-hexadecimal
+sub-hexadecimal c = search needs
+
+part-hexadecimal-start : tie.Need-part-hexadecimal-start
+part-hexadecimal-start c = search needs
+
+part-hexadecimal-end : tie.Need-part-hexadecimal-end
+part-hexadecimal-end c = search needs
+
+hexadecimal-requires : tie.Need-hexadecimal-requires
+hexadecimal-requires c κs = search needs
 
 returns-2 : tie.Need-returns-2
-returns-2 c = sym (upper-hex _ (sym (c .before .before .read-level-word .ensures) ∙ c .enum-told2 .given .1))
+returns-2 c =
+    c .hexadecimal .ensures
+    ∙ ap hexOf (tail-is (c .before .before .before .before .before .before .before .args .s .now) 1)
+    ∙ sym (level-hex _ (sym (c .before .before .before .hex-mark .ensures) ∙ c .before .before .if2 .taken))
+
+read-integer-requires : tie.Need-read-integer-requires
+read-integer-requires c κs = search needs
+
+percent-requires : tie.Need-percent-requires
+percent-requires c κs = search needs
 
 returns-3 : tie.Need-returns-3
-returns-3 c = sym (upper-word _ (sym (c .before .before .before .read-level-word .ensures) ∙ c .before .w .given .1))
+returns-3 c =
+    c .percent .ensures
+    ∙ ap percentOf (c .before .read-integer .ensures)
+    ∙ sym (level-percent _ (sym (c .before .before .before .hex-mark .ensures) ∙ c .before .before .if2 .left))
 
 pub read-level-spec : {M : Type 1} → statement M
 read-level-spec =
     tie.close
     (tie.spec
-    read-level-word-requires
-    enum-told
-    enum-told-2
-    enum-known-w
-    cast-t6
     returns
+    shared-slice-read-hex-mark
+    hex-mark-requires
+    sub-hexadecimal
+    part-hexadecimal-start
+    part-hexadecimal-end
+    hexadecimal-requires
     returns-2
+    read-integer-requires
+    percent-requires
     returns-3)
