@@ -15,9 +15,9 @@ use borrow.Author.Tests.{lt-ltb, le-ltb, not-false}
 use Rattle.cells.specs.Scan.{span}
 use Rattle.cells.proofs.Scan.{span-hit, span-miss, span-le, span-at, span-take}
 use Rattle.cells.proofs.Put.{part-of-front}
-use Rattle.cells.proofs.Split.{by-test, by-bool, by-lt, by-le, by-or, clash, cond-true, cond-false}
+use Rattle.cells.proofs.Split.{by-test, by-bool, by-lt, by-le, cond-true, cond-false}
 use Rattle.text_records.specs.Stream.{CR, LF, isEnd, isText, terminated, terminatorOf, recordEnd, pieceLength, piecesIn, piecesOf, bare, recordsOf}
-use Rattle.text_records.proofs.Stream.{pieces-some, records-at, records-end, start-forward, start-within}
+use Rattle.text_records.proofs.Stream.{terminated-two, terminated-some, piece-shorter, pieces-some, bare-piece, records-at, records-end, start-within}
 use Rattle.theorem_told.specs.Cut.{endsBefore, endedIn, endedBefore, startOf, textEnd, startedBefore, ifAny, cutRecord}
 
 -- ---- the text of a record in a front
@@ -45,40 +45,22 @@ cut-terminated c d =
     (λ f. cond-true _ _ _ f ∙ by-test (λ (k : ℕ). 1 ≡ min 1 k) (eqb d CR) 2 1 (λ g. refl) (λ g. refl))
     (λ f. cond-false _ _ _ f))
 
-two-most : (c d : ℕ) → terminated c d ≤ 2
-unfolding terminated
-two-most c d =
-    by-test (λ (k : ℕ). k ≤ 2) (eqb c CR) _ _
-    (λ e. by-test (λ (k : ℕ). k ≤ 2) (eqb d LF) _ _ (λ f. omega arith) (λ f. omega arith))
-    (λ e. by-test (λ (k : ℕ). k ≤ 2) (eqb c LF) _ _
-    (λ f. by-test (λ (k : ℕ). k ≤ 2) (eqb d CR) _ _ (λ g. omega arith) (λ g. omega arith))
-    (λ f. omega arith))
-
 cut-terminator : (k : ℕ) (s : List ℕ) → 0 < k → terminatorOf (take k s) ≡ min k (terminatorOf s)
 cut-terminator zero s h = absurd (not-suc-le-zero h)
 cut-terminator (suc zero) [] h = cut-terminated 0 0
 cut-terminator (suc zero) (c ∷ s) h = cut-terminated c (getD s 0 0)
-cut-terminator (suc (suc k)) [] h = let t : terminated 0 0 ≤ 2 = two-most 0 0 in omega arith
-cut-terminator (suc (suc k)) (c ∷ []) h = let t : terminated c 0 ≤ 2 = two-most c 0 in omega arith
-cut-terminator (suc (suc k)) (c ∷ (d ∷ s)) h = let t : terminated c d ≤ 2 = two-most c d in omega arith
+cut-terminator (suc (suc k)) [] h = let t : terminated 0 0 ≤ 2 = terminated-two 0 0 in omega arith
+cut-terminator (suc (suc k)) (c ∷ []) h = let t : terminated c 0 ≤ 2 = terminated-two c 0 in omega arith
+cut-terminator (suc (suc k)) (c ∷ (d ∷ s)) h = let t : terminated c d ≤ 2 = terminated-two c d in omega arith
 
 -- where a record's text ends before the stream does, a terminator stands
-some-terminated : (c d : ℕ) → isEnd c ≡ true → 0 < terminated c d
-unfolding terminated isEnd
-some-terminated c d e =
-    by-test (λ (k : ℕ). 0 < k) (eqb c CR) _ _
-    (λ f. by-test (λ (k : ℕ). 0 < k) (eqb d LF) _ _ (λ g. omega arith) (λ g. omega arith))
-    (λ f. by-test (λ (k : ℕ). 0 < k) (eqb c LF) _ _
-    (λ g. by-test (λ (k : ℕ). 0 < k) (eqb d CR) _ _ (λ h. omega arith) (λ h. omega arith))
-    (λ g. by-or (eqb c CR) (eqb c LF) e (λ h. clash h f) (λ h. clash h g)))
-
 some-terminator : (s : List ℕ) → span isText s < length s → 0 < terminatorOf (drop (span isText s) s)
 some-terminator s h =
     let a = span isText s in
     let z : a + 0 ≡ a = omega arith in
     let e : isEnd (getD s a 0) ≡ true = not-false (isEnd (getD s a 0)) (span-at isText s h) in
     let g : getD (drop a s) 0 0 ≡ getD s a 0 = getD-drop a s 0 0 ∙ ap (λ (i : ℕ). getD s i 0) z in
-    some-terminated (getD (drop a s) 0 0) (getD (drop a s) 1 0) (ap isEnd g ∙ e)
+    terminated-some (getD (drop a s) 0 0) (getD (drop a s) 1 0) (ap isEnd g ∙ e)
 
 -- ---- the first record of a stream
 ends-zero : (s : List ℕ) → span isText s ≡ recordEnd s 0
@@ -88,19 +70,9 @@ module _ (s : List ℕ) (h : 0 < length s) where
   first-within : pieceLength s ≤ length s
   first-within = start-within s (span isText s) (span-le isText s)
 
-  first-forward : 0 < pieceLength s
-  first-forward = start-forward s {at = 0} {end = span isText s} {next = pieceLength s} h (ends-zero s) refl
-
   records-first : recordsOf s ≡ take (span isText s) s ∷ recordsOf (drop (pieceLength s) s)
   records-first = records-at s {at = 0} {end = span isText s} {next = pieceLength s} h (ends-zero s) refl
       ∙ ap (λ (j : ℕ). take j s ∷ recordsOf (drop (pieceLength s) s)) (sub-zero (span isText s))
-
--- a piece without its terminator is the record
-bare-first : (s : List ℕ) → bare (take (pieceLength s) s) ≡ take (span isText s) s
-unfolding bare
-bare-first s =
-    let l : span isText s ≤ pieceLength s = omega arith in
-    ap (λ (j : ℕ). take j (take (pieceLength s) s)) (span-take isText (pieceLength s) s l) ∙ take-take (span isText s) (pieceLength s) s l
 
 -- a stream of text alone is one record, if it has a character
 text-records : (s : List ℕ) → span isText s ≡ length s → recordsOf s ≡ ifAny s
@@ -179,7 +151,7 @@ module _ (s : List ℕ) (h : 0 < length s) where
   piece-size = length-take-le (pieceLength s) s (first-within s h)
 
   record-size : length (bare (take (pieceLength s) s)) ≡ span isText s
-  record-size = ap length (bare-first s) ∙ length-take-le (span isText s) s (span-le isText s)
+  record-size = ap length (bare-piece s) ∙ length-take-le (span isText s) s (span-le isText s)
 
   ended-first : (k : ℕ)
       → endedBefore k s
@@ -242,12 +214,6 @@ cut-some s k h ih =
     ∙ ap ifAny (sym (started-zero s h k))
     ∙ ap (λ (j : ℕ). take j (recordsOf s) ++ ifAny (startedBefore k s j)) (sym e))
 
-rest-shorter : (c : ℕ) (s : List ℕ) (m : ℕ) → length s ≤ m → length (drop (pieceLength (c ∷ s)) (c ∷ s)) ≤ m
-rest-shorter c s m h =
-    let f : length (drop (pieceLength (c ∷ s)) (c ∷ s)) ≡ suc (length s) - pieceLength (c ∷ s) = length-drop (pieceLength (c ∷ s)) (c ∷ s) in
-    let g : 0 < pieceLength (c ∷ s) = first-forward (c ∷ s) (suc-le-suc zero-le) in
-    omega arith
-
 cut-in : (m : ℕ) (s : List ℕ) (k : ℕ) → length s ≤ m
     → recordsOf (take k s) ≡ take (endedBefore k s) (recordsOf s) ++ ifAny (startedBefore k s (endedBefore k s))
 cut-in zero [] k h = cut-nil k
@@ -255,7 +221,7 @@ cut-in zero (c ∷ s) k h = absurd (not-suc-le-zero h)
 cut-in (suc m) [] k h = cut-nil k
 cut-in (suc m) (c ∷ s) k h =
     cut-some (c ∷ s) k (suc-le-suc zero-le)
-    (cut-in m (drop (pieceLength (c ∷ s)) (c ∷ s)) (k - pieceLength (c ∷ s)) (rest-shorter c s m (le-of-suc-le-suc h)))
+    (cut-in m (drop (pieceLength (c ∷ s)) (c ∷ s)) (k - pieceLength (c ∷ s)) (piece-shorter c s (le-of-suc-le-suc h)))
 
 -- the records of the first k bytes: those whose terminator's first byte lies before k, and then what there is of the next
 pub records-cut : (stream : List ℕ) (k : ℕ) → recordsOf (take k stream) ≡ take (endedBefore k stream) (recordsOf stream) ++ cutRecord k stream
@@ -273,48 +239,6 @@ pub ended-few : (stream : List ℕ) (k : ℕ) → endedBefore k stream ≤ lengt
 unfolding endedBefore recordsOf
 ended-few stream k =
     subst (λ (n : ℕ). endedIn k (piecesOf stream) ≤ n) (sym (length-map (piecesOf stream) bare)) (ended-in k (piecesOf stream))
-
--- one record at most is cut
-any-one : (xs : List ℕ) → length (ifAny xs) ≤ 1
-unfolding ifAny
-any-one [] = zero-le
-any-one (c ∷ cs) = le-refl 1
-
-pub cut-one : (stream : List ℕ) (k : ℕ) → length (cutRecord k stream) ≤ 1
-unfolding cutRecord
-cut-one stream k = any-one (startedBefore k stream (endedBefore k stream))
-
--- ---- a front that ends where a record starts
-front-whole : (s : List ℕ) (k : ℕ) → 0 < length s → pieceLength s ≤ k
-    → recordsOf (take k s) ≡ take (span isText s) s ∷ recordsOf (take (k - pieceLength s) (drop (pieceLength s) s))
-front-whole s k h g =
-    by-lt (span isText s) k (λ l. front-ended s k h l)
-    (λ l.
-    by-lt (span isText s) (length s)
-    (λ m. let t : 0 < terminatorOf (drop (span isText s) s) = some-terminator s m in absurd (omega arith))
-    (λ m.
-    let n : pieceLength s ≤ length s = first-within s h in
-    let e : drop (pieceLength s) s ≡ [] = drop-of-length-le s {i = pieceLength s} (omega arith) in
-    let z : k - pieceLength s ≡ 0 = omega arith in
-    ap recordsOf (take-all k s (omega arith))
-    ∙ records-first s h
-    ∙ ap (λ (x : List ℕ). take (span isText s) s ∷ recordsOf x) (e ∙ ap (λ (j : ℕ). take j (drop (pieceLength s) s)) (sym z))))
-
-pub records-front : (n : ℕ) (stream : List ℕ) → recordsOf (take (startOf stream n) stream) ≡ take n (recordsOf stream)
-unfolding startOf flatten
-records-front zero stream = records-end [] 0 zero-le
-records-front (suc n) [] =
-    ap recordsOf (take-nil (startOf [] (suc n))) ∙ records-end [] 0 zero-le ∙ sym (ap (λ (x : List (List ℕ)). take (suc n) x) (records-end [] 0 zero-le))
-records-front (suc n) (c ∷ s) =
-    let stream = c ∷ s in
-    let h : 0 < length stream = suc-le-suc zero-le in
-    let rest = drop (pieceLength stream) stream in
-    let e : startOf stream (suc n) ≡ pieceLength stream + startOf rest n = start-suc stream h n in
-    let m : startOf stream (suc n) - pieceLength stream ≡ startOf rest n = omega arith in
-    front-whole stream (startOf stream (suc n)) h (omega arith)
-    ∙ ap (λ (j : ℕ). take (span isText stream) stream ∷ recordsOf (take j rest)) m
-    ∙ ap (λ (x : List (List ℕ)). take (span isText stream) stream ∷ x) (records-front n rest)
-    ∙ ap (λ (x : List (List ℕ)). take (suc n) x) (sym (records-first stream h))
 
 -- ---- which they are: record i has ended exactly if the place behind its characters lies in the stream and before k
 module _ (s : List ℕ) (h : 0 < length s) where

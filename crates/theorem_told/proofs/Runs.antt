@@ -4,16 +4,15 @@
 use mathlib.Core.Path.{_≡_, refl, sym, ap, _∙_}
 use mathlib.Core.Bool.{true, false}
 use mathlib.Core.List.{List, [], _∷_, _++_, append-assoc, append-nil}
-use Prim.Native.Nat.{ℕ, zero, suc, _+_}
+use Prim.Native.Nat.{ℕ, suc, _+_}
 use native.Mathlib.Omega.{arith}
-use lib.ListN.{length, take}
-use lib.Seq.{take-nil}
+use lib.ListN.{length}
 use Rattle.cells.proofs.Split.{by-bool, clash, cond-true, cond-false}
 use Rattle.store_desk.specs.declared.Desk.{Desk}
 use Rattle.load.specs.declared.State.{State}
-use Rattle.load.specs.declared.Outcome.{Outcome}
 use Rattle.load.specs.Step.{Step, recordStep, conditionsOf}
 use Rattle.load.specs.Run.{Run, Report, stops, none, only, andThen, reportsAt, runFrom}
+use Rattle.load.proofs.Runs.{run-none, run-stops, run-goes}
 use Rattle.theorem_told.specs.Classes.{joined, goneOn}
 
 -- ---- in two parts
@@ -80,25 +79,6 @@ gone-none d n x =
       reports = append-nil (x .reports) i;
     }))
 
--- ---- the records read
--- of the first m records, the first m outcomes
-pub run-front : (d : Desk) (n : ℕ) (s : State) (t : List ℕ) (m : ℕ) (rs : List (List ℕ))
-    → runFrom d n s t (take m rs) .outcomes ≡ take m (runFrom d n s t rs .outcomes)
-run-front d n s t zero rs = ap (λ (x : Run). x .outcomes) (run-none d n s t)
-run-front d n s t (suc m) [] =
-    ap (λ (x : Run). x .outcomes) (run-none d n s t) ∙ sym (ap (λ (x : Run). take (suc m) (x .outcomes)) (run-none d n s t))
-run-front d n s t (suc m) (r ∷ rs) =
-    let x = recordStep d s r t in
-    by-bool (stops (x .outcome))
-    (λ e.
-    ap (λ (y : Run). y .outcomes) (run-stops d n s t r (take m rs) e)
-    ∙ ap (λ (os : List Outcome). x .outcome ∷ os) (sym (take-nil m))
-    ∙ sym (ap (λ (y : Run). take (suc m) (y .outcomes)) (run-stops d n s t r rs e)))
-    (λ e.
-    ap (λ (y : Run). y .outcomes) (run-goes d n s t r (take m rs) e)
-    ∙ ap (λ (os : List Outcome). x .outcome ∷ os) (run-front d (n + 1) (x .state) (x .store) m rs)
-    ∙ sym (ap (λ (y : Run). take (suc m) (y .outcomes)) (run-goes d n s t r rs e)))
-
 -- a load that did not stop read them all
 pub run-read : (d : Desk) (n : ℕ) (s : State) (t : List ℕ) (rs : List (List ℕ)) → runFrom d n s t rs .stopped ≡ false
     → length (runFrom d n s t rs .outcomes) ≡ length rs
@@ -112,29 +92,25 @@ run-read d n s t (r ∷ rs) h =
     ∙ ap suc (run-read d (n + 1) (x .state) (x .store) rs (sym (ap (λ (y : Run). y .stopped) (run-goes d n s t r rs e)) ∙ h)))
 
 -- ---- one record alone
-module _ (d : Desk) (n : ℕ) (s : State) (t r : List ℕ) where
-  pub run-one-store : runFrom d n s t (r ∷ []) .store ≡ recordStep d s r t .store
-  run-one-store =
-      let x = recordStep d s r t in
-      by-bool (stops (x .outcome)) (λ e. ap (λ (y : Run). y .store) (run-stops d n s t r [] e))
-      (λ e.
-      ap (λ (y : Run). y .store) (run-goes d n s t r [] e) ∙ ap (λ (y : Run). y .store) (run-none d (n + 1) (x .state) (x .store)))
+abbrev pub alone : ℕ → List ℕ → Step → Run
+alone n r x =
+    record {
+      state = x .state;
+      store = x .store;
+      stopped = stops (x .outcome);
+      outcomes = x .outcome ∷ [];
+      reports = reportsAt n (conditionsOf r x);
+    }
 
-  pub run-one-reports : runFrom d n s t (r ∷ []) .reports ≡ reportsAt (n + 1) (conditionsOf r (recordStep d s r t))
-  run-one-reports =
-      let x = recordStep d s r t in
-      let own = reportsAt (n + 1) (conditionsOf r x) in
-      by-bool (stops (x .outcome)) (λ e. ap (λ (y : Run). y .reports) (run-stops d n s t r [] e))
-      (λ e.
-      ap (λ (y : Run). y .reports) (run-goes d n s t r [] e)
-      ∙ ap (λ (y : Run). own ++ y .reports) (run-none d (n + 1) (x .state) (x .store))
-      ∙ append-nil own)
-
-  pub run-one-stopped : runFrom d n s t (r ∷ []) .stopped ≡ stops (recordStep d s r t .outcome)
-  run-one-stopped =
-      let x = recordStep d s r t in
-      by-bool (stops (x .outcome)) (λ e. ap (λ (y : Run). y .stopped) (run-stops d n s t r [] e) ∙ sym e)
-      (λ e.
-      ap (λ (y : Run). y .stopped) (run-goes d n s t r [] e)
-      ∙ ap (λ (y : Run). y .stopped) (run-none d (n + 1) (x .state) (x .store))
-      ∙ sym e)
+pub run-one : (d : Desk) (n : ℕ) (s : State) (t r : List ℕ) → runFrom d n s t (r ∷ []) ≡ alone (n + 1) r (recordStep d s r t)
+run-one d n s t r =
+    let x = recordStep d s r t in
+    let own = reportsAt (n + 1) (conditionsOf r x) in
+    by-bool (stops (x .outcome))
+    (λ e.
+    run-stops d n s t r [] e
+    ∙ (λ i. record { state = x .state; store = x .store; stopped = sym e i; outcomes = x .outcome ∷ []; reports = own }))
+    (λ e.
+    run-goes d n s t r [] e
+    ∙ ap (λ (y : Run). andThen (n + 1) r x y) (run-none d (n + 1) (x .state) (x .store))
+    ∙ (λ i. record { state = x .state; store = x .store; stopped = sym e i; outcomes = x .outcome ∷ []; reports = append-nil own i }))
