@@ -27,7 +27,7 @@ use Rattle.load.specs.declared.State.{State}
 use Rattle.load.specs.declared.Outcome.the-variants.{Obeyed}
 use Rattle.load.specs.Item.{faultsOf, memory, page, done, allDone}
 use Rattle.load.specs.Ask.{Wipe, table, dimmers, Ask, name}
-use Rattle.load.specs.Step.{Step, nothingOpen, settleBy, settle, wiped, openedBy, acted, recordStep, conditionsOf}
+use Rattle.load.specs.Step.{Step, ended, nothingOpen, settleBy, settle, wiped, openedBy, acted, recordStep, conditionsOf}
 use Rattle.load.specs.Fits.{AllFit}
 use Rattle.load.specs.Run.{Run, stops, only, andThen, runFrom, loadOf, allReports, totalsOf}
 use Rattle.load.proofs.Deed.{WipesFit, Deed, resting, skipping, opening, editing, setting, patching, clearing, record-deed}
@@ -77,13 +77,8 @@ module _ (d : Desk) (q : List ℕ) where
   settle-before s Skipping u l = refl
   settle-before s (Memory k) u l = ap (λ (f : Found). onFound f (λ i. s) nothingOpen) (find-before d q u l (name k (s .key)))
 
-  settled : (s : State) {u v : List ℕ} → Before d q u v
-      → Beside d q (record { state = settle d s u; outcome = Obeyed; faults = []; store = u }) (record { state = settle d s v; outcome = Obeyed; faults = []; store = v })
-  settled s {u} (behind l) =
-      record {
-        same = ap (λ (x : State). record { state = x; outcome = Obeyed; faults = []; store = u ++ q }) (settle-before s (s .«open») u l);
-        long = l;
-      }
+  settled : (s : State) {u v : List ℕ} → Before d q u v → Beside d q (ended (settle d s u) Obeyed u) (ended (settle d s v) Obeyed v)
+  settled s {u} (behind l) = record { same = ap (λ (x : State). ended x Obeyed (u ++ q)) (settle-before s (s .«open») u l); long = l }
 
   module _ (t : List ℕ) (l : storeLength d ≤ length t) where
     opened-beside : (k : Kind) (y : Key) → okName d (name k y) ≡ true → (a : Found) → Beside d q (openedBy d k y a t) (openedBy d k y a (t ++ q))
