@@ -27,7 +27,8 @@ use Rattle.store_head.specs.Layout.{encodePatch}
 use Rattle.store_head.proofs.Laws.{length-encode-patch}
 use Rattle.store.specs.declared.Edit.{Edit}
 use Rattle.store.specs.Slots.{slotAt, putSlot, putEntry, headAt, isUsed, find, onFound}
-use Rattle.store.specs.Change.{lowestUnused, newSeat, seat, blankSlot, started, editSlot, editAt, edited, patchEntry, patched, everyPage, onPage, hitsAt, clearFrom, cleared, patchPageLength, clearedPatch}
+use Rattle.store.specs.Change.{lowestUnused, newSeat, seat, blankSlot, started, editSlot, editAt, edited, patchEntry, patched}
+use Rattle.store.specs.Change.{everyPage, onPage, hitsAt, clearFrom, cleared, patchPageLength, clearedPatch}
 use Rattle.store.proofs.Places.{slots-end, slot-end, entry-end, slot-length}
 use Rattle.store.proofs.Find.{head-same}
 use Rattle.store.proofs.Start.{blank-length, seat-inside, found-used}

@@ -231,7 +231,9 @@ ended-in : (k : ℕ) (ps : List (List ℕ)) → endedIn k ps ≤ length ps
 unfolding endedIn
 ended-in k [] = zero-le
 ended-in k (p ∷ ps) =
-    by-test (λ (n : ℕ). n ≤ suc (length ps)) (endsBefore k p) (suc (endedIn (k - length p) ps)) 0 (λ e. suc-le-suc (ended-in (k - length p) ps)) (λ e. zero-le)
+    by-test (λ (n : ℕ). n ≤ suc (length ps)) (endsBefore k p) (suc (endedIn (k - length p) ps)) 0
+    (λ e. suc-le-suc (ended-in (k - length p) ps))
+    (λ e. zero-le)
 
 pub ended-few : (stream : List ℕ) (k : ℕ) → endedBefore k stream ≤ length (recordsOf stream)
 unfolding endedBefore recordsOf

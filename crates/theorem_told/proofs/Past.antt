@@ -2,14 +2,14 @@
 -- are behind it still. By the seven cases of what a record asks for, each by what its operation does, and by induction on the records.
 -- Assumes nothing.
 use mathlib.Core.Path.{_≡_, refl, sym, ap, _∙_, subst}
-use mathlib.Core.Bool.{true}
+use mathlib.Core.Bool.{true, cond}
 use mathlib.Core.List.{List, [], _∷_, _++_}
 use Prim.Native.Nat.{ℕ, _+_, _≤_}
 use native.Mathlib.Omega.{arith}
 use lib.ListN.{length, take, drop, take-append-drop}
 use lib.Seq.{length-take-le}
 use Rattle.cells.specs.Search.{Found, at, nowhere}
-use Rattle.cells.proofs.Split.{by-bool}
+use Rattle.cells.proofs.Split.{cond-ap}
 use Rattle.store_desk.specs.declared.Desk.{Desk}
 use Rattle.store_desk.specs.declared.Key.{Key}
 use Rattle.store_desk.specs.declared.Kind.{Kind}
@@ -31,9 +31,9 @@ use Rattle.load.specs.Step.{Step, ended, nothingOpen, settleBy, settle, wiped, 
 use Rattle.load.specs.Fits.{AllFit}
 use Rattle.load.specs.Run.{Run, stops, only, andThen, runFrom, loadOf, allReports, totalsOf}
 use Rattle.load.proofs.Deed.{WipesFit, Deed, resting, skipping, opening, editing, setting, patching, clearing, record-deed}
-use Rattle.load.proofs.Runs.{run-none, run-stops, run-goes}
 use Rattle.theorem_told.specs.Classes.{withBehind}
-use Rattle.theorem_told.proofs.Behind.{Before, behind, find-before, seat-before, edit-before, patch-before, start-before, clear-before, clear-patch-before}
+use Rattle.theorem_told.proofs.Behind.{Before, behind, find-before, seat-before}
+use Rattle.theorem_told.proofs.Behind.{start-before, edit-before, patch-before, clear-before, clear-patch-before}
 
 -- ---- items, and what CLEAR removes
 module _ (d : Desk) (q : List ℕ) where
@@ -68,7 +68,8 @@ record Beside (d : Desk) (q : List ℕ) (x y : Step) : Type 0 where
 
 module _ (d : Desk) (q : List ℕ) where
   stored : (s : State) (faults : List ℕ) {u v : List ℕ} → Before d q u v
-      → Beside d q (record { state = s; outcome = Obeyed; faults = faults; store = u }) (record { state = s; outcome = Obeyed; faults = faults; store = v })
+      → Beside d q (record { state = s; outcome = Obeyed; faults = faults; store = u })
+      (record { state = s; outcome = Obeyed; faults = faults; store = v })
   stored s faults (behind l) = record { same = refl; long = l }
 
   settle-before : (s : State) (o : Open) (u : List ℕ) → storeLength d ≤ length u → settleBy d s o (u ++ q) ≡ settleBy d s o u
@@ -106,22 +107,15 @@ module _ (d : Desk) (q : List ℕ) where
 
     run-behind : (n : ℕ) (s : State) (t : List ℕ) → storeLength d ≤ length t → (rs : List (List ℕ))
         → runFrom d n s (t ++ q) rs ≡ withBehind q (runFrom d n s t rs)
-    unfolding conditionsOf
-    run-behind n s t l [] = run-none d n s (t ++ q) ∙ sym (ap (λ (x : Run). withBehind q x) (run-none d n s t))
+    unfolding runFrom conditionsOf
+    run-behind n s t l [] = refl
     run-behind n s t l (r ∷ rs) =
         let x = recordStep d s r t in
         let b : Beside d q x (recordStep d s r (t ++ q)) = record-beside s r t l in
-        let o : stops (recordStep d s r (t ++ q) .outcome) ≡ stops (x .outcome) = ap (λ (z : Step). stops (z .outcome)) (b .same) in
-        by-bool (stops (x .outcome))
-        (λ e.
-        run-stops d n s (t ++ q) r rs (o ∙ e)
-        ∙ ap (λ (z : Step). only (n + 1) r z) (b .same)
-        ∙ sym (ap (λ (y : Run). withBehind q y) (run-stops d n s t r rs e)))
-        (λ e.
-        run-goes d n s (t ++ q) r rs (o ∙ e)
-        ∙ ap (λ (z : Step). andThen (n + 1) r z (runFrom d (n + 1) (z .state) (z .store) rs)) (b .same)
-        ∙ ap (λ (y : Run). andThen (n + 1) r (behindStep q x) y) (run-behind (n + 1) (x .state) (x .store) (b .long) rs)
-        ∙ sym (ap (λ (y : Run). withBehind q y) (run-goes d n s t r rs e)))
+        ap (λ (z : Step). cond (stops (z .outcome)) (only (n + 1) r z) (andThen (n + 1) r z (runFrom d (n + 1) (z .state) (z .store) rs))) (b .same)
+        ∙ ap (λ (y : Run). cond (stops (x .outcome)) (only (n + 1) r (behindStep q x)) (andThen (n + 1) r (behindStep q x) y))
+        (run-behind (n + 1) (x .state) (x .store) (b .long) rs)
+        ∙ sym (cond-ap (λ (y : Run). withBehind q y) (stops (x .outcome)) _ _)
 
 -- bytes past the needed length: the load is the same without them, and they are as they were
 pub past-apart : (d : Desk) → InRange d → (t past stream : List ℕ) → storeLength d ≤ length t
