@@ -16,7 +16,7 @@ use Rattle.cells.proofs.Split.{by-test, by-bool, by-or, clash, not-of-true, not
 use Rattle.text_records.specs.Stream.{CR, LF, isEnd, isText, terminated, terminatorOf, recordEnd, nextStart, pieceLength, piecesIn, piecesOf, bare, recordsOf}
 
 -- ---- how long a record and its terminator are
-terminated-two : (c d : ℕ) → terminated c d ≤ 2
+pub terminated-two : (c d : ℕ) → terminated c d ≤ 2
 unfolding terminated
 terminated-two c d =
     by-test (λ (k : ℕ). k ≤ 2) (eqb c CR) _ _
@@ -37,7 +37,7 @@ terminator-le [] = zero-le
 terminator-le (c ∷ []) = terminated-one c
 terminator-le (c ∷ d ∷ s) = let h : terminated c d ≤ 2 = terminated-two c d in omega arith
 
-terminated-some : (c d : ℕ) → isEnd c ≡ true → 0 < terminated c d
+pub terminated-some : (c d : ℕ) → isEnd c ≡ true → 0 < terminated c d
 unfolding terminated isEnd
 terminated-some c d e =
     by-test (λ (k : ℕ). 0 < k) (eqb c CR) _ _
@@ -59,7 +59,7 @@ piece-some c s =
     let z : span isText (c ∷ s) ≡ suc (span isText s) = span-hit isText c s (not-of-false (isEnd c) e) in
     omega arith)
 
-piece-shorter : (c : ℕ) (s : List ℕ) {n : ℕ} → length s ≤ n → length (drop (pieceLength (c ∷ s)) (c ∷ s)) ≤ n
+pub piece-shorter : (c : ℕ) (s : List ℕ) {n : ℕ} → length s ≤ n → length (drop (pieceLength (c ∷ s)) (c ∷ s)) ≤ n
 piece-shorter c s {n} h =
     let f : length (drop (pieceLength (c ∷ s)) (c ∷ s)) ≡ length (c ∷ s) - pieceLength (c ∷ s) = length-drop (pieceLength (c ∷ s)) (c ∷ s) in
     let g : 0 < pieceLength (c ∷ s) = piece-some c s in
@@ -121,7 +121,7 @@ records-count s =
     subst (λ (k : ℕ). k ≤ length s) (sym (length-map (piecesIn (length s) s) bare)) (pieces-few (length s) s)
 
 -- a piece without its terminator is what the scan passes
-bare-piece : (s : List ℕ) → bare (take (pieceLength s) s) ≡ take (span isText s) s
+pub bare-piece : (s : List ℕ) → bare (take (pieceLength s) s) ≡ take (span isText s) s
 unfolding bare
 bare-piece s =
     let k = span isText s in

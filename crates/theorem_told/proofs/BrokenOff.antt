@@ -1,35 +1,30 @@
 -- A stream that breaks off: its load is the load of the records that ended, and then of what there is of the next one; then 0100 under
 -- the number of both, unless one of them stopped the load. By the records of a front, and by a run in two parts.
 -- Assumes nothing.
-use mathlib.Core.Path.{_≡_, refl, sym, ap, _∙_}
+use mathlib.Core.Path.{_≡_, sym, ap, _∙_}
 use mathlib.Core.Bool.{true, false}
-use mathlib.Core.List.{List, [], _∷_, _++_, map}
-use Prim.Native.Nat.{ℕ, zero, suc, _+_}
+use mathlib.Core.List.{List, [], _∷_, _++_}
+use Prim.Native.Nat.{ℕ, _+_}
 use native.Mathlib.Omega.{arith}
 use lib.ListN.{length, take, drop, length-append, take-append-drop}
 use lib.Seq.{length-take-le}
-use Rattle.cells.proofs.Split.{cond-true, cond-false}
+use Rattle.cells.proofs.Split.{cond-false}
 use Rattle.store_desk.specs.declared.Desk.{Desk}
 use Rattle.text_records.specs.Stream.{recordsOf}
-use Rattle.load.specs.declared.Outcome.{Outcome}
 use Rattle.load.specs.Step.{recordStep, conditionsOf, nothingOpen}
-use Rattle.load.specs.Run.{Run, Report, Class, classOf, stops, reportsAt, runFrom, loadOf, allReports}
-use Rattle.theorem_told.specs.Classes.{classesOf, joined, goneOn}
-use Rattle.theorem_told.specs.Cut.{endedBefore, startOf, cutRecord, endedLoad, brokenOff}
-use Rattle.theorem_told.proofs.Runs.{run-append, run-front, run-read, run-one-store, run-one-reports, run-one-stopped, gone-none, gone-stopped, gone-joined}
-use Rattle.theorem_told.proofs.Cut.{records-cut, ended-few, records-front}
+use Rattle.load.specs.Run.{Run, stops, reportsAt, runFrom, loadOf, allReports}
+use Rattle.theorem_told.specs.Classes.{joined, goneOn}
+use Rattle.theorem_told.specs.Cut.{endedBefore, cutRecord, endedLoad, brokenOff}
+use Rattle.theorem_told.proofs.Runs.{run-append, run-read, alone, run-one, gone-none, gone-stopped, gone-joined}
+use Rattle.theorem_told.proofs.Cut.{records-cut, ended-few}
 
 -- ---- 0100
-pub reports-stopped : (x : Run) → x .stopped ≡ true → allReports x ≡ x .reports
-unfolding allReports
-reports-stopped x e = cond-true _ _ _ e
-
-pub reports-broken : (x : Run) → x .stopped ≡ false → allReports x ≡ x .reports ++ (brokenOff (length (x .outcomes)) ∷ [])
+reports-broken : (x : Run) → x .stopped ≡ false → allReports x ≡ x .reports ++ (brokenOff (length (x .outcomes)) ∷ [])
 unfolding allReports
 reports-broken x e = cond-false _ _ _ e
 
 -- a load that did not stop read every record
-pub load-all-read : (d : Desk) (t stream : List ℕ) → loadOf d t stream .stopped ≡ false → length (loadOf d t stream .outcomes) ≡ length (recordsOf stream)
+load-all-read : (d : Desk) (t stream : List ℕ) → loadOf d t stream .stopped ≡ false → length (loadOf d t stream .outcomes) ≡ length (recordsOf stream)
 unfolding loadOf
 load-all-read d t stream h = run-read d 0 nothingOpen t (recordsOf stream) h
 
@@ -77,31 +72,26 @@ module _ (d : Desk) (t stream : List ℕ) (k : ℕ) where
   module _ (r : List ℕ) (e : cutRecord k stream ≡ r ∷ []) (h : endedLoad d t stream k .stopped ≡ false) where
     broken-joined : loadOf d t (take k stream)
         ≡ joined (endedLoad d t stream k)
-        (runFrom d (endedBefore k stream) (endedLoad d t stream k .state) (endedLoad d t stream k .store) (r ∷ []))
+        (alone (endedBefore k stream + 1) r (recordStep d (endedLoad d t stream k .state) r (endedLoad d t stream k .store)))
     broken-joined =
         broken-load
         ∙ ap (λ (rs : List (List ℕ)). goneOn d (endedBefore k stream) (endedLoad d t stream k) rs) e
         ∙ gone-joined d (endedBefore k stream) (endedLoad d t stream k) (r ∷ []) h
+        ∙ ap (λ (x : Run). joined (endedLoad d t stream k) x)
+        (run-one d (endedBefore k stream) (endedLoad d t stream k .state) (endedLoad d t stream k .store) r)
 
     pub broken-store : loadOf d t (take k stream) .store
         ≡ recordStep d (endedLoad d t stream k .state) r (endedLoad d t stream k .store) .store
-    broken-store =
-        ap (λ (x : Run). x .store) broken-joined
-        ∙ run-one-store d (endedBefore k stream) (endedLoad d t stream k .state) (endedLoad d t stream k .store) r
+    broken-store = ap (λ (x : Run). x .store) broken-joined
 
     pub broken-reports : loadOf d t (take k stream) .reports
         ≡ endedLoad d t stream k .reports
         ++ reportsAt (endedBefore k stream + 1) (conditionsOf r (recordStep d (endedLoad d t stream k .state) r (endedLoad d t stream k .store)))
-    broken-reports =
-        ap (λ (x : Run). x .reports) broken-joined
-        ∙ ap (λ (rs : List Report). endedLoad d t stream k .reports ++ rs)
-        (run-one-reports d (endedBefore k stream) (endedLoad d t stream k .state) (endedLoad d t stream k .store) r)
+    broken-reports = ap (λ (x : Run). x .reports) broken-joined
 
     pub broken-stopped : loadOf d t (take k stream) .stopped
         ≡ stops (recordStep d (endedLoad d t stream k .state) r (endedLoad d t stream k .store) .outcome)
-    broken-stopped =
-        ap (λ (x : Run). x .stopped) broken-joined
-        ∙ run-one-stopped d (endedBefore k stream) (endedLoad d t stream k .state) (endedLoad d t stream k .store) r
+    broken-stopped = ap (λ (x : Run). x .stopped) broken-joined
 
   -- one of them stopped the load: where the stream broke off makes no difference
   pub broken-after : endedLoad d t stream k .stopped ≡ true → loadOf d t (take k stream) ≡ loadOf d t stream
@@ -118,17 +108,3 @@ module _ (d : Desk) (t stream : List ℕ) (k : ℕ) where
   broken-told h =
       reports-broken (loadOf d t (take k stream)) h
       ∙ ap (λ (n : ℕ). loadOf d t (take k stream) .reports ++ (brokenOff n ∷ [])) (load-all-read d t (take k stream) h ∙ broken-count)
-
--- ---- classes
-map-front : (n : ℕ) (os : List Outcome) → map classOf (take n os) ≡ take n (map classOf os)
-map-front zero os = refl
-map-front (suc n) [] = refl
-map-front (suc n) (o ∷ os) = ap (λ (cs : List Class). classOf o ∷ cs) (map-front n os)
-
--- those of a front that ends with a record are the front of them all
-pub classes-front : (d : Desk) (t stream : List ℕ) (n : ℕ) → classesOf (loadOf d t (take (startOf stream n) stream)) ≡ take n (classesOf (loadOf d t stream))
-unfolding classesOf loadOf
-classes-front d t stream n =
-    ap (λ (rs : List (List ℕ)). map classOf (runFrom d 0 nothingOpen t rs .outcomes)) (records-front n stream)
-    ∙ ap (λ (os : List Outcome). map classOf os) (run-front d 0 nothingOpen t n (recordsOf stream))
-    ∙ map-front n (runFrom d 0 nothingOpen t (recordsOf stream) .outcomes)

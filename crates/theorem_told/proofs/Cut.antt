@@ -2,7 +2,7 @@
 -- each by where the front ends: before its terminator, within it, or past it.
 -- Assumes nothing.
 use mathlib.Core.Path.{_≡_, refl, sym, ap, _∙_, subst}
-use mathlib.Core.Bool.{Bool, true, cond}
+use mathlib.Core.Bool.{Bool, true, false, cond}
 use mathlib.Core.Logic.{_↔_}
 use mathlib.Core.List.{List, [], _∷_, _++_, flatten}
 use Prim.Native.Nat.{ℕ, zero, suc, _+_, _-_, _≤_, _<_, zero-le, suc-le-suc, min}
@@ -15,10 +15,14 @@ use borrow.Author.Tests.{lt-ltb, le-ltb, not-false}
 use Rattle.cells.specs.Scan.{span}
 use Rattle.cells.proofs.Scan.{span-hit, span-miss, span-le, span-at, span-take}
 use Rattle.cells.proofs.Put.{part-of-front}
-use Rattle.cells.proofs.Split.{by-test, by-bool, by-lt, by-le, by-or, clash, cond-true, cond-false}
+use Rattle.cells.proofs.Split.{by-test, by-bool, by-lt, by-le, cond-true, cond-false}
 use Rattle.text_records.specs.Stream.{CR, LF, isEnd, isText, terminated, terminatorOf, recordEnd, pieceLength, piecesIn, piecesOf, bare, recordsOf}
-use Rattle.text_records.proofs.Stream.{pieces-some, records-at, records-end, start-forward, start-within}
+use Rattle.text_records.proofs.Stream.{terminated-two, terminated-some, piece-shorter, pieces-some, bare-piece, records-at, records-end, start-within}
 use Rattle.theorem_told.specs.Cut.{endsBefore, endedIn, endedBefore, startOf, textEnd, startedBefore, ifAny, cutRecord}
+
+-- what is behind the first record and its terminator
+abbrev afterFirst : List ℕ → List ℕ
+afterFirst s = drop (pieceLength s) s
 
 -- ---- the text of a record in a front
 -- a front of passing elements passes
@@ -35,72 +39,47 @@ span-part p (suc k) (c ∷ s) h =
     (λ e. let a : span p (c ∷ s) ≡ 0 = span-miss p c s e in absurd (omega arith))
 
 -- ---- the terminator in a front
+one-of-two : (b : Bool) → 1 ≡ min 1 (cond b 2 1)
+one-of-two true = refl
+one-of-two false = refl
+
 cut-terminated : (c d : ℕ) → terminated c 0 ≡ min 1 (terminated c d)
 unfolding terminated
 cut-terminated c d =
-    by-test (λ (k : ℕ). cond (eqb c CR) 1 (cond (eqb c LF) 1 0) ≡ min 1 k) (eqb c CR) _ _
-    (λ e. by-test (λ (k : ℕ). cond (eqb c CR) 1 (cond (eqb c LF) 1 0) ≡ min 1 k) (eqb d LF) 2 1 (λ f. cond-true _ _ _ e) (λ f. cond-true _ _ _ e))
-    (λ e. cond-false (eqb c CR) _ _ e
-    ∙ by-test (λ (k : ℕ). cond (eqb c LF) 1 0 ≡ min 1 k) (eqb c LF) (cond (eqb d CR) 2 1) 0
-    (λ f. cond-true _ _ _ f ∙ by-test (λ (k : ℕ). 1 ≡ min 1 k) (eqb d CR) 2 1 (λ g. refl) (λ g. refl))
-    (λ f. cond-false _ _ _ f))
-
-two-most : (c d : ℕ) → terminated c d ≤ 2
-unfolding terminated
-two-most c d =
-    by-test (λ (k : ℕ). k ≤ 2) (eqb c CR) _ _
-    (λ e. by-test (λ (k : ℕ). k ≤ 2) (eqb d LF) _ _ (λ f. omega arith) (λ f. omega arith))
-    (λ e. by-test (λ (k : ℕ). k ≤ 2) (eqb c LF) _ _
-    (λ f. by-test (λ (k : ℕ). k ≤ 2) (eqb d CR) _ _ (λ g. omega arith) (λ g. omega arith))
-    (λ f. omega arith))
+    by-bool (eqb c CR) (λ e. rw e (one-of-two (eqb d LF)))
+    (λ e. rw e (by-bool (eqb c LF) (λ f. rw f (one-of-two (eqb d CR))) (λ f. rw f)))
 
 cut-terminator : (k : ℕ) (s : List ℕ) → 0 < k → terminatorOf (take k s) ≡ min k (terminatorOf s)
 cut-terminator zero s h = absurd (not-suc-le-zero h)
 cut-terminator (suc zero) [] h = cut-terminated 0 0
 cut-terminator (suc zero) (c ∷ s) h = cut-terminated c (getD s 0 0)
-cut-terminator (suc (suc k)) [] h = let t : terminated 0 0 ≤ 2 = two-most 0 0 in omega arith
-cut-terminator (suc (suc k)) (c ∷ []) h = let t : terminated c 0 ≤ 2 = two-most c 0 in omega arith
-cut-terminator (suc (suc k)) (c ∷ (d ∷ s)) h = let t : terminated c d ≤ 2 = two-most c d in omega arith
-
--- where a record's text ends before the stream does, a terminator stands
-some-terminated : (c d : ℕ) → isEnd c ≡ true → 0 < terminated c d
-unfolding terminated isEnd
-some-terminated c d e =
-    by-test (λ (k : ℕ). 0 < k) (eqb c CR) _ _
-    (λ f. by-test (λ (k : ℕ). 0 < k) (eqb d LF) _ _ (λ g. omega arith) (λ g. omega arith))
-    (λ f. by-test (λ (k : ℕ). 0 < k) (eqb c LF) _ _
-    (λ g. by-test (λ (k : ℕ). 0 < k) (eqb d CR) _ _ (λ h. omega arith) (λ h. omega arith))
-    (λ g. by-or (eqb c CR) (eqb c LF) e (λ h. clash h f) (λ h. clash h g)))
-
-some-terminator : (s : List ℕ) → span isText s < length s → 0 < terminatorOf (drop (span isText s) s)
-some-terminator s h =
-    let a = span isText s in
-    let z : a + 0 ≡ a = omega arith in
-    let e : isEnd (getD s a 0) ≡ true = not-false (isEnd (getD s a 0)) (span-at isText s h) in
-    let g : getD (drop a s) 0 0 ≡ getD s a 0 = getD-drop a s 0 0 ∙ ap (λ (i : ℕ). getD s i 0) z in
-    some-terminated (getD (drop a s) 0 0) (getD (drop a s) 1 0) (ap isEnd g ∙ e)
+cut-terminator (suc (suc k)) [] h = let t : terminated 0 0 ≤ 2 = terminated-two 0 0 in omega arith
+cut-terminator (suc (suc k)) (c ∷ []) h = let t : terminated c 0 ≤ 2 = terminated-two c 0 in omega arith
+cut-terminator (suc (suc k)) (c ∷ (d ∷ s)) h = let t : terminated c d ≤ 2 = terminated-two c d in omega arith
 
 -- ---- the first record of a stream
-ends-zero : (s : List ℕ) → span isText s ≡ recordEnd s 0
-ends-zero s = omega arith
+-- its characters and a terminator, unless the stream ends with its characters
+first-past : (s : List ℕ) → min (length s) (span isText s + 1) ≤ pieceLength s
+first-past s =
+    let a = span isText s in
+    by-lt a (length s)
+    (λ h.
+    let z : a + 0 ≡ a = omega arith in
+    let g : getD (drop a s) 0 0 ≡ getD s a 0 = getD-drop a s 0 0 ∙ ap (λ (i : ℕ). getD s i 0) z in
+    let e : isEnd (getD s a 0) ≡ true = not-false (isEnd (getD s a 0)) (span-at isText s h) in
+    let t : 0 < terminatorOf (drop a s) = terminated-some (getD (drop a s) 0 0) (getD (drop a s) 1 0) (ap isEnd g ∙ e) in
+    omega arith)
+    (λ h. omega arith)
 
 module _ (s : List ℕ) (h : 0 < length s) where
   first-within : pieceLength s ≤ length s
   first-within = start-within s (span isText s) (span-le isText s)
 
-  first-forward : 0 < pieceLength s
-  first-forward = start-forward s {at = 0} {end = span isText s} {next = pieceLength s} h (ends-zero s) refl
-
-  records-first : recordsOf s ≡ take (span isText s) s ∷ recordsOf (drop (pieceLength s) s)
-  records-first = records-at s {at = 0} {end = span isText s} {next = pieceLength s} h (ends-zero s) refl
-      ∙ ap (λ (j : ℕ). take j s ∷ recordsOf (drop (pieceLength s) s)) (sub-zero (span isText s))
-
--- a piece without its terminator is the record
-bare-first : (s : List ℕ) → bare (take (pieceLength s) s) ≡ take (span isText s) s
-unfolding bare
-bare-first s =
-    let l : span isText s ≤ pieceLength s = omega arith in
-    ap (λ (j : ℕ). take j (take (pieceLength s) s)) (span-take isText (pieceLength s) s l) ∙ take-take (span isText s) (pieceLength s) s l
+  records-first : recordsOf s ≡ take (span isText s) s ∷ recordsOf (afterFirst s)
+  records-first =
+      let e : span isText s ≡ recordEnd s 0 = omega arith in
+      records-at s {at = 0} {end = span isText s} {next = pieceLength s} h e refl
+      ∙ ap (λ (j : ℕ). take j s ∷ recordsOf (afterFirst s)) (sub-zero (span isText s))
 
 -- a stream of text alone is one record, if it has a character
 text-records : (s : List ℕ) → span isText s ≡ length s → recordsOf s ≡ ifAny s
@@ -109,7 +88,7 @@ text-records [] e = records-end [] 0 zero-le
 text-records (c ∷ s) e =
     let l : length (c ∷ s) ≤ pieceLength (c ∷ s) = omega arith in
     records-first (c ∷ s) (suc-le-suc zero-le)
-    ∙ ap (λ (x : List ℕ). x ∷ recordsOf (drop (pieceLength (c ∷ s)) (c ∷ s))) (take-all (span isText (c ∷ s)) (c ∷ s) (omega arith))
+    ∙ ap (λ (x : List ℕ). x ∷ recordsOf (afterFirst (c ∷ s))) (take-all (span isText (c ∷ s)) (c ∷ s) (omega arith))
     ∙ ap (λ (x : List (List ℕ)). (c ∷ s) ∷ x) (records-end (c ∷ s) (pieceLength (c ∷ s)) l)
 
 -- ---- the first record of a front
@@ -118,21 +97,16 @@ front-drop s b k h =
     let e : b + (k - b) ≡ k = omega arith in
     ap (λ (j : ℕ). drop b (take j s)) (sym e) ∙ sym (part-of-front s b (k - b))
 
-front-nothing : (s : List ℕ) (k : ℕ) → drop k (take k s) ≡ []
-front-nothing s k =
-    let l : length (take k s) ≡ min k (length s) = length-take k s in
-    let m : length (take k s) ≤ k = omega arith in
-    drop-of-length-le (take k s) m
-
 -- what is behind the first record
 front-rest : (s : List ℕ) (b k : ℕ) → drop (min k b) (take k s) ≡ take (k - b) (drop b s)
 front-rest s b k =
+    let l : length (take k s) ≡ min k (length s) = length-take k s in
     by-le b k
     (λ h. let e : min k b ≡ b = omega arith in ap (λ (j : ℕ). drop j (take k s)) e ∙ front-drop s b k h)
     (λ h.
-    let e : min k b ≡ k = omega arith in
+    let m : length (take k s) ≤ min k b = omega arith in
     let z : 0 ≡ k - b = omega arith in
-    ap (λ (j : ℕ). drop j (take k s)) e ∙ front-nothing s k ∙ ap (λ (j : ℕ). take j (drop b s)) z)
+    drop-of-length-le (take k s) m ∙ ap (λ (j : ℕ). take j (drop b s)) z)
 
 module _ (s : List ℕ) (k : ℕ) (h : 0 < length s) (g : span isText s < k) where
   front-piece : pieceLength (take k s) ≡ min k (pieceLength s)
@@ -145,17 +119,16 @@ module _ (s : List ℕ) (k : ℕ) (h : 0 < length s) (g : span isText s < k) whe
       ap terminatorOf d ∙ cut-terminator (k - a) (drop a s) (omega arith) in
       omega arith
 
-  front-ended : recordsOf (take k s) ≡ take (span isText s) s ∷ recordsOf (take (k - pieceLength s) (drop (pieceLength s) s))
+  front-ended : recordsOf (take k s) ≡ take (span isText s) s ∷ recordsOf (take (k - pieceLength s) (afterFirst s))
   front-ended =
       let a = span isText s in
       let l : length (take k s) ≡ min k (length s) = length-take k s in
       let m : 0 < length (take k s) = omega arith in
       let e : span isText (take k s) ≡ a = span-take isText k s (omega arith) in
-      let r : drop (pieceLength (take k s)) (take k s) ≡ take (k - pieceLength s) (drop (pieceLength s) s) =
+      let r : afterFirst (take k s) ≡ take (k - pieceLength s) (afterFirst s) =
       ap (λ (j : ℕ). drop j (take k s)) front-piece ∙ front-rest s (pieceLength s) k in
       records-first (take k s) m
-      ∙ ap (λ (x : List ℕ). x ∷ recordsOf (drop (pieceLength (take k s)) (take k s)))
-      (ap (λ (j : ℕ). take j (take k s)) e ∙ take-take a k s (omega arith))
+      ∙ ap (λ (x : List ℕ). x ∷ recordsOf (afterFirst (take k s))) (ap (λ (j : ℕ). take j (take k s)) e ∙ take-take a k s (omega arith))
       ∙ ap (λ (x : List ℕ). take a s ∷ recordsOf x) r
 
 -- a front that ends before the terminator, or a record that has none
@@ -164,14 +137,12 @@ front-started s k h =
     by-le k (span isText s)
     (λ g. text-records (take k s) (span-part isText k s g) ∙ ap ifAny (sym (take-take k (span isText s) s g)))
     (λ g.
-    by-lt (span isText s) (length s)
-    (λ l. let t : 0 < terminatorOf (drop (span isText s) s) = some-terminator s l in absurd (omega arith))
-    (λ l.
+    let p : min (length s) (span isText s + 1) ≤ pieceLength s = first-past s in
     let m : span isText s ≤ length s = span-le isText s in
     let e : span isText s ≡ length s = omega arith in
     let a : take k s ≡ s = take-all k s (omega arith) in
-    let b : take (span isText s) s ≡ s = take-all (span isText s) s l in
-    ap recordsOf a ∙ text-records s e ∙ ap ifAny (sym (ap (λ (x : List ℕ). take k x) b ∙ a))))
+    let b : take (span isText s) s ≡ s = take-all (span isText s) s (omega arith) in
+    ap recordsOf a ∙ text-records s e ∙ ap ifAny (sym (ap (λ (x : List ℕ). take k x) b ∙ a)))
 
 -- ---- how many end, and where the next one starts: one record at a time
 module _ (s : List ℕ) (h : 0 < length s) where
@@ -179,35 +150,40 @@ module _ (s : List ℕ) (h : 0 < length s) where
   piece-size = length-take-le (pieceLength s) s (first-within s h)
 
   record-size : length (bare (take (pieceLength s) s)) ≡ span isText s
-  record-size = ap length (bare-first s) ∙ length-take-le (span isText s) s (span-le isText s)
+  record-size = ap length (bare-piece s) ∙ length-take-le (span isText s) s (span-le isText s)
 
-  ended-first : (k : ℕ)
-      → endedBefore k s
-      ≡ cond (ltb (span isText s) (min k (pieceLength s))) (suc (endedBefore (k - pieceLength s) (drop (pieceLength s) s))) 0
-  unfolding endedBefore endedIn
-  ended-first k =
-      let p = take (pieceLength s) s in
-      let ps = piecesOf (drop (pieceLength s) s) in
-      ap (λ (x : List (List ℕ)). endedIn k x) (pieces-some s h)
-      ∙ ap (λ (m : ℕ). cond (ltb m (min k (length p))) (suc (endedIn (k - length p) ps)) 0) record-size
-      ∙ ap (λ (m : ℕ). cond (ltb (span isText s) (min k m)) (suc (endedIn (k - m) ps)) 0) piece-size
+  module _ (k : ℕ) where
+    ended-first : endedBefore k s ≡ cond (ltb (span isText s) (min k (pieceLength s))) (suc (endedBefore (k - pieceLength s) (afterFirst s))) 0
+    unfolding endedBefore endedIn
+    ended-first =
+        let p = take (pieceLength s) s in
+        let ps = piecesOf (afterFirst s) in
+        ap (λ (x : List (List ℕ)). endedIn k x) (pieces-some s h)
+        ∙ ap (λ (m : ℕ). cond (ltb m (min k (length p))) (suc (endedIn (k - length p) ps)) 0) record-size
+        ∙ ap (λ (m : ℕ). cond (ltb (span isText s) (min k m)) (suc (endedIn (k - m) ps)) 0) piece-size
 
-  start-suc : (n : ℕ) → startOf s (suc n) ≡ pieceLength s + startOf (drop (pieceLength s) s) n
+    ended-here : span isText s < min k (pieceLength s) → endedBefore k s ≡ suc (endedBefore (k - pieceLength s) (afterFirst s))
+    ended-here g = ended-first ∙ cond-true _ _ _ (lt-ltb (span isText s) (min k (pieceLength s)) g)
+
+    ended-none : min k (pieceLength s) ≤ span isText s → endedBefore k s ≡ 0
+    ended-none g = ended-first ∙ cond-false _ _ _ (le-ltb (span isText s) (min k (pieceLength s)) g)
+
+  start-suc : (n : ℕ) → startOf s (suc n) ≡ pieceLength s + startOf (afterFirst s) n
   unfolding startOf flatten
   start-suc n =
       let p = take (pieceLength s) s in
-      let ps = piecesOf (drop (pieceLength s) s) in
+      let ps = piecesOf (afterFirst s) in
       ap (λ (x : List (List ℕ)). length (flatten (take (suc n) x))) (pieces-some s h)
       ∙ length-append p (flatten (take n ps))
       ∙ ap (λ (m : ℕ). m + length (flatten (take n ps))) piece-size
 
-  started-suc : (k n : ℕ) → startedBefore k s (suc n) ≡ startedBefore (k - pieceLength s) (drop (pieceLength s) s) n
+  started-suc : (k n : ℕ) → startedBefore k s (suc n) ≡ startedBefore (k - pieceLength s) (afterFirst s) n
   unfolding startedBefore
   started-suc k n =
-      let e : startOf s (suc n) ≡ pieceLength s + startOf (drop (pieceLength s) s) n = start-suc n in
-      let m : k - startOf s (suc n) ≡ k - pieceLength s - startOf (drop (pieceLength s) s) n = omega arith in
+      let e : startOf s (suc n) ≡ pieceLength s + startOf (afterFirst s) n = start-suc n in
+      let m : k - startOf s (suc n) ≡ k - pieceLength s - startOf (afterFirst s) n = omega arith in
       ap (λ (x : List (List ℕ)). take (k - startOf s (suc n)) (getD x (suc n) [])) (records-first s h)
-      ∙ ap (λ (j : ℕ). take j (getD (recordsOf (drop (pieceLength s) s)) n [])) m
+      ∙ ap (λ (j : ℕ). take j (getD (recordsOf (afterFirst s)) n [])) m
 
   started-zero : (k : ℕ) → startedBefore k s 0 ≡ take k (take (span isText s) s)
   unfolding startedBefore startOf flatten
@@ -215,47 +191,35 @@ module _ (s : List ℕ) (h : 0 < length s) where
       ap (λ (x : List (List ℕ)). take (k - 0) (getD x 0 [])) (records-first s h) ∙ ap (λ (j : ℕ). take j (take (span isText s) s)) (sub-zero k)
 
 -- ---- the records of a front
-cut-nil : (k : ℕ) → recordsOf (take k []) ≡ take (endedBefore k []) (recordsOf []) ++ ifAny (startedBefore k [] (endedBefore k []))
+abbrev CutAt : List ℕ → ℕ → Type 0
+CutAt s k = recordsOf (take k s) ≡ take (endedBefore k s) (recordsOf s) ++ ifAny (startedBefore k s (endedBefore k s))
+
+cut-nil : (k : ℕ) → CutAt [] k
 unfolding endedBefore endedIn startedBefore ifAny recordsOf piecesOf piecesIn
 cut-nil k = ap recordsOf (take-nil k) ∙ ap ifAny (sym (take-nil (k - startOf [] 0)))
 
-cut-some : (s : List ℕ) (k : ℕ) → 0 < length s
-    → recordsOf (take (k - pieceLength s) (drop (pieceLength s) s))
-    ≡ take (endedBefore (k - pieceLength s) (drop (pieceLength s) s)) (recordsOf (drop (pieceLength s) s))
-    ++ ifAny (startedBefore (k - pieceLength s) (drop (pieceLength s) s) (endedBefore (k - pieceLength s) (drop (pieceLength s) s)))
-    → recordsOf (take k s) ≡ take (endedBefore k s) (recordsOf s) ++ ifAny (startedBefore k s (endedBefore k s))
+cut-some : (s : List ℕ) (k : ℕ) → 0 < length s → CutAt (afterFirst s) (k - pieceLength s) → CutAt s k
 cut-some s k h ih =
     let a = span isText s in
-    let rest = drop (pieceLength s) s in
-    let n = endedBefore (k - pieceLength s) rest in
+    let n = endedBefore (k - pieceLength s) (afterFirst s) in
     by-lt a (min k (pieceLength s))
     (λ g.
-    let e : endedBefore k s ≡ suc n = ended-first s h k ∙ cond-true _ _ _ (lt-ltb a (min k (pieceLength s)) g) in
     front-ended s k h (omega arith)
     ∙ ap (λ (x : List (List ℕ)). take a s ∷ x) ih
-    ∙ ap (λ (x : List ℕ). take a s ∷ (take n (recordsOf rest) ++ ifAny x)) (sym (started-suc s h k n))
+    ∙ ap (λ (x : List ℕ). take a s ∷ (take n (recordsOf (afterFirst s)) ++ ifAny x)) (sym (started-suc s h k n))
     ∙ ap (λ (x : List (List ℕ)). take (suc n) x ++ ifAny (startedBefore k s (suc n))) (sym (records-first s h))
-    ∙ ap (λ (j : ℕ). take j (recordsOf s) ++ ifAny (startedBefore k s j)) (sym e))
+    ∙ ap (λ (j : ℕ). take j (recordsOf s) ++ ifAny (startedBefore k s j)) (sym (ended-here s h k g)))
     (λ g.
-    let e : endedBefore k s ≡ 0 = ended-first s h k ∙ cond-false _ _ _ (le-ltb a (min k (pieceLength s)) g) in
     front-started s k g
     ∙ ap ifAny (sym (started-zero s h k))
-    ∙ ap (λ (j : ℕ). take j (recordsOf s) ++ ifAny (startedBefore k s j)) (sym e))
+    ∙ ap (λ (j : ℕ). take j (recordsOf s) ++ ifAny (startedBefore k s j)) (sym (ended-none s h k g)))
 
-rest-shorter : (c : ℕ) (s : List ℕ) (m : ℕ) → length s ≤ m → length (drop (pieceLength (c ∷ s)) (c ∷ s)) ≤ m
-rest-shorter c s m h =
-    let f : length (drop (pieceLength (c ∷ s)) (c ∷ s)) ≡ suc (length s) - pieceLength (c ∷ s) = length-drop (pieceLength (c ∷ s)) (c ∷ s) in
-    let g : 0 < pieceLength (c ∷ s) = first-forward (c ∷ s) (suc-le-suc zero-le) in
-    omega arith
-
-cut-in : (m : ℕ) (s : List ℕ) (k : ℕ) → length s ≤ m
-    → recordsOf (take k s) ≡ take (endedBefore k s) (recordsOf s) ++ ifAny (startedBefore k s (endedBefore k s))
+cut-in : (m : ℕ) (s : List ℕ) (k : ℕ) → length s ≤ m → CutAt s k
 cut-in zero [] k h = cut-nil k
 cut-in zero (c ∷ s) k h = absurd (not-suc-le-zero h)
 cut-in (suc m) [] k h = cut-nil k
 cut-in (suc m) (c ∷ s) k h =
-    cut-some (c ∷ s) k (suc-le-suc zero-le)
-    (cut-in m (drop (pieceLength (c ∷ s)) (c ∷ s)) (k - pieceLength (c ∷ s)) (rest-shorter c s m (le-of-suc-le-suc h)))
+    cut-some (c ∷ s) k (suc-le-suc zero-le) (cut-in m (afterFirst (c ∷ s)) (k - pieceLength (c ∷ s)) (piece-shorter c s (le-of-suc-le-suc h)))
 
 -- the records of the first k bytes: those whose terminator's first byte lies before k, and then what there is of the next
 pub records-cut : (stream : List ℕ) (k : ℕ) → recordsOf (take k stream) ≡ take (endedBefore k stream) (recordsOf stream) ++ cutRecord k stream
@@ -267,54 +231,14 @@ ended-in : (k : ℕ) (ps : List (List ℕ)) → endedIn k ps ≤ length ps
 unfolding endedIn
 ended-in k [] = zero-le
 ended-in k (p ∷ ps) =
-    by-test (λ (n : ℕ). n ≤ suc (length ps)) (endsBefore k p) (suc (endedIn (k - length p) ps)) 0 (λ e. suc-le-suc (ended-in (k - length p) ps)) (λ e. zero-le)
+    by-test (λ (n : ℕ). n ≤ suc (length ps)) (endsBefore k p) (suc (endedIn (k - length p) ps)) 0
+    (λ e. suc-le-suc (ended-in (k - length p) ps))
+    (λ e. zero-le)
 
 pub ended-few : (stream : List ℕ) (k : ℕ) → endedBefore k stream ≤ length (recordsOf stream)
 unfolding endedBefore recordsOf
 ended-few stream k =
     subst (λ (n : ℕ). endedIn k (piecesOf stream) ≤ n) (sym (length-map (piecesOf stream) bare)) (ended-in k (piecesOf stream))
-
--- one record at most is cut
-any-one : (xs : List ℕ) → length (ifAny xs) ≤ 1
-unfolding ifAny
-any-one [] = zero-le
-any-one (c ∷ cs) = le-refl 1
-
-pub cut-one : (stream : List ℕ) (k : ℕ) → length (cutRecord k stream) ≤ 1
-unfolding cutRecord
-cut-one stream k = any-one (startedBefore k stream (endedBefore k stream))
-
--- ---- a front that ends where a record starts
-front-whole : (s : List ℕ) (k : ℕ) → 0 < length s → pieceLength s ≤ k
-    → recordsOf (take k s) ≡ take (span isText s) s ∷ recordsOf (take (k - pieceLength s) (drop (pieceLength s) s))
-front-whole s k h g =
-    by-lt (span isText s) k (λ l. front-ended s k h l)
-    (λ l.
-    by-lt (span isText s) (length s)
-    (λ m. let t : 0 < terminatorOf (drop (span isText s) s) = some-terminator s m in absurd (omega arith))
-    (λ m.
-    let n : pieceLength s ≤ length s = first-within s h in
-    let e : drop (pieceLength s) s ≡ [] = drop-of-length-le s {i = pieceLength s} (omega arith) in
-    let z : k - pieceLength s ≡ 0 = omega arith in
-    ap recordsOf (take-all k s (omega arith))
-    ∙ records-first s h
-    ∙ ap (λ (x : List ℕ). take (span isText s) s ∷ recordsOf x) (e ∙ ap (λ (j : ℕ). take j (drop (pieceLength s) s)) (sym z))))
-
-pub records-front : (n : ℕ) (stream : List ℕ) → recordsOf (take (startOf stream n) stream) ≡ take n (recordsOf stream)
-unfolding startOf flatten
-records-front zero stream = records-end [] 0 zero-le
-records-front (suc n) [] =
-    ap recordsOf (take-nil (startOf [] (suc n))) ∙ records-end [] 0 zero-le ∙ sym (ap (λ (x : List (List ℕ)). take (suc n) x) (records-end [] 0 zero-le))
-records-front (suc n) (c ∷ s) =
-    let stream = c ∷ s in
-    let h : 0 < length stream = suc-le-suc zero-le in
-    let rest = drop (pieceLength stream) stream in
-    let e : startOf stream (suc n) ≡ pieceLength stream + startOf rest n = start-suc stream h n in
-    let m : startOf stream (suc n) - pieceLength stream ≡ startOf rest n = omega arith in
-    front-whole stream (startOf stream (suc n)) h (omega arith)
-    ∙ ap (λ (j : ℕ). take (span isText stream) stream ∷ recordsOf (take j rest)) m
-    ∙ ap (λ (x : List (List ℕ)). take (span isText stream) stream ∷ x) (records-front n rest)
-    ∙ ap (λ (x : List (List ℕ)). take (suc n) x) (sym (records-first stream h))
 
 -- ---- which they are: record i has ended exactly if the place behind its characters lies in the stream and before k
 module _ (s : List ℕ) (h : 0 < length s) where
@@ -325,93 +249,50 @@ module _ (s : List ℕ) (h : 0 < length s) where
       ap (λ (x : List (List ℕ)). length (getD x 0 [])) (records-first s h) ∙ length-take-le (span isText s) s (span-le isText s) in
       omega arith
 
-  end-suc : (i : ℕ) → textEnd s (suc i) ≡ pieceLength s + textEnd (drop (pieceLength s) s) i
+  end-suc : (i : ℕ) → textEnd s (suc i) ≡ pieceLength s + textEnd (afterFirst s) i
   end-suc i =
-      let e : startOf s (suc i) ≡ pieceLength s + startOf (drop (pieceLength s) s) i = start-suc s h i in
-      let f : length (getD (recordsOf s) (suc i) []) ≡ length (getD (recordsOf (drop (pieceLength s) s)) i []) =
+      let e : startOf s (suc i) ≡ pieceLength s + startOf (afterFirst s) i = start-suc s h i in
+      let f : length (getD (recordsOf s) (suc i) []) ≡ length (getD (recordsOf (afterFirst s)) i []) =
       ap (λ (x : List (List ℕ)). length (getD x (suc i) [])) (records-first s h) in
       omega arith
 
-  -- a record without a terminator is the last
-  text-last : pieceLength s ≤ span isText s → length s ≤ pieceLength s
-  text-last g =
-      by-lt (span isText s) (length s)
-      (λ l. let t : 0 < terminatorOf (drop (span isText s) s) = some-terminator s l in absurd (omega arith))
-      (λ l. omega arith)
+abbrev EndedAt : List ℕ → ℕ → ℕ → Type 0
+EndedAt s k i = (i < endedBefore k s) ↔ (textEnd s i < min k (length s))
 
-  rest-size : length (drop (pieceLength s) s) ≡ length s - pieceLength s
-  rest-size = length-drop (pieceLength s) s
+module _ (s : List ℕ) (h : 0 < length s) (k : ℕ) where
+  zero-are : EndedAt s k 0
+  zero-are =
+      let e : textEnd s 0 ≡ span isText s = end-zero s h in
+      let p : min (length s) (span isText s + 1) ≤ pieceLength s = first-past s in
+      let w : pieceLength s ≤ length s = first-within s h in
+      by-lt (span isText s) (min k (pieceLength s))
+      (λ l.
+      let z : endedBefore k s ≡ suc (endedBefore (k - pieceLength s) (afterFirst s)) = ended-here s h k l in
+      ((λ g. omega arith), (λ g. omega arith)))
+      (λ l. let z : endedBefore k s ≡ 0 = ended-none s h k l in ((λ g. absurd (omega arith)), (λ g. absurd (omega arith))))
 
-  module _ (k : ℕ) where
-    ended-here : span isText s < min k (pieceLength s) → endedBefore k s ≡ suc (endedBefore (k - pieceLength s) (drop (pieceLength s) s))
-    ended-here g = ended-first s h k ∙ cond-true _ _ _ (lt-ltb (span isText s) (min k (pieceLength s)) g)
+  suc-are : (i : ℕ) → EndedAt (afterFirst s) (k - pieceLength s) i → EndedAt s k (suc i)
+  suc-are i ih =
+      let e : textEnd s (suc i) ≡ pieceLength s + textEnd (afterFirst s) i = end-suc s h i in
+      let r : length (afterFirst s) ≡ length s - pieceLength s = length-drop (pieceLength s) s in
+      let p : min (length s) (span isText s + 1) ≤ pieceLength s = first-past s in
+      by-lt (span isText s) (min k (pieceLength s))
+      (λ l.
+      let z : endedBefore k s ≡ suc (endedBefore (k - pieceLength s) (afterFirst s)) = ended-here s h k l in (
+        (λ g. let f : textEnd (afterFirst s) i < min (k - pieceLength s) (length (afterFirst s)) = ih .0 (omega arith) in omega arith),
+        (λ g. let f : i < endedBefore (k - pieceLength s) (afterFirst s) = ih .1 (omega arith) in omega arith),
+      ))
+      (λ l. let z : endedBefore k s ≡ 0 = ended-none s h k l in ((λ g. absurd (omega arith)), (λ g. absurd (omega arith))))
 
-    ended-none : min k (pieceLength s) ≤ span isText s → endedBefore k s ≡ 0
-    ended-none g = ended-first s h k ∙ cond-false _ _ _ (le-ltb (span isText s) (min k (pieceLength s)) g)
-
-    -- the first
-    zero-to : 0 < endedBefore k s → textEnd s 0 < min k (length s)
-    zero-to g =
-        let e : textEnd s 0 ≡ span isText s = end-zero in
-        let w : pieceLength s ≤ length s = first-within s h in
-        by-lt (span isText s) (min k (pieceLength s)) (λ l. omega arith)
-        (λ l. let z : endedBefore k s ≡ 0 = ended-none l in absurd (omega arith))
-
-    zero-from : textEnd s 0 < min k (length s) → 0 < endedBefore k s
-    zero-from g =
-        let e : textEnd s 0 ≡ span isText s = end-zero in
-        let t : 0 < terminatorOf (drop (span isText s) s) = some-terminator s (omega arith) in
-        let z : endedBefore k s ≡ suc (endedBefore (k - pieceLength s) (drop (pieceLength s) s)) = ended-here (omega arith) in
-        omega arith
-
-    -- the others, as they are counted from the second on
-    module _ (i : ℕ) where
-      suc-to : (i < endedBefore (k - pieceLength s) (drop (pieceLength s) s)
-          → textEnd (drop (pieceLength s) s) i < min (k - pieceLength s) (length (drop (pieceLength s) s)))
-          → suc i < endedBefore k s → textEnd s (suc i) < min k (length s)
-      suc-to ih g =
-          let e : textEnd s (suc i) ≡ pieceLength s + textEnd (drop (pieceLength s) s) i = end-suc i in
-          let r : length (drop (pieceLength s) s) ≡ length s - pieceLength s = rest-size in
-          by-lt (span isText s) (min k (pieceLength s))
-          (λ l.
-          let z : endedBefore k s ≡ suc (endedBefore (k - pieceLength s) (drop (pieceLength s) s)) = ended-here l in
-          let f : textEnd (drop (pieceLength s) s) i < min (k - pieceLength s) (length (drop (pieceLength s) s)) = ih (omega arith) in
-          omega arith)
-          (λ l. let z : endedBefore k s ≡ 0 = ended-none l in absurd (omega arith))
-
-      suc-from : (textEnd (drop (pieceLength s) s) i < min (k - pieceLength s) (length (drop (pieceLength s) s))
-          → i < endedBefore (k - pieceLength s) (drop (pieceLength s) s))
-          → textEnd s (suc i) < min k (length s) → suc i < endedBefore k s
-      suc-from ih g =
-          let e : textEnd s (suc i) ≡ pieceLength s + textEnd (drop (pieceLength s) s) i = end-suc i in
-          let r : length (drop (pieceLength s) s) ≡ length s - pieceLength s = rest-size in
-          by-lt (span isText s) (min k (pieceLength s))
-          (λ l.
-          let z : endedBefore k s ≡ suc (endedBefore (k - pieceLength s) (drop (pieceLength s) s)) = ended-here l in
-          let f : i < endedBefore (k - pieceLength s) (drop (pieceLength s) s) = ih (omega arith) in
-          omega arith)
-          (λ l.
-          by-le (pieceLength s) (span isText s)
-          (λ m. let w : length s ≤ pieceLength s = text-last m in absurd (omega arith))
-          (λ m. absurd (omega arith)))
-
-ended-to : (i : ℕ) (stream : List ℕ) (k : ℕ) → i < endedBefore k stream → textEnd stream i < min k (length stream)
+none-are : (k i : ℕ) → EndedAt [] k i
 unfolding endedBefore endedIn piecesOf piecesIn
-ended-to zero [] k h = absurd (not-suc-le-zero h)
-ended-to zero (c ∷ s) k h = zero-to (c ∷ s) (suc-le-suc zero-le) k h
-ended-to (suc i) [] k h = absurd (not-suc-le-zero h)
-ended-to (suc i) (c ∷ s) k h =
-    suc-to (c ∷ s) (suc-le-suc zero-le) k i (ended-to i (drop (pieceLength (c ∷ s)) (c ∷ s)) (k - pieceLength (c ∷ s))) h
+none-are k i = ((λ g. absurd (not-suc-le-zero g)), (λ g. absurd (omega arith)))
 
-ended-from : (i : ℕ) (stream : List ℕ) (k : ℕ) → textEnd stream i < min k (length stream) → i < endedBefore k stream
-ended-from zero [] k h = absurd (omega arith)
-ended-from zero (c ∷ s) k h = zero-from (c ∷ s) (suc-le-suc zero-le) k h
-ended-from (suc i) [] k h = absurd (omega arith)
-ended-from (suc i) (c ∷ s) k h =
-    suc-from (c ∷ s) (suc-le-suc zero-le) k i (ended-from i (drop (pieceLength (c ∷ s)) (c ∷ s)) (k - pieceLength (c ∷ s))) h
-
-pub ended-are : (stream : List ℕ) (k i : ℕ) → (i < endedBefore k stream) ↔ (textEnd stream i < min k (length stream))
-ended-are stream k i = (ended-to i stream k, ended-from i stream k)
+pub ended-are : (i : ℕ) (stream : List ℕ) (k : ℕ) → (i < endedBefore k stream) ↔ (textEnd stream i < min k (length stream))
+ended-are zero [] k = none-are k 0
+ended-are zero (c ∷ s) k = zero-are (c ∷ s) (suc-le-suc zero-le) k
+ended-are (suc i) [] k = none-are k (suc i)
+ended-are (suc i) (c ∷ s) k = suc-are (c ∷ s) (suc-le-suc zero-le) k i (ended-are i (afterFirst (c ∷ s)) (k - pieceLength (c ∷ s)))
 
 -- that place holds the first byte of a terminator
 pub end-byte : (i : ℕ) (stream : List ℕ) → textEnd stream i < length stream → isEnd (getD stream (textEnd stream i) 0) ≡ true
@@ -423,10 +304,8 @@ end-byte zero (c ∷ s) h =
 end-byte (suc i) [] h = absurd (omega arith)
 end-byte (suc i) (c ∷ s) h =
     let stream = c ∷ s in
-    let some : 0 < length stream = suc-le-suc zero-le in
-    let rest = drop (pieceLength stream) stream in
-    let e : textEnd stream (suc i) ≡ pieceLength stream + textEnd rest i = end-suc stream some i in
-    let r : length rest ≡ length stream - pieceLength stream = rest-size stream some in
+    let e : textEnd stream (suc i) ≡ pieceLength stream + textEnd (afterFirst stream) i = end-suc stream (suc-le-suc zero-le) i in
+    let r : length (afterFirst stream) ≡ length stream - pieceLength stream = length-drop (pieceLength stream) stream in
     ap (λ (j : ℕ). isEnd (getD stream j 0)) e
-    ∙ ap isEnd (sym (getD-drop (pieceLength stream) stream (textEnd rest i) 0))
-    ∙ end-byte i rest (omega arith)
+    ∙ ap isEnd (sym (getD-drop (pieceLength stream) stream (textEnd (afterFirst stream) i) 0))
+    ∙ end-byte i (afterFirst stream) (omega arith)

@@ -25,10 +25,11 @@ use Rattle.value_level.specs.Level.{hexWordOf, hexOf, levelWordOf, upperOf, lev
 use Rattle.load.specs.Condition.{isError}
 use Rattle.load.specs.Item.{rangedOf as rangedOf₂, onRanged, onLevel, pairOf, pairsOf, faultsOf, done, allDone}
 use Rattle.load.specs.Run.{stops, runFrom, loadOf, allReports, classOf, eqClass, tallyOf, lastOf, closingOf, reportWord, totalsOf}
-use Rattle.load.specs.Ask.{numberedBy, numeralOf, pageAt, namedBy, namedOf, augments, onTime, delayOf, fadeOf, timesOf}
-use Rattle.load.specs.Step.{openedBy, stepOf, recordStep, ignoredIn, outcomeReports, conditionsOf}
+use Rattle.load.specs.Ask.{numberedBy, numeralOf, pageAt, namedBy, namedOf, namedAsk, primaryAsk, augments, onTime, delayOf, fadeOf, timesOf}
+use Rattle.load.specs.Ask.{changeAsk, obeyedAsk, secondaryAsk, keywordAsk, fieldsAsk, askOf}
+use Rattle.load.specs.Step.{openedBy, acted, recordStep, ignoredIn, outcomeReports, conditionsOf}
 use Rattle.theorem_told.specs.Edges.{edges, wantedOf, keptBy, loaded, answerOf}
 
 pub edges-hold : map answerOf edges ≡ map wantedOf edges
-unfolding put span firstFrom firstSlot slotCount pagesOf supported eqKey allOf levelWidth levelsLength slotLength subSlots slotsOf patchStart entriesOf storeLength encodeHead decodeHead total packed unpacked lowestUnused newSeat seat blankHead blankSlot started editHead withHead editSlot editAt edited hasTimes hasLink slotAt putSlot headAt levelsAt levelPlace holdsAt find onFound memoryAt memoryOf isHigh isControl isMark keptFrom has isEnd terminated piecesIn piecesOf bare recordsOf upper sameText sameWord meaningOf keywordRows keywordOf isDelimiter wordsIn wordsOf fieldsOf digitOf digitsFrom runOf integerOf numberedOf numberOf cutAt decimalsOf rangedOf partOf joinOf laterOf clockOf timedOf timeOf hexWordOf hexOf levelWordOf upperOf levelOf isError rangedOf₂ onRanged onLevel pairOf pairsOf faultsOf done allDone stops runFrom loadOf allReports classOf eqClass tallyOf lastOf closingOf reportWord totalsOf numberedBy numeralOf pageAt namedBy namedOf openedBy primaryOf augments onTime delayOf fadeOf timesOf changedBy obeyedBy secondaryBy keywordStep stepOf recordStep ignoredIn outcomeReports conditionsOf keptBy loaded answerOf
+unfolding put span firstFrom firstSlot slotCount pagesOf supported eqKey allOf levelWidth levelsLength slotLength subSlots slotsOf patchStart entriesOf storeLength encodeHead decodeHead total packed unpacked lowestUnused newSeat seat blankHead blankSlot started editHead withHead editSlot editAt edited hasTimes hasLink slotAt putSlot headAt levelsAt levelPlace holdsAt find onFound memoryAt memoryOf isHigh isControl isMark keptFrom has isEnd terminated piecesIn piecesOf bare recordsOf upper sameText sameWord meaningOf keywordRows keywordOf isDelimiter wordsIn wordsOf fieldsOf digitOf digitsFrom runOf integerOf numberedOf numberOf cutAt decimalsOf rangedOf partOf joinOf laterOf clockOf timedOf timeOf hexWordOf hexOf levelWordOf upperOf levelOf isError rangedOf₂ onRanged onLevel pairOf pairsOf faultsOf done allDone stops runFrom loadOf allReports classOf eqClass tallyOf lastOf closingOf reportWord totalsOf numberedBy numeralOf pageAt namedBy namedOf namedAsk primaryAsk augments onTime delayOf fadeOf timesOf changeAsk obeyedAsk secondaryAsk keywordAsk fieldsAsk askOf openedBy acted recordStep ignoredIn outcomeReports conditionsOf keptBy loaded answerOf
 edges-hold = refl

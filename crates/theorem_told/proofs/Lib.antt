@@ -2,10 +2,9 @@ pub mod Edges
 pub mod Runs
 pub mod Tallies
 pub mod Lent
-pub mod Steps
 pub mod Untouched
-pub mod Counts
 pub mod Cut
 pub mod BrokenOff
 pub mod Behind
 pub mod Past
+pub mod Bytes

@@ -2,18 +2,16 @@
 -- first part, and by cases on whether a record stops the load.
 -- Assumes nothing.
 use mathlib.Core.Path.{_≡_, refl, sym, ap, _∙_}
-use mathlib.Core.Bool.{true, false}
+use mathlib.Core.Bool.{true, false, cond}
 use mathlib.Core.List.{List, [], _∷_, _++_, append-assoc, append-nil}
-use Prim.Native.Nat.{ℕ, zero, suc, _+_}
+use Prim.Native.Nat.{ℕ, suc, _+_}
 use native.Mathlib.Omega.{arith}
-use lib.ListN.{length, take}
-use lib.Seq.{take-nil}
-use Rattle.cells.proofs.Split.{by-bool, clash, cond-true, cond-false}
+use lib.ListN.{length}
+use Rattle.cells.proofs.Split.{by-test, clash, cond-ap, cond-true, cond-false}
 use Rattle.store_desk.specs.declared.Desk.{Desk}
 use Rattle.load.specs.declared.State.{State}
-use Rattle.load.specs.declared.Outcome.{Outcome}
 use Rattle.load.specs.Step.{Step, recordStep, conditionsOf}
-use Rattle.load.specs.Run.{Run, Report, stops, none, only, andThen, reportsAt, runFrom}
+use Rattle.load.specs.Run.{Run, Report, stops, only, andThen, reportsAt, runFrom}
 use Rattle.theorem_told.specs.Classes.{joined, goneOn}
 
 -- ---- in two parts
@@ -29,112 +27,69 @@ gone-joined d n x rs e = cond-false _ _ _ e
 -- a record before a run that goes on
 and-goes : (d : Desk) (n m : ℕ) (r : List ℕ) (x : Step) (y : Run) (rs : List (List ℕ))
     → andThen n r x (goneOn d m y rs) ≡ goneOn d m (andThen n r x y) rs
+unfolding goneOn
 and-goes d n m r x y rs =
-    by-bool (y .stopped)
-    (λ e. ap (λ (z : Run). andThen n r x z) (gone-stopped d m y rs e) ∙ sym (gone-stopped d m (andThen n r x y) rs e))
-    (λ e.
     let z = runFrom d m (y .state) (y .store) rs in
-    let a : reportsAt n (conditionsOf r x) ++ (y .reports ++ z .reports) ≡ (reportsAt n (conditionsOf r x) ++ y .reports) ++ z .reports =
-    sym (append-assoc (reportsAt n (conditionsOf r x)) (y .reports) (z .reports)) in
-    ap (λ (w : Run). andThen n r x w) (gone-joined d m y rs e)
+    cond-ap (λ (w : Run). andThen n r x w) (y .stopped) y (joined y z)
     ∙ ap
-    (λ (l : List Report). record { state = z .state; store = z .store; stopped = z .stopped; outcomes = x .outcome ∷ (y .outcomes ++ z .outcomes); reports = l })
-    a
-    ∙ sym (gone-joined d m (andThen n r x y) rs e))
+    (λ (l : List Report). cond (y .stopped) (andThen n r x y)
+    (record { state = z .state; store = z .store; stopped = z .stopped; outcomes = x .outcome ∷ (y .outcomes ++ z .outcomes); reports = l }))
+    (sym (append-assoc (reportsAt n (conditionsOf r x)) (y .reports) (z .reports)))
 
 pub run-append : (d : Desk) (n : ℕ) (s : State) (t : List ℕ) (rs more : List (List ℕ))
     → runFrom d n s t (rs ++ more) ≡ goneOn d (n + length rs) (runFrom d n s t rs) more
-run-append d n s t [] more =
-    let z : n ≡ n + 0 = omega arith in
-    ap (λ (m : ℕ). runFrom d m s t more) z
-    ∙ sym (gone-joined d (n + 0) (none s t) more refl)
-    ∙ ap (λ (x : Run). goneOn d (n + 0) x more) (sym (run-none d n s t))
+unfolding runFrom goneOn
+run-append d n s t [] more = let z : n ≡ n + 0 = omega arith in ap (λ (m : ℕ). runFrom d m s t more) z
 run-append d n s t (r ∷ rs) more =
     let x = recordStep d s r t in
+    let rest = runFrom d (n + 1) (x .state) (x .store) rs in
     let m : n + 1 + length rs ≡ n + suc (length rs) = omega arith in
-    by-bool (stops (x .outcome))
-    (λ e.
-    run-stops d n s t r (rs ++ more) e
-    ∙ sym (gone-stopped d (n + suc (length rs)) (only (n + 1) r x) more refl)
-    ∙ ap (λ (y : Run). goneOn d (n + suc (length rs)) y more) (sym (run-stops d n s t r rs e)))
-    (λ e.
-    run-goes d n s t r (rs ++ more) e
-    ∙ ap (λ (y : Run). andThen (n + 1) r x y) (run-append d (n + 1) (x .state) (x .store) rs more)
-    ∙ and-goes d (n + 1) (n + 1 + length rs) r x (runFrom d (n + 1) (x .state) (x .store) rs) more
-    ∙ ap (λ (k : ℕ). goneOn d k (andThen (n + 1) r x (runFrom d (n + 1) (x .state) (x .store) rs)) more) m
-    ∙ ap (λ (y : Run). goneOn d (n + suc (length rs)) y more) (sym (run-goes d n s t r rs e)))
+    ap (λ (y : Run). cond (stops (x .outcome)) (only (n + 1) r x) (andThen (n + 1) r x y)) (run-append d (n + 1) (x .state) (x .store) rs more)
+    ∙ ap (λ (y : Run). cond (stops (x .outcome)) (only (n + 1) r x) y)
+    (and-goes d (n + 1) (n + 1 + length rs) r x rest more ∙ ap (λ (k : ℕ). goneOn d k (andThen (n + 1) r x rest) more) m)
+    ∙ sym (cond-ap (λ (y : Run). goneOn d (n + suc (length rs)) y more) (stops (x .outcome)) _ _)
 
 -- with no others, nothing more
 pub gone-none : (d : Desk) (n : ℕ) (x : Run) → goneOn d n x [] ≡ x
+unfolding goneOn runFrom
 gone-none d n x =
-    by-bool (x .stopped) (λ e. gone-stopped d n x [] e)
-    (λ e.
-    gone-joined d n x [] e
-    ∙ ap (λ (y : Run). joined x y) (run-none d n (x .state) (x .store))
-    ∙ (λ i.
+    by-test (λ (y : Run). y ≡ x) (x .stopped) _ _ (λ e. refl)
+    (λ e i.
     record {
       state = x .state;
       store = x .store;
       stopped = sym e i;
       outcomes = append-nil (x .outcomes) i;
       reports = append-nil (x .reports) i;
-    }))
+    })
 
--- ---- the records read
--- of the first m records, the first m outcomes
-pub run-front : (d : Desk) (n : ℕ) (s : State) (t : List ℕ) (m : ℕ) (rs : List (List ℕ))
-    → runFrom d n s t (take m rs) .outcomes ≡ take m (runFrom d n s t rs .outcomes)
-run-front d n s t zero rs = ap (λ (x : Run). x .outcomes) (run-none d n s t)
-run-front d n s t (suc m) [] =
-    ap (λ (x : Run). x .outcomes) (run-none d n s t) ∙ sym (ap (λ (x : Run). take (suc m) (x .outcomes)) (run-none d n s t))
-run-front d n s t (suc m) (r ∷ rs) =
-    let x = recordStep d s r t in
-    by-bool (stops (x .outcome))
-    (λ e.
-    ap (λ (y : Run). y .outcomes) (run-stops d n s t r (take m rs) e)
-    ∙ ap (λ (os : List Outcome). x .outcome ∷ os) (sym (take-nil m))
-    ∙ sym (ap (λ (y : Run). take (suc m) (y .outcomes)) (run-stops d n s t r rs e)))
-    (λ e.
-    ap (λ (y : Run). y .outcomes) (run-goes d n s t r (take m rs) e)
-    ∙ ap (λ (os : List Outcome). x .outcome ∷ os) (run-front d (n + 1) (x .state) (x .store) m rs)
-    ∙ sym (ap (λ (y : Run). take (suc m) (y .outcomes)) (run-goes d n s t r rs e)))
-
--- a load that did not stop read them all
+-- ---- a load that did not stop read them all
 pub run-read : (d : Desk) (n : ℕ) (s : State) (t : List ℕ) (rs : List (List ℕ)) → runFrom d n s t rs .stopped ≡ false
     → length (runFrom d n s t rs .outcomes) ≡ length rs
-run-read d n s t [] h = ap (λ (x : Run). length (x .outcomes)) (run-none d n s t)
-run-read d n s t (r ∷ rs) h =
+unfolding runFrom
+run-read d n s t [] = λ h. refl
+run-read d n s t (r ∷ rs) =
     let x = recordStep d s r t in
-    by-bool (stops (x .outcome))
-    (λ e. clash {b = true} refl (sym (ap (λ (y : Run). y .stopped) (run-stops d n s t r rs e)) ∙ h))
-    (λ e.
-    ap (λ (y : Run). length (y .outcomes)) (run-goes d n s t r rs e)
-    ∙ ap suc (run-read d (n + 1) (x .state) (x .store) rs (sym (ap (λ (y : Run). y .stopped) (run-goes d n s t r rs e)) ∙ h)))
+    by-test (λ (y : Run). y .stopped ≡ false → length (y .outcomes) ≡ suc (length rs)) (stops (x .outcome)) _ _
+    (λ e h. clash {b = true} refl h)
+    (λ e h. ap suc (run-read d (n + 1) (x .state) (x .store) rs h))
 
 -- ---- one record alone
-module _ (d : Desk) (n : ℕ) (s : State) (t r : List ℕ) where
-  pub run-one-store : runFrom d n s t (r ∷ []) .store ≡ recordStep d s r t .store
-  run-one-store =
-      let x = recordStep d s r t in
-      by-bool (stops (x .outcome)) (λ e. ap (λ (y : Run). y .store) (run-stops d n s t r [] e))
-      (λ e.
-      ap (λ (y : Run). y .store) (run-goes d n s t r [] e) ∙ ap (λ (y : Run). y .store) (run-none d (n + 1) (x .state) (x .store)))
+abbrev pub alone : ℕ → List ℕ → Step → Run
+alone n r x =
+    record {
+      state = x .state;
+      store = x .store;
+      stopped = stops (x .outcome);
+      outcomes = x .outcome ∷ [];
+      reports = reportsAt n (conditionsOf r x);
+    }
 
-  pub run-one-reports : runFrom d n s t (r ∷ []) .reports ≡ reportsAt (n + 1) (conditionsOf r (recordStep d s r t))
-  run-one-reports =
-      let x = recordStep d s r t in
-      let own = reportsAt (n + 1) (conditionsOf r x) in
-      by-bool (stops (x .outcome)) (λ e. ap (λ (y : Run). y .reports) (run-stops d n s t r [] e))
-      (λ e.
-      ap (λ (y : Run). y .reports) (run-goes d n s t r [] e)
-      ∙ ap (λ (y : Run). own ++ y .reports) (run-none d (n + 1) (x .state) (x .store))
-      ∙ append-nil own)
-
-  pub run-one-stopped : runFrom d n s t (r ∷ []) .stopped ≡ stops (recordStep d s r t .outcome)
-  run-one-stopped =
-      let x = recordStep d s r t in
-      by-bool (stops (x .outcome)) (λ e. ap (λ (y : Run). y .stopped) (run-stops d n s t r [] e) ∙ sym e)
-      (λ e.
-      ap (λ (y : Run). y .stopped) (run-goes d n s t r [] e)
-      ∙ ap (λ (y : Run). y .stopped) (run-none d (n + 1) (x .state) (x .store))
-      ∙ sym e)
+pub run-one : (d : Desk) (n : ℕ) (s : State) (t r : List ℕ) → runFrom d n s t (r ∷ []) ≡ alone (n + 1) r (recordStep d s r t)
+unfolding runFrom
+run-one d n s t r =
+    let x = recordStep d s r t in
+    let own = reportsAt (n + 1) (conditionsOf r x) in
+    by-test (λ (y : Run). y ≡ alone (n + 1) r x) (stops (x .outcome)) _ _
+    (λ e i. record { state = x .state; store = x .store; stopped = sym e i; outcomes = x .outcome ∷ []; reports = own })
+    (λ e i. record { state = x .state; store = x .store; stopped = sym e i; outcomes = x .outcome ∷ []; reports = append-nil own i })

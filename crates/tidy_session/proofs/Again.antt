@@ -13,7 +13,7 @@ use Rattle.text_records.specs.Stream.{recordsOf}
 use Rattle.load.specs.Run.{totalsOf, storedIn, allReports}
 use Rattle.theorem_same_show.specs.Show.{ReadBack, allObeyed}
 use Rattle.theorem_same_show.proofs.Theorem.{written-reads-back, records-written}
-use Rattle.theorem_called.proofs.Bytes.{zero-bytes, load-bytes}
+use Rattle.theorem_told.proofs.Bytes.{zero-bytes, load-bytes}
 use Rattle.tidy_printed.specs.Text.{reportsText, toldText, endText}
 use Rattle.tidy_session.specs.Session.{mostInput, mostShown, emptyStore, readIn, reportList, answerText, tidyText}
 use Rattle.tidy_session.specs.Again.{keptStream, Again}
