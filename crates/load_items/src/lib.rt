@@ -10,16 +10,16 @@ ghost use Rattle.load.specs.Item.{rangedOf, pairOf, tripleOf, entriesIn, doneAt
 ghost use Rattle.store_code.specs.Fits.{Fitting};
 ghost use Rattle.load_items.specs.Take.{AimFits, ItemsReady, takenAs, takenOf};
 ghost use Rattle.load_items.specs.Each.{Lies, On, itemAt, EntryFits, isFault, told};
-use store_desk::Desk;
-use text_fields::Field;
-use value_level::Leveled;
 use load::Aim;
 use load::Entry;
 use load::Faults;
 use load::Group;
 use load::Ranged;
 use store::Edit;
+use store_desk::Desk;
+use text_fields::Field;
 use value::Integer;
+use value_level::Leveled;
 
 const MALFORMED_INTEGER: u32 = 171;
 

@@ -187,7 +187,10 @@ fn channel_length(pairs: usize, channel: u32, level: u8) -> usize
     requires { ⌜ 0 < level ⌝ }
     ensures { λ r. ⌜ r ≡ length (channelText pairs channel level) ⌝ }
 {
-    lead_length(pairs) + value_written::integer_length(channel) + value_written::level_length(level) + 2
+    lead_length(pairs)
+        + value_written::integer_length(channel)
+        + value_written::level_length(level)
+        + 2
 }
 
 fn last_length(pairs: usize) -> usize
