@@ -69,12 +69,16 @@ placeFits d Sub i key = eqb i (subSlot d key)
 abbrev pub nameAt : Desk → List ℕ → ℕ → Name
 nameAt d s i = record { kind = kindAt d i; key = keyOf (headAt d s i) }
 
--- a used slot has a name that the desk can have, at its place, and values in range; an unused slot is all zero
+-- a used slot by its head: a name that the desk can have, at its place, and values in range
+abbrev pub usedFits : Desk → ℕ → Head → Bool
+usedFits d i h =
+    okName d (record { kind = kindAt d i; key = keyOf h })
+    && placeFits d (kindAt d i) i (keyOf h)
+    && valuesFit (kindAt d i) h
+
+-- an unused slot is all zero
 unfoldable pub slotFits : Desk → List ℕ → ℕ → Bool
-slotFits d s i =
-    cond (isUsed (headAt d s i))
-    (okName d (nameAt d s i) && placeFits d (kindAt d i) i (keyOf (headAt d s i)) && valuesFit (kindAt d i) (headAt d s i))
-    (isZero (slotAt d s i))
+slotFits d s i = cond (isUsed (headAt d s i)) (usedFits d i (headAt d s i)) (isZero (slotAt d s i))
 
 -- ---- a slot that repeats an earlier one: it is used, and not the one that is found under its name
 
