@@ -1,7 +1,7 @@
 // What a load knows between records, and what a record comes to (paper 01, "Keywords and conditions"; "Forms for specific places").
+use store::Edit;
 use store_desk::Key;
 use store_desk::Kind;
-use store::Edit;
 
 // What a secondary record augments: nothing, a memory that is skipped, or an open memory of a kind.
 pub enum Open {

@@ -15,14 +15,14 @@ ghost use Rattle.load_run.specs.Count.{conditionsIn, saidOf, mostRecords
 ghost use Rattle.load_run.specs.Take.{taken, cleanedTaken, recordTaken, Taking};
 ghost use Rattle.load_run.specs.Loaded.{loaded, loadedOf, begunOf};
 use cells::place;
-use store_desk::Desk;
 use load::Faults;
 use load::Open;
 use load::Outcome;
 use load::State;
 use load::Totals;
-use text_records::Cleaned;
 use load_step::Held;
+use store_desk::Desk;
+use text_records::Cleaned;
 
 // What was read so far: the records and reports, the records of each class, and the last error and warning.
 pub struct Count {

@@ -11,11 +11,6 @@ ghost use Rattle.load.specs.Step.{name, ended as endedStep, settle, openedBy, p
 ghost use Rattle.load_naming.specs.Line.{Line};
 ghost use Rattle.load_step.specs.Held.{heldOf, Ready, Stepping, stepping, steppedOf};
 ghost use Rattle.load_step.specs.Parts.{openName, IsOpen, resting as restingAs, endedAs, identOutcome, ReadingFits};
-use store_desk::Desk;
-use store_desk::Key;
-use store_desk::Kind;
-use text_fields::Item;
-use text_fields::Keyword;
 use load::Aim;
 use load::Faults;
 use load::Group;
@@ -26,6 +21,11 @@ use load::Reading;
 use load::Secondary;
 use load::State;
 use store::Place;
+use store_desk::Desk;
+use store_desk::Key;
+use store_desk::Kind;
+use text_fields::Item;
+use text_fields::Keyword;
 use value::Paged;
 use value::Version;
 
@@ -174,7 +174,15 @@ fn chan<'a>(
     ensures { λ r. ⌜ stepping r (now (store .exit)) ≡ steppedOf desk (obeyedBy desk (held .state) (openName (held .state)) Secondary.Chan (wordsFrom (now (text .entry)) (now (columns .entry)) at) (now (store .entry))) ⌝ }
 {
     let slot = held.slot;
-    let faults = load_items::take_items(desk, Group::Pair, text, columns, at, store, Aim::Slot(slot));
+    let faults = load_items::take_items(
+        desk,
+        Group::Pair,
+        text,
+        columns,
+        at,
+        store,
+        Aim::Slot(slot),
+    );
     Stepped {
         held,
         outcome: Outcome::Obeyed,
@@ -199,10 +207,30 @@ fn obeyed<'a>(
 {
     match e {
         Secondary::Chan => chan(desk, held, text, columns, at, store),
-        Secondary::Up => changed(desk, held, load_naming::change_at(e, text, columns, at), store),
-        Secondary::Down => changed(desk, held, load_naming::change_at(e, text, columns, at), store),
-        Secondary::Followon => changed(desk, held, load_naming::change_at(e, text, columns, at), store),
-        Secondary::Link => changed(desk, held, load_naming::change_at(e, text, columns, at), store),
+        Secondary::Up => changed(
+            desk,
+            held,
+            load_naming::change_at(e, text, columns, at),
+            store,
+        ),
+        Secondary::Down => changed(
+            desk,
+            held,
+            load_naming::change_at(e, text, columns, at),
+            store,
+        ),
+        Secondary::Followon => changed(
+            desk,
+            held,
+            load_naming::change_at(e, text, columns, at),
+            store,
+        ),
+        Secondary::Link => changed(
+            desk,
+            held,
+            load_naming::change_at(e, text, columns, at),
+            store,
+        ),
     }
 }
 

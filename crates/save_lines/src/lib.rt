@@ -199,7 +199,11 @@ pub fn primary_length(kind: Kind, key: Key) -> usize
         whole: key.whole,
         fraction: key.fraction,
     };
-    kind_length(kind) + value_written::number_length(number) + 1 + value_written::integer_length(key.page) + END
+    kind_length(kind)
+        + value_written::number_length(number)
+        + 1
+        + value_written::integer_length(key.page)
+        + END
 }
 
 fn delay_length(delay: u32) -> usize

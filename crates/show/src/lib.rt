@@ -1,10 +1,10 @@
 // The public calls (paper 01, "Calls turned away"). None has a `requires`: every desk, store, stream and output gets an answer, and a
 // call that is turned away changes no lent byte.
+use load::Totals;
+use store::Place;
 use store_desk::Desk;
 use store_desk::Key;
 use store_desk::Kind;
-use load::Totals;
-use store::Place;
 ghost use mathlib.Core.Path.{_≡_};
 ghost use mathlib.Core.Bool.{true};
 ghost use Rattle.store_code.specs.Fits.{Fitting};

@@ -1,13 +1,13 @@
 // The calls for programs in other languages, with numbers and slices only. A desk is the list of its nine limits, in the order of paper
 // 01's table (channels, dimmers, cues, groups, highest submaster, pages of cues, groups, submasters, patch); a limit that the list lacks
 // is 0, and so out of range where it matters. The answer is 0, or the number of the refusal, which leaves every lent list as it was.
-use store_desk::Desk;
-use store_desk::Needed;
 use load::Totals;
 use show::Emptied;
 use show::Loaded;
 use show::Placed;
 use show::Written;
+use store_desk::Desk;
+use store_desk::Needed;
 ghost use mathlib.Core.Path.{_≡_};
 ghost use lib.ListN.{getD, set};
 ghost use Rattle.sphairune.specs.Calls.{deskOf, totalsIn, lengthIn, exported2, exported3, exported4, exportNeeded, exportEmpty, exportLoad, exportWrite, exportFind};

@@ -28,7 +28,8 @@ use Rattle.store_head.specs.Pack.{total, packed, Bytes}
 use Rattle.store_head.specs.Layout.{wordOf}
 use Rattle.store_head.proofs.Laws.{decode-fits}
 use Rattle.store.specs.Slots.{slotAt, headAt, keyOf, isUsed, holdsAt, find}
-use Rattle.store.specs.Form.{placeFits, valuesFit, nameAt, slotFits, isAt, repeatsAt, badSlot, repeatedSlot, isNowhere}
+use Rattle.store.specs.Form.{placeFits, valuesFit, nameAt, slotFits}
+use Rattle.store.specs.First.{isAt, repeatsAt, badSlot, repeatedSlot, isNowhere}
 use Rattle.store.specs.Order.{slotWord}
 use Rattle.store.proofs.Ordered.{word-is}
 use Rattle.store_code.specs.Fits.{Fitting}

@@ -24,7 +24,9 @@ use Rattle.store_head.specs.declared.Patch.{Patch}
 use Rattle.store_head.specs.Layout.{decodeHead, decodePatch}
 use Rattle.store.specs.declared.Place.the-variants.{At, Nowhere}
 use Rattle.store.specs.Slots.{slotAt, entryAt, headAt, keyOf, placeOf}
-use Rattle.store.specs.Form.{hasTimes, hasLink, timeFits, linkFits, isZero, placeFits, valuesFit, usedFits, slotFits, patchFits, entryFits, badSlot, repeatedSlot, badEntry, isNowhere, goodForm}
+use Rattle.store.specs.Form.{hasTimes, hasLink, timeFits, linkFits, isZero, placeFits, valuesFit, usedFits, slotFits, patchFits, entryFits, goodForm}
+use Rattle.store.proofs.First.{good-searched}
+use Rattle.store.specs.First.{badSlot, repeatedSlot, badEntry, isNowhere}
 use Rattle.store_code.proofs.Found.{place-at, place-nowhere}
 
 -- ---- bytes joined
@@ -164,22 +166,18 @@ unfolding isNowhere
 none-true f e = ap isNowhere (place-nowhere e refl)
 
 pub first-bad : (d : Desk) (s : List ℕ) {i : ℕ} → At i ≡ placeOf (badSlot d s) → false ≡ goodForm d s
-unfolding goodForm
 first-bad d s {i} e =
-    sym (and-false-left _ _ (and-false-left _ (isNowhere (repeatedSlot d s)) (at-found (badSlot d s) i e)))
+    sym (and-false-left _ _ (and-false-left _ (isNowhere (repeatedSlot d s)) (at-found (badSlot d s) i e))) ∙ sym (good-searched d s)
 
 pub second-bad : (d : Desk) (s : List ℕ) {i : ℕ} → At i ≡ placeOf (repeatedSlot d s) → false ≡ goodForm d s
-unfolding goodForm
 second-bad d s {i} e =
-    sym (and-false-left _ _ (and-false-right (isNowhere (badSlot d s)) _ (at-found (repeatedSlot d s) i e)))
+    sym (and-false-left _ _ (and-false-right (isNowhere (badSlot d s)) _ (at-found (repeatedSlot d s) i e))) ∙ sym (good-searched d s)
 
 pub third-bad : (d : Desk) (s : List ℕ) {i : ℕ} → At i ≡ placeOf (badEntry d s) → false ≡ goodForm d s
-unfolding goodForm
 third-bad d s {i} e =
-    sym (and-false-right (isNowhere (badSlot d s) && isNowhere (repeatedSlot d s)) _ (at-found (badEntry d s) i e))
+    sym (and-false-right (isNowhere (badSlot d s) && isNowhere (repeatedSlot d s)) _ (at-found (badEntry d s) i e)) ∙ sym (good-searched d s)
 
 pub none-bad : (d : Desk) (s : List ℕ)
     → Nowhere ≡ placeOf (badSlot d s) → Nowhere ≡ placeOf (repeatedSlot d s) → Nowhere ≡ placeOf (badEntry d s) → true ≡ goodForm d s
-unfolding goodForm
 none-bad d s a b c =
-    sym (and-true _ _ (and-true _ _ (none-true (badSlot d s) a) (none-true (repeatedSlot d s) b)) (none-true (badEntry d s) c))
+    sym (and-true _ _ (and-true _ _ (none-true (badSlot d s) a) (none-true (repeatedSlot d s) b)) (none-true (badEntry d s) c)) ∙ sym (good-searched d s)

@@ -13,7 +13,8 @@ ghost use Rattle.cells.specs.Search.{nowhere, firstFrom};
 ghost use Rattle.store_desk.specs.Size.{InRange, slotsOf, entriesOf};
 ghost use Rattle.store_desk.specs.Name.{kindAt, okName};
 ghost use Rattle.store.specs.Slots.{placeOf};
-ghost use Rattle.store.specs.Form.{isZero, timeFits, linkFits, valuesFit, placeFits, usedFits, slotFits, patchFits, entryFits, badSlot, repeatedSlot, badEntry, goodForm};
+ghost use Rattle.store.specs.Form.{isZero, timeFits, linkFits, valuesFit, placeFits, usedFits, slotFits, patchFits, entryFits, goodForm};
+ghost use Rattle.store.specs.First.{badSlot, repeatedSlot, badEntry};
 ghost use Rattle.store_code.specs.Fits.{Fitting};
 ghost use Rattle.store_form.specs.Keys.{mostKeys, keyWords, countWord, kindStart, seenBefore, Topped, topOf};
 

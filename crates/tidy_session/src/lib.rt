@@ -1,9 +1,9 @@
 // What `tidy` prints, as one function on bytes (paper 01, "The written stream", the program `tidy`): the load of its input into an empty
 // house small desk, told, and the show that is kept, written.
-use store_desk::Desk;
 use load::Totals;
 use show::Loaded;
 use show::Written;
+use store_desk::Desk;
 ghost use mathlib.Core.Path.{_≡_};
 ghost use mathlib.Core.List.{_++_};
 ghost use Prim.Native.Nat.{_+_, _≤_};

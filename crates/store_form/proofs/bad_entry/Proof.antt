@@ -1,7 +1,8 @@
 -- `bad_entry` meets its contract. The invariant: the first bad entry from here on is the first of all.
 -- Assumes nothing.
 use native.Mathlib.Omega.{arith}
-use Rattle.store.specs.Form.{entryFits, badEntry}
+use Rattle.store.specs.Form.{entryFits}
+use Rattle.store.specs.First.{badEntry}
 use Rattle.store_code.proofs.Found.{at-place, nowhere-place}
 use Rattle.store_form.proofs.Laws.{entries-start}
 use Rattle.cells.proofs.Search.{search-hit, search-miss, search-end}

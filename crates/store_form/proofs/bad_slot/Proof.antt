@@ -1,7 +1,8 @@
 -- `bad_slot` meets its contract. The invariant: the first bad slot from here on is the first of all.
 -- Assumes nothing.
 use native.Mathlib.Omega.{arith}
-use Rattle.store.specs.Form.{slotFits, badSlot}
+use Rattle.store.specs.Form.{slotFits}
+use Rattle.store.specs.First.{badSlot}
 use Rattle.store_code.proofs.Found.{at-place, nowhere-place}
 use Rattle.store_form.proofs.Laws.{slots-start}
 use Rattle.cells.proofs.Search.{search-hit, search-miss, search-end}
