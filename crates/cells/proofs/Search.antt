@@ -55,7 +55,7 @@ first-more p n i j f r = record {
   before = λ k h l. by-eq k i (λ e. ap p e ∙ f) (λ ne. r .before k (omega arith) l);
 }
 
-at-inj : {i j : ℕ} → at i ≡ at j → i ≡ j
+pub at-inj : {i j : ℕ} → at i ≡ at j → i ≡ j
 at-inj e = cc
 
 at-nowhere : {i : ℕ} → at i ≡ nowhere → ⊥

@@ -10,7 +10,6 @@ ghost use Rattle.value.specs.Time.{timeOf};
 ghost use Rattle.value.specs.Field.{versionOf};
 ghost use Rattle.load.specs.Condition.{fullOf, unsupportedOf};
 ghost use Rattle.load.specs.Ask.{numberedBy, subBy, numeralOf, pageAt, namedBy, namedOf, delayOf, linkBy, timesOf, augments as augmentsOf, tablePages, mostPages};
-ghost use Rattle.store.specs.Form.{hasTimes, hasLink};
 ghost use Rattle.load_naming.specs.Line.{FieldIn, Line};
 ghost use Rattle.load_naming.specs.Times.{upBy, downBy, followonBy};
 use load::Named;
@@ -235,35 +234,15 @@ pub fn change_at<'a>(e: Secondary, text: &'a [u8], columns: &'a [u8], at: usize)
 
 // ---- which secondaries augment which primaries (§6.3)
 
-fn has_times(kind: Kind) -> bool
-    ensures { λ r. ⌜ r ≡ hasTimes kind ⌝ }
-{
-    match kind {
-        Kind::Cue => true,
-        Kind::Group => false,
-        Kind::Sub => true,
-    }
-}
-
-fn has_link(kind: Kind) -> bool
-    ensures { λ r. ⌜ r ≡ hasLink kind ⌝ }
-{
-    match kind {
-        Kind::Cue => true,
-        Kind::Group => false,
-        Kind::Sub => false,
-    }
-}
-
 pub fn augments(kind: Kind, e: Secondary) -> bool
     ensures { λ r. ⌜ r ≡ augmentsOf kind e ⌝ }
 {
     match e {
         Secondary::Chan => true,
-        Secondary::Up => has_times(kind),
-        Secondary::Down => has_times(kind),
-        Secondary::Followon => has_link(kind),
-        Secondary::Link => has_link(kind),
+        Secondary::Up => store_code::has_times(kind),
+        Secondary::Down => store_code::has_times(kind),
+        Secondary::Followon => store_code::has_link(kind),
+        Secondary::Link => store_code::has_link(kind),
     }
 }
 

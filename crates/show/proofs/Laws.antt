@@ -27,7 +27,6 @@ use Rattle.store.proofs.Start.{found-ok}
 use Rattle.store_code.specs.Fits.{Fitting}
 use Rattle.store_code.proofs.Laws.{slot-small, slot-long}
 use Rattle.store_code.specs.Answer.{LevelsOf}
-use Rattle.store_form.specs.Fitting.{Fitting as Formed}
 use Rattle.load.specs.declared.Totals.{Totals}
 use Rattle.load.specs.Run.{Run, loadOf, totalsOf, storedIn, allReports}
 use Rattle.load_run.specs.Loaded.{Loaded as Ran, loadedOf, loaded as ran}
@@ -63,9 +62,6 @@ module _ (d : Desk) (s : List ℕ) where
 
   pub fitting : {n : ℕ} → InRange d → n ≡ storeLength d → n ≤ length s → Fitting d s
   fitting {n} h e l = record { range = h; long = subst (λ (k : ℕ). k ≤ length s) e l }
-
-  pub formed : Fitting d s → Formed d s
-  formed f = record { range = f .range; room = f .long }
 
   pub away-none : {b : Bool} → Fitting d s → b ≡ goodForm d s → b ≡ true → No ≡ awayOf d s
   unfolding awayOf

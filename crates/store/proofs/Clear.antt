@@ -25,7 +25,7 @@ use Rattle.store.specs.Memories.{memoryIn}
 use Rattle.store.specs.Good.{Ready}
 use Rattle.store.proofs.Places.{slot-same, slot-other, put-length, slot-patch, slot-tail}
 use Rattle.store.proofs.Find.{head-same, holds-same, holds-own, holds-unused, memory-in}
-use Rattle.store.proofs.Form.{is-zero, fits-same, name-same, found-self, repeats-none}
+use Rattle.store.proofs.Form.{is-zero, fits-same, name-same, found-self, single-of}
 use Rattle.store.proofs.Start.{found-used, absent-at}
 
 abbrev pub zeros : Desk → List ℕ
@@ -259,9 +259,8 @@ clear-good d s r k p =
                 (λ y. zero-fits d t j (slotLength d) (removed d s long k p j h y))
                 (λ y. fits-same d t s j (stays d s long k p j h y) ∙ g .slots j h);
             single =
-                λ j h.
-                repeats-none d t j
-                (λ u.
+                single-of d t
+                (λ j h u.
                 by-bool (removes d s k p j)
                 (λ y. clash u (zero-unused d t j (slotLength d) (removed d s long k p j h y)))
                 (λ y.

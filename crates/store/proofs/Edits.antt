@@ -53,84 +53,12 @@ edit-key (Followon t) h = refl
 edit-key (Link w f) h = refl
 edit-key (Level c v) h = refl
 
-edit-fits : (e : Edit) (h : Head) → HeadFits h → EditFits e → HeadFits (editHead e h)
+pub edit-fits : (e : Edit) (h : Head) → HeadFits h → EditFits e → HeadFits (editHead e h)
 unfolding editHead
-edit-fits (Up a y) h f g =
-    record {
-      used = f .used;
-      page = f .page;
-      whole = f .whole;
-      fraction = f .fraction;
-      link = f .link;
-      linkWhole = f .linkWhole;
-      linkFraction = f .linkFraction;
-      up = omega arith;
-      upFade = g .0;
-      upDelay = g .1;
-      down = f .down;
-      downFade = f .downFade;
-      downDelay = f .downDelay;
-      followon = f .followon;
-      followonTime = f .followonTime;
-      rest = f .rest;
-    }
-edit-fits (Down a y) h f g =
-    record {
-      used = f .used;
-      page = f .page;
-      whole = f .whole;
-      fraction = f .fraction;
-      link = f .link;
-      linkWhole = f .linkWhole;
-      linkFraction = f .linkFraction;
-      up = f .up;
-      upFade = f .upFade;
-      upDelay = f .upDelay;
-      down = omega arith;
-      downFade = g .0;
-      downDelay = g .1;
-      followon = f .followon;
-      followonTime = f .followonTime;
-      rest = f .rest;
-    }
-edit-fits (Followon t) h f g =
-    record {
-      used = f .used;
-      page = f .page;
-      whole = f .whole;
-      fraction = f .fraction;
-      link = f .link;
-      linkWhole = f .linkWhole;
-      linkFraction = f .linkFraction;
-      up = f .up;
-      upFade = f .upFade;
-      upDelay = f .upDelay;
-      down = f .down;
-      downFade = f .downFade;
-      downDelay = f .downDelay;
-      followon = omega arith;
-      followonTime = g;
-      rest = f .rest;
-    }
-edit-fits (Link w a) h f g =
-    record {
-      used = f .used;
-      page = f .page;
-      whole = f .whole;
-      fraction = f .fraction;
-      link = omega arith;
-      linkWhole = g .0;
-      linkFraction = g .1;
-      up = f .up;
-      upFade = f .upFade;
-      upDelay = f .upDelay;
-      down = f .down;
-      downFade = f .downFade;
-      downDelay = f .downDelay;
-      followon = f .followon;
-      followonTime = f .followonTime;
-      rest = f .rest;
-    }
+edit-fits (Up a y) h f g = omega arith
+edit-fits (Down a y) h f g = omega arith
+edit-fits (Followon t) h f g = omega arith
+edit-fits (Link w a) h f g = omega arith
 edit-fits (Level c v) h f g = f
 
 -- ---- a changed slot holds the changed memory

@@ -21,7 +21,7 @@ use Rattle.store.specs.Change.{patchEntry, emptied}
 use Rattle.store.specs.Good.{Ready}
 use Rattle.store.proofs.Places.{slots-end, slot-end, entry-end}
 use Rattle.store.proofs.Find.{holds-unused}
-use Rattle.store.proofs.Form.{repeats-none}
+use Rattle.store.proofs.Form.{single-of}
 use Rattle.store.proofs.Start.{absent-at}
 use Rattle.store.proofs.Clear.{zero-unused, zero-fits}
 use Rattle.store.proofs.Patches.{part-zeros, zero-entry, zero-entry-fits}
@@ -80,7 +80,7 @@ module _ (d : Desk) (s : List ℕ) (long : storeLength d ≤ length s) where
         form =
             record {
               slots = λ i h. zero-fits d (emptied d s) i (slotLength d) (empty-slot i h);
-              single = λ i h. repeats-none d (emptied d s) i (λ u. clash u (unused i h));
+              single = single-of d (emptied d s) (λ i h u. clash u (unused i h));
               entries = λ j h. zero-entry-fits d (emptied d s) j (empty-entry j h);
             };
       }

@@ -8,65 +8,81 @@ use Prim.Native.Nat.{ℕ, zero, suc, _<_, _≤_}
 use native.Mathlib.Omega.{arith}
 use lib.Dec.{eqb}
 use lib.ListN.{length, replicate}
-use borrow.Author.Tests.{eqb-true, eq-eqb, not-true, not-false}
-use Rattle.cells.specs.Search.{Found, at, nowhere, IsFirst}
-use Rattle.cells.proofs.Search.{first-at, first-nowhere, none-is}
-use Rattle.cells.proofs.Split.{by-bool, by-eq, cond-true, cond-false, clash, and-true, and-left, and-right, and-false-left, and-false-right, not-of-true, not-of-false}
+use borrow.Author.Tests.{eqb-true, not-true}
+use Rattle.cells.specs.Search.{Found, at, nowhere, allFrom, IsFirst}
+use Rattle.cells.proofs.Search.{at-inj, first-at, first-is, first-nowhere, all-at, all-is}
+use Rattle.cells.proofs.Split.{by-bool, by-eq, cond-true, cond-false, clash, and-true, and-left, and-right, not-of-false}
 use Rattle.store_desk.specs.declared.Desk.{Desk}
 use Rattle.store_desk.specs.declared.Key.{Key}
 use Rattle.store_desk.specs.declared.Kind.{Kind}
 use Rattle.store_desk.specs.declared.Kind.the-variants.{Cue, Group, Sub}
 use Rattle.store_desk.specs.Size.{slotLength, slotsOf, entriesOf, storeLength}
 use Rattle.store_desk.specs.Name.{Name, firstSlot, slotCount, slotsEnd, kindAt, eqName, okName, subSlot}
-use Rattle.store_desk.proofs.Name.{eq-key-true, eq-name, eq-name-refl, kind-of, kind-at, kind-end, sub-parts, sub-inside, sub-same}
+use Rattle.store_desk.proofs.Name.{eq-key-true, eq-name, eq-name-true, eq-name-refl, kind-of, kind-at, kind-end, sub-parts, sub-inside, sub-same}
 use Rattle.store_head.specs.declared.Head.{Head}
 use Rattle.store_head.specs.Layout.{decodeHead, decodePatch}
 use Rattle.store.specs.Slots.{slotAt, putSlot, headAt, keyOf, isUsed, holdsAt, find, onFound}
 use Rattle.store.specs.Change.{lowestUnused, newSeat, seat}
-use Rattle.store.specs.Form.{isZero, valuesFit, placeFits, nameAt, slotFits, isAt, repeatsAt, patchFits, entryFits, badSlot, repeatedSlot, badEntry, isNowhere, goodForm}
+use Rattle.store.specs.Form.{shares, goodForm, isZero, valuesFit, placeFits, nameAt, slotFits, patchFits, entryFits}
 use Rattle.store.specs.Good.{GoodForm, Ready}
 use Rattle.store.proofs.Places.{slot-length, put-length, slot-same, slot-other, slot-patch}
 use Rattle.store.proofs.Find.{head-same, holds-own, holds-true, holds-unused, holds-one, Placed, placed-slot, put-find}
 
 -- ---- the test is the facts
-nowhere-is : (a : Found) → isNowhere a ≡ true → a ≡ nowhere
-unfolding isNowhere
-nowhere-is (at i) e = clash e refl
-nowhere-is nowhere e = refl
-
-is-nowhere : (a : Found) → a ≡ nowhere → isNowhere a ≡ true
-unfolding isNowhere
-is-nowhere a e = ap isNowhere e
-
 module _ (d : Desk) (s : List ℕ) where
   pub good-sound : goodForm d s ≡ true → GoodForm d s
-  unfolding goodForm badSlot repeatedSlot badEntry
+  unfolding goodForm
   good-sound e =
-      let a = isNowhere (badSlot d s) in
-      let b = isNowhere (repeatedSlot d s) in
-      let c = isNowhere (badEntry d s) in
+      let a = allFrom (slotFits d s) (slotsOf d) 0 in
+      let b = allFrom (λ i. allFrom (λ j. not (shares d s i j)) i 0) (slotsOf d) 0 in
+      let c = allFrom (entryFits d s) (entriesOf d) 0 in
       let ab : (a && b) ≡ true = and-left (a && b) c e in
       record {
-        slots =
-            λ i h.
-            not-false (slotFits d s i)
-            (first-nowhere (λ j. not (slotFits d s j)) (slotsOf d) 0 (nowhere-is (badSlot d s) (and-left a b ab)) i (omega arith) (omega arith));
+        slots = λ i h. all-at (slotFits d s) (slotsOf d) 0 (and-left a b ab) i (omega arith) (omega arith);
         single =
-            λ i h. first-nowhere (repeatsAt d s) (slotsOf d) 0 (nowhere-is (repeatedSlot d s) (and-right a b ab)) i (omega arith) (omega arith);
-        entries =
-            λ i h.
-            not-false (entryFits d s i)
-            (first-nowhere (λ j. not (entryFits d s j)) (entriesOf d) 0 (nowhere-is (badEntry d s) (and-right (a && b) c e)) i (omega arith) (omega arith));
+            λ i j l h.
+            not-true (shares d s i j)
+            (all-at (λ k. not (shares d s i k)) i 0
+            (all-at (λ k. allFrom (λ m. not (shares d s k m)) k 0) (slotsOf d) 0 (and-right a b ab) i (omega arith) (omega arith))
+            j (omega arith) (omega arith));
+        entries = λ i h. all-at (entryFits d s) (entriesOf d) 0 (and-right (a && b) c e) i (omega arith) (omega arith);
       }
 
   pub good-complete : GoodForm d s → goodForm d s ≡ true
-  unfolding goodForm badSlot repeatedSlot badEntry
+  unfolding goodForm
   good-complete g =
-      and-true (isNowhere (badSlot d s) && isNowhere (repeatedSlot d s)) (isNowhere (badEntry d s))
-      (and-true (isNowhere (badSlot d s)) (isNowhere (repeatedSlot d s))
-      (is-nowhere (badSlot d s) (none-is (λ j. not (slotFits d s j)) (slotsOf d) 0 (λ i h l. not-of-true (slotFits d s i) (g .slots i (omega arith)))))
-      (is-nowhere (repeatedSlot d s) (none-is (repeatsAt d s) (slotsOf d) 0 (λ i h l. g .single i (omega arith)))))
-      (is-nowhere (badEntry d s) (none-is (λ j. not (entryFits d s j)) (entriesOf d) 0 (λ i h l. not-of-true (entryFits d s i) (g .entries i (omega arith)))))
+      and-true (allFrom (slotFits d s) (slotsOf d) 0 && allFrom (λ i. allFrom (λ j. not (shares d s i j)) i 0) (slotsOf d) 0)
+      (allFrom (entryFits d s) (entriesOf d) 0)
+      (and-true (allFrom (slotFits d s) (slotsOf d) 0) (allFrom (λ i. allFrom (λ j. not (shares d s i j)) i 0) (slotsOf d) 0)
+      (all-is (slotFits d s) (slotsOf d) 0 (λ i h l. g .slots i (omega arith)))
+      (all-is (λ i. allFrom (λ j. not (shares d s i j)) i 0) (slotsOf d) 0
+      (λ i h l. all-is (λ j. not (shares d s i j)) i 0 (λ j a b. not-of-false (shares d s i j) (g .single i j (omega arith) (omega (arith, l)))))))
+      (all-is (entryFits d s) (entriesOf d) 0 (λ i h l. g .entries i (omega arith)))
+
+-- slots that share a name are used, under that name
+shares-parts : (d : Desk) (s : List ℕ) (i j : ℕ) → shares d s i j ≡ true
+    → (isUsed (headAt d s i) ≡ true) × (isUsed (headAt d s j) ≡ true) × (nameAt d s i ≡ nameAt d s j)
+unfolding shares
+shares-parts d s i j e =
+    let a = isUsed (headAt d s i) in
+    let b = isUsed (headAt d s j) in
+    let c = eqName (nameAt d s i) (nameAt d s j) in
+    let ab : (a && b) ≡ true = and-left (a && b) c e in
+    (and-left a b ab, and-right a b ab, eq-name (nameAt d s i) (nameAt d s j) (and-right (a && b) c e))
+
+-- where each used slot is the one found under its name, no two share one
+pub single-of : (d : Desk) (s : List ℕ) → ((i : ℕ) → i < slotsOf d → isUsed (headAt d s i) ≡ true → find d s (nameAt d s i) ≡ at i)
+    → (i j : ℕ) → j < i → i < slotsOf d → shares d s i j ≡ false
+single-of d s f i j l h =
+    by-bool (shares d s i j)
+    (λ e.
+    let p = shares-parts d s i j e in
+    let a : find d s (nameAt d s i) ≡ at i = f i h (p .0) in
+    let b : find d s (nameAt d s j) ≡ at j = f j (omega arith) (p .1) in
+    let q : at i ≡ at j = sym a ∙ ap (find d s) (p .2) ∙ b in
+    let z : i ≡ j = at-inj q in
+    absurd (omega arith))
+    (λ e. e)
 
 -- ---- a list of zeros
 pub zero-is : (x : List ℕ) → isZero x ≡ true → x ≡ replicate (length x) 0
@@ -102,15 +118,6 @@ pub name-same : (d : Desk) (s t : List ℕ) (i : ℕ) → slotAt d s i ≡ slotA
 name-same d s t i e = ap (λ (h : Head). record { kind = kindAt d i; key = keyOf h }) (head-same d s t i e)
 
 -- ---- a slot of a store in good form
-found-at : (i : ℕ) (a : Found) → isAt i a ≡ true → a ≡ at i
-unfolding isAt
-found-at i (at j) e = ap at (sym (eqb-true i j e))
-found-at i nowhere e = clash e refl
-
-at-self : (i : ℕ) (a : Found) → a ≡ at i → isAt i a ≡ true
-unfolding isAt
-at-self i a e = ap (isAt i) e ∙ eq-eqb i i refl
-
 module _ (d : Desk) (s : List ℕ) (g : GoodForm d s) (i : ℕ) (h : i < slotsOf d) where
   used-all : isUsed (headAt d s i) ≡ true
       → (okName d (nameAt d s i) && placeFits d (kindAt d i) i (keyOf (headAt d s i)) && valuesFit (kindAt d i) (headAt d s i)) ≡ true
@@ -137,11 +144,27 @@ module _ (d : Desk) (s : List ℕ) (g : GoodForm d s) (i : ℕ) (h : i < slotsOf
       and-right (a && b) (valuesFit (kindAt d i) (headAt d s i)) (used-all u)
 
   pub found-self : isUsed (headAt d s i) ≡ true → find d s (nameAt d s i) ≡ at i
-  unfolding repeatsAt
+  unfolding find shares
   found-self u =
-      by-bool (isAt i (find d s (nameAt d s i)))
-      (λ t. found-at i (find d s (nameAt d s i)) t)
-      (λ f. clash (and-true (isUsed (headAt d s i)) (not (isAt i (find d s (nameAt d s i)))) u (not-of-false (isAt i (find d s (nameAt d s i))) f)) (g .single i h))
+      let k = kind-at d i h in
+      first-is (holdsAt d s (keyOf (headAt d s i))) (slotCount d (kindAt d i)) (firstSlot d (kindAt d i)) i
+      (record {
+        from = k .0;
+        below = k .1;
+        passes = holds-true d s (keyOf (headAt d s i)) i u refl;
+        before =
+            λ j a l.
+            by-bool (holdsAt d s (keyOf (headAt d s i)) j)
+            (λ t.
+            let o = holds-own d s (keyOf (headAt d s i)) j t in
+            let same : kindAt d j ≡ kindAt d i = kind-of d (kindAt d i) j a (omega (arith, k .1)) in
+            let n : nameAt d s i ≡ nameAt d s j = λ z. record { kind = sym same z; key = sym (o .1) z } in
+            clash
+            (and-true (isUsed (headAt d s i) && isUsed (headAt d s j)) (eqName (nameAt d s i) (nameAt d s j))
+            (and-true (isUsed (headAt d s i)) (isUsed (headAt d s j)) u (o .0)) (eq-name-true (nameAt d s i) (nameAt d s j) n))
+            (g .single i j l h))
+            (λ t. t);
+      })
 
   -- an unused slot is all zero
   pub unused-zero : storeLength d ≤ length s → isUsed (headAt d s i) ≡ false → slotAt d s i ≡ replicate (slotLength d) 0
@@ -149,14 +172,6 @@ module _ (d : Desk) (s : List ℕ) (g : GoodForm d s) (i : ℕ) (h : i < slotsOf
   unused-zero long u =
       zero-is (slotAt d s i) (sym (cond-false (isUsed (headAt d s i)) _ (isZero (slotAt d s i)) u) ∙ g .slots i h)
       ∙ ap (λ (n : ℕ). replicate n 0) (slot-length d s long i h)
-
--- a slot that is used, and found under its own name alone, repeats none
-pub repeats-none : (d : Desk) (s : List ℕ) (i : ℕ) → (isUsed (headAt d s i) ≡ true → find d s (nameAt d s i) ≡ at i) → repeatsAt d s i ≡ false
-unfolding repeatsAt
-repeats-none d s i f =
-    by-bool (isUsed (headAt d s i))
-    (λ u. and-false-right (isUsed (headAt d s i)) (not (isAt i (find d s (nameAt d s i)))) (not-of-true (isAt i (find d s (nameAt d s i))) (at-self i (find d s (nameAt d s i)) (f u))))
-    (λ u. and-false-left (isUsed (headAt d s i)) (not (isAt i (find d s (nameAt d s i)))) u)
 
 -- ---- the rightful place of a name
 module _ (d : Desk) (s : List ℕ) (g : GoodForm d s) (n : Name) where
@@ -268,7 +283,7 @@ put-good d s r n i p x e u k o w v =
       form =
           record {
             slots = λ j h. by-eq i j (λ q. subst (λ (z : ℕ). slotFits d t z ≡ true) q slot-fits) (λ ne. fits-same d t s j (other j ne) ∙ g .slots j h);
-            single = λ j h. repeats-none d t j (λ y. by-eq i j (λ q. subst (λ (z : ℕ). find d t (nameAt d t z) ≡ at z) q own) (λ ne. rest j h ne y));
+            single = single-of d t (λ j h y. by-eq i j (λ q. subst (λ (z : ℕ). find d t (nameAt d t z) ≡ at z) q own) (λ ne. rest j h ne y));
             entries = λ j h. entry-fits j ∙ g .entries j h;
           };
     }

@@ -1,6 +1,7 @@
 pub mod Places
 pub mod Find
 pub mod Form
+pub mod First
 pub mod Start
 pub mod Edits
 pub mod Clear

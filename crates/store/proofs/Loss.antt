@@ -36,6 +36,10 @@ bytes-take n s f i =
     let k : length (take n s) ≤ i = let e = length-take n s in omega arith in
     subst (λ (z : ℕ). z < 256) (sym (List·getD-eq-default (take n s) (zero) k)) (omega arith))
 
+pub slot-bytes : (d : Desk) (s : List ℕ) → Bytes s → (i : ℕ) → Bytes (slotAt d s i)
+unfolding slotAt
+slot-bytes d s b i = bytes-take (slotLength d) (drop (i * slotLength d) s) (bytes-drop (i * slotLength d) s b)
+
 -- ---- a slot is the encoding of its memory, an entry of its patch
 pub slot-encodes : (d : Desk) (s : List ℕ) → storeLength d ≤ length s → Bytes s → (i : ℕ) → i < slotsOf d
     → slotAt d s i ≡ encodeHead (headAt d s i) ++ levelsAt d s i
@@ -43,8 +47,7 @@ unfolding headAt levelsAt
 slot-encodes d s long b i h =
     let x = slotAt d s i in
     let l : headLength ≤ length x = let e = slot-length d s long i h in unfold slotLength in (omega arith) in
-    let f : Bytes x = unfold slotAt in (bytes-take (slotLength d) (drop (i * slotLength d) s) (bytes-drop (i * slotLength d) s b)) in
-    sym (take-append-drop headLength x) ∙ ap (λ (z : List ℕ). z ++ drop headLength x) (sym (encode-decode x l f))
+    sym (take-append-drop headLength x) ∙ ap (λ (z : List ℕ). z ++ drop headLength x) (sym (encode-decode x l (slot-bytes d s b i)))
 
 pub entry-encodes : (d : Desk) (s : List ℕ) → storeLength d ≤ length s → Bytes s → (j : ℕ) → j < entriesOf d
     → entryAt d s j ≡ encodePatch (decodePatch (entryAt d s j))

@@ -31,7 +31,7 @@ use Rattle.store.specs.Memories.{memoryIn}
 use Rattle.store.specs.Good.{Ready}
 use Rattle.store.proofs.Places.{slot-end, entry-put-length, entry-same as put-entry-same, entry-other, patch-slots, entry-tail}
 use Rattle.store.proofs.Find.{head-same, holds-same, memory-in}
-use Rattle.store.proofs.Form.{fits-same, name-same, found-self, repeats-none}
+use Rattle.store.proofs.Form.{fits-same, name-same, found-self, single-of}
 use Rattle.store.proofs.Start.{found-used}
 
 -- ---- stores with the same slots
@@ -61,9 +61,8 @@ module _ (d : Desk) (s t : List ℕ) (same : (j : ℕ) → j < slotsOf d → slo
             record {
               slots = λ j h. fits-same d t s j (same j h) ∙ r .form .slots j h;
               single =
-                  λ j h.
-                  repeats-none d t j
-                  (λ u.
+                  single-of d t
+                  (λ j h u.
                   ap (find d t) (name-same d t s j (same j h)) ∙ same-find (nameAt d s j)
                   ∙ found-self d s (r .form) j h (ap isUsed (sym (head-same d t s j (same j h))) ∙ u));
               entries = f;

@@ -7,7 +7,6 @@ use Prim.Native.Nat.{ℕ, _+_, _*_, _<_, _≤_}
 use native.Mathlib.Omega.{arith}
 use lib.ListN.{length, take, drop, length-drop}
 use lib.Seq.{length-take-le, drop-drop}
-use Rattle.cells.specs.Put.{put}
 use Rattle.cells.proofs.Arith.{apart}
 use Rattle.cells.proofs.Put.{part-of-front, length-put, part-same, part-before, part-after, drop-after, put-part, record-same, record-other}
 use Rattle.cells.proofs.Split.{by-lt}

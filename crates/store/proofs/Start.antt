@@ -45,27 +45,9 @@ blank-length d key =
     let c = length-replicate (levelsLength d) (zero) in
     omega arith
 
-blank-fits : (key : Key) → KeyFits key → HeadFits (blankHead key)
+pub blank-fits : (key : Key) → KeyFits key → HeadFits (blankHead key)
 unfolding blankHead
-blank-fits key f =
-    record {
-      used = omega arith;
-      page = f .page;
-      whole = f .whole;
-      fraction = f .fraction;
-      link = omega arith;
-      linkWhole = omega arith;
-      linkFraction = omega arith;
-      up = omega arith;
-      upFade = omega arith;
-      upDelay = omega arith;
-      down = omega arith;
-      downFade = omega arith;
-      downDelay = omega arith;
-      followon = omega arith;
-      followonTime = omega arith;
-      rest = omega arith;
-    }
+blank-fits key f = omega arith
 
 pub blank-head : (d : Desk) (key : Key) → KeyFits key → decodeHead (blankSlot d key) ≡ blankHead key
 unfolding blankSlot

@@ -6,17 +6,17 @@ use mathlib.Core.List.{List, [], _∷_, _++_}
 use Prim.Native.Nat.{ℕ}
 use lib.ListN.{take, set, replicate}
 use Rattle.cells.specs.Put.{put}
-use Rattle.cells.specs.Search.{firstFrom}
+use Rattle.cells.specs.Search.{firstFrom, allFrom}
 use Rattle.store_desk.specs.declared.Desk.{Desk}
 use Rattle.store_desk.specs.declared.Kind.the-variants.{Cue}
 use Rattle.store_desk.specs.Size.{allOf, levelWidth, levelsLength, slotLength, subSlots, slotsOf, patchStart, entriesOf}
-use Rattle.store_desk.specs.Name.{Name, firstSlot, slotCount, pagesOf, kindAt, supported, eqKey, lessKey, okNumber, okSub, okWithin, okPage, okName, subSlot, entryOf}
+use Rattle.store_desk.specs.Name.{Name, firstSlot, slotCount, pagesOf, kindAt, supported, eqKind, eqKey, eqName, lessKey, okNumber, okSub, okWithin, okPage, okName, subSlot, entryOf}
 use Rattle.store_head.specs.Pack.{total, packed, unpacked}
 use Rattle.store_head.specs.Layout.{encodeHead, decodeHead, encodePatch, decodePatch}
 use Rattle.store.specs.declared.Edit.the-variants.{Up, Link, Level}
 use Rattle.store.specs.Slots.{slotAt, putSlot, entryAt, putEntry, headAt, levelPlace, holdsAt, find, onFound}
 use Rattle.store.specs.Change.{lowestUnused, newSeat, seat, blankHead, blankSlot, started, editHead, withHead, editSlot, editAt, edited, patched, hitsAt, clearFrom, cleared}
-use Rattle.store.specs.Form.{hasTimes, hasLink, isZero, linkFits, valuesFit, placeFits, slotFits, isAt, repeatsAt, patchFits, entryFits, badSlot, repeatedSlot, badEntry, isNowhere, goodForm}
+use Rattle.store.specs.Form.{hasTimes, hasLink, isZero, linkFits, valuesFit, placeFits, slotFits, patchFits, entryFits, shares, goodForm}
 use Rattle.store.specs.Order.{usedFrom, insertSlot, sortSlots, inOrder}
 
 abbrev pub small : Desk
@@ -67,7 +67,7 @@ pub trial-form : goodForm small shown
     ∷ goodForm small (set shown 60 1)
     ∷ []
     ≡ true ∷ true ∷ false ∷ false ∷ false ∷ false ∷ []
-unfolding goodForm badSlot repeatedSlot badEntry isNowhere slotFits repeatsAt entryFits isAt valuesFit linkFits hasTimes hasLink isZero placeFits patchFits okName okPage okWithin okNumber okSub supported pagesOf kindAt entriesOf entryAt decodePatch lessKey started seat newSeat lowestUnused blankSlot blankHead edited editAt editSlot withHead editHead patched slotAt putSlot putEntry headAt levelPlace holdsAt find onFound firstFrom put allOf eqKey levelWidth levelsLength slotLength subSlots slotsOf patchStart entryOf firstSlot slotCount subSlot total packed unpacked encodeHead decodeHead encodePatch
+unfolding goodForm allFrom shares eqName eqKind slotFits entryFits valuesFit linkFits hasTimes hasLink isZero placeFits patchFits okName okPage okWithin okNumber okSub supported pagesOf kindAt entriesOf entryAt decodePatch lessKey started seat newSeat lowestUnused blankSlot blankHead edited editAt editSlot withHead editHead patched slotAt putSlot putEntry headAt levelPlace holdsAt find onFound firstFrom put allOf eqKey levelWidth levelsLength slotLength subSlots slotsOf patchStart entryOf firstSlot slotCount subSlot total packed unpacked encodeHead decodeHead encodePatch
 trial-form = refl
 
 -- in order: page 1 comes first, though it came second; cleared of page 1, the other is left

@@ -1,23 +1,20 @@
--- Good form (paper 01, "The store"): three searches over the whole store, each for the first place that is out of form. R4 is that
--- one of them finds a place.
+-- Good form (paper 01, "The store"). R4 is its failure.
 -- Assumes nothing.
 use mathlib.Core.Bool.{Bool, true, false, cond, not, _&&_}
 use mathlib.Core.List.{List, [], _∷_}
 use Prim.Native.Nat.{ℕ}
 use lib.Dec.{eqb, leb}
-use Rattle.cells.specs.Search.{Found, at, nowhere, firstFrom}
+use Rattle.cells.specs.Search.{allFrom}
 use Rattle.store_desk.specs.declared.Desk.{Desk}
 use Rattle.store_desk.specs.declared.Key.{Key}
 use Rattle.store_desk.specs.declared.Kind.{Kind}
 use Rattle.store_desk.specs.declared.Kind.the-variants.{Cue, Group, Sub}
 use Rattle.store_desk.specs.Size.{slotsOf, entriesOf}
-use Rattle.store_desk.specs.Name.{Name, kindAt, okNumber, okName, subSlot}
+use Rattle.store_desk.specs.Name.{Name, kindAt, eqName, okNumber, okName, subSlot}
 use Rattle.store_head.specs.declared.Head.{Head}
 use Rattle.store_head.specs.declared.Patch.{Patch}
 use Rattle.store_head.specs.Layout.{decodePatch}
-use Rattle.store.specs.declared.Edit.{Edit}
-use Rattle.store.specs.declared.Edit.the-variants.{Up, Down, Followon, Link, Level}
-use Rattle.store.specs.Slots.{slotAt, entryAt, headAt, keyOf, isUsed, find}
+use Rattle.store.specs.Slots.{slotAt, entryAt, headAt, keyOf, isUsed}
 
 -- ---- which values a kind can have (§6.3: CHAN, UP and DOWN, FOLLOWON and LINK)
 
@@ -69,21 +66,21 @@ placeFits d Sub i key = eqb i (subSlot d key)
 abbrev pub nameAt : Desk → List ℕ → ℕ → Name
 nameAt d s i = record { kind = kindAt d i; key = keyOf (headAt d s i) }
 
--- a used slot has a name that the desk can have, at its place, and values in range; an unused slot is all zero
+-- a used slot by its head: a name that the desk can have, at its place, and values in range
+abbrev pub usedFits : Desk → ℕ → Head → Bool
+usedFits d i h =
+    okName d (record { kind = kindAt d i; key = keyOf h })
+    && placeFits d (kindAt d i) i (keyOf h)
+    && valuesFit (kindAt d i) h
+
+-- an unused slot is all zero
 unfoldable pub slotFits : Desk → List ℕ → ℕ → Bool
-slotFits d s i =
-    cond (isUsed (headAt d s i))
-    (okName d (nameAt d s i) && placeFits d (kindAt d i) i (keyOf (headAt d s i)) && valuesFit (kindAt d i) (headAt d s i))
-    (isZero (slotAt d s i))
+slotFits d s i = cond (isUsed (headAt d s i)) (usedFits d i (headAt d s i)) (isZero (slotAt d s i))
 
--- ---- a slot that repeats an earlier one: it is used, and not the one that is found under its name
+-- ---- two slots that share a memory's name: both are used, of one kind, with one key
 
-unfoldable pub isAt : ℕ → Found → Bool
-isAt i (at j) = eqb i j
-isAt i nowhere = false
-
-unfoldable pub repeatsAt : Desk → List ℕ → ℕ → Bool
-repeatsAt d s i = isUsed (headAt d s i) && not (isAt i (find d s (nameAt d s i)))
+unfoldable pub shares : Desk → List ℕ → ℕ → ℕ → Bool
+shares d s i j = isUsed (headAt d s i) && isUsed (headAt d s j) && eqName (nameAt d s i) (nameAt d s j)
 
 -- ---- a patch entry: an unpatched one is all zero, a patched one has a channel of the desk's
 
@@ -93,20 +90,10 @@ patchFits d p = eqb (p .rest) 0 && cond (eqb (p .channel) 0) (eqb (p .level) 0) 
 unfoldable pub entryFits : Desk → List ℕ → ℕ → Bool
 entryFits d s i = patchFits d (decodePatch (entryAt d s i))
 
--- ---- the three searches, and the test
-
-unfoldable pub badSlot : Desk → List ℕ → Found
-badSlot d s = firstFrom (λ i. not (slotFits d s i)) (slotsOf d) 0
-
-unfoldable pub repeatedSlot : Desk → List ℕ → Found
-repeatedSlot d s = firstFrom (repeatsAt d s) (slotsOf d) 0
-
-unfoldable pub badEntry : Desk → List ℕ → Found
-badEntry d s = firstFrom (λ i. not (entryFits d s i)) (entriesOf d) 0
-
-unfoldable pub isNowhere : Found → Bool
-isNowhere (at i) = false
-isNowhere nowhere = true
+-- ---- the test: all slots fit, no two share a name, all patch entries fit
 
 unfoldable pub goodForm : Desk → List ℕ → Bool
-goodForm d s = isNowhere (badSlot d s) && isNowhere (repeatedSlot d s) && isNowhere (badEntry d s)
+goodForm d s =
+    allFrom (slotFits d s) (slotsOf d) 0
+    && allFrom (λ i. allFrom (λ j. not (shares d s i j)) i 0) (slotsOf d) 0
+    && allFrom (entryFits d s) (entriesOf d) 0

@@ -7,11 +7,11 @@ use Prim.Native.Nat.{ℕ, _<_, _≤_}
 use lib.ListN.{length}
 use Rattle.store_desk.specs.declared.Desk.{Desk}
 use Rattle.store_desk.specs.Size.{InRange, slotsOf, entriesOf, storeLength}
-use Rattle.store.specs.Form.{slotFits, repeatsAt, entryFits}
+use Rattle.store.specs.Form.{slotFits, shares, entryFits}
 
 pub record GoodForm (d : Desk) (s : List ℕ) : Type 0 where
   pub slots : (i : ℕ) → i < slotsOf d → slotFits d s i ≡ true
-  pub single : (i : ℕ) → i < slotsOf d → repeatsAt d s i ≡ false
+  pub single : (i j : ℕ) → j < i → i < slotsOf d → shares d s i j ≡ false
   pub entries : (j : ℕ) → j < entriesOf d → entryFits d s j ≡ true
 
 -- a store that a call answers: the desk is in range (R2), the store is long enough (R3) and in good form (R4)

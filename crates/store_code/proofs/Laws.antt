@@ -14,45 +14,40 @@ use Rattle.cells.proofs.Split.{cond-true, cond-false}
 use lib.ListN.{length, take, drop, set, replicate, length-append, length-drop, length-replicate, drop-of-length-le}
 use lib.Seq.{length-take-le, drop-drop}
 use Rattle.cells.specs.Put.{put}
-use Rattle.cells.proofs.Arith.{within, apart}
+use Rattle.cells.proofs.Arith.{apart}
 use Rattle.cells.proofs.Put.{length-put, put-back, put-front, put-fill, put-next, put-zero, part-of-front}
 use Rattle.store_desk.specs.declared.Desk.{Desk}
 use Rattle.store_desk.specs.declared.Key.{Key}
 use Rattle.store_desk.specs.declared.Kind.{Kind}
 use Rattle.store_desk.specs.Size.{Within, InRange, levelWidth, levelsLength, slotLength, slotsOf, patchStart, entriesOf, storeLength}
-use Rattle.store_desk.specs.Name.{KeyFits, slotsEnd, firstSlot, slotCount, entryOf}
+use Rattle.store_desk.specs.Name.{slotsEnd, firstSlot, slotCount, entryOf}
 use Rattle.store_desk.proofs.Size.{width-le, slot-le, slots-le, patch-le, store-le}
 use Rattle.store_desk.proofs.Name.{kind-end, entry-inside}
 use Rattle.store_head.specs.declared.Head.{Head}
-use Rattle.store_head.specs.Layout.{HeadFits, encodeHead, decodeHead, encodePatch}
+use Rattle.store_head.specs.declared.Patch.{Patch}
+use Rattle.store_head.specs.Layout.{HeadFits, encodeHead, decodeHead, encodePatch, decodePatch}
 use Rattle.store_head.proofs.Laws.{length-encode, decode-fits, length-encode-patch}
 use Rattle.store.specs.declared.Edit.{Edit}
-use Rattle.store.specs.declared.Edit.the-variants.{Up, Down, Followon, Link, Level}
+use Rattle.store.specs.declared.Edit.the-variants.{Level}
 use Rattle.store.specs.Slots.{slotAt, putSlot, entryAt, putEntry, levelsAt, levelPlace}
 use Rattle.store.specs.Change.{blankHead, blankSlot, editHead, withHead, editSlot, editAt, hitsAt, clearFrom, patchPageLength, clearedPatch, patchEntry, patched, cleared}
 use Rattle.store.specs.Memories.{EditFits}
+use Rattle.store.specs.View.{patchedTo}
+use Rattle.store.proofs.Places.{slots-end, slot-end, entry-end, slot-length, entry-length}
+use Rattle.store.proofs.Edits.{edit-fits}
 use Rattle.store_code.specs.Fits.{Fitting, OnPatch}
 
 -- ---- a store that was written to is as long as it was
 pub fitting-kept : (d : Desk) (s t : List ℕ) → length t ≡ length s → Fitting d s → Fitting d t
 fitting-kept d s t l f = record { range = f .range; long = let h = f .long in omega arith }
 
--- ---- slots lie within the store
+-- ---- slots lie within the store, where a place is a number of 64 bits
 module _ (d : Desk) (i : ℕ) (h : i < slotsOf d) where
-  slot-end : i * slotLength d + slotLength d ≤ patchStart d
-  unfolding patchStart
-  slot-end = within (slotLength d) h
-
-  -- and small enough that a place is a number of 64 bits
   pub slot-small : InRange d → i * slotLength d + slotLength d ≤ 1643264
-  slot-small r = let a : i * slotLength d + slotLength d ≤ patchStart d = slot-end in let b = patch-le d r in omega arith
+  slot-small r = let a = slot-end d i h in let b = patch-le d r in omega arith
 
   pub slot-room : {s : List ℕ} → Fitting d s → i * slotLength d + slotLength d ≤ length s
-  unfolding storeLength
-  slot-room f =
-      let a : i * slotLength d + slotLength d ≤ patchStart d = slot-end in
-      let b = f .long in
-      omega arith
+  slot-room f = let a = slot-end d i h in let b = slots-end d in let c = f .long in omega arith
 
 pub slot-long : (d : Desk) → 24 ≤ slotLength d
 unfolding slotLength
@@ -92,11 +87,8 @@ module _ (d : Desk) (s : List ℕ) (i : ℕ) {a e : ℕ} (ea : a ≡ i * slotLen
     unfolding putSlot
     slot-back ys xs q l = put-back s a (e - a) ys xs q (l ∙ sym slot-span) ∙ ap (λ (z : ℕ). put s z xs) ea
 
-pub slot-length : (d : Desk) (s : List ℕ) (i : ℕ) → Fitting d s → i < slotsOf d → length (slotAt d s i) ≡ slotLength d
-slot-length d s i f h = ap length (sym (slot-is d s i refl refl)) ∙ lent-length d s i refl refl f h
-
 pub slot-head : (d : Desk) (s : List ℕ) (i : ℕ) {x : List ℕ} → Fitting d s → i < slotsOf d → x ≡ slotAt d s i → 24 ≤ length x
-slot-head d s i f h e = let l = ap length e ∙ slot-length d s i f h in let g = slot-long d in omega arith
+slot-head d s i f h e = let l = ap length e ∙ slot-length d s (f .long) i h in let g = slot-long d in omega arith
 
 -- ---- levels
 pub level-inside : (d : Desk) (c : ℕ) → Within 1 c (d .channels) → levelPlace d c < slotLength d
@@ -155,17 +147,6 @@ afresh t z ys h {bs} eb e g q =
     ∙ ap (λ (y : List ℕ). y ++ r) eb
     ∙ ap (λ (k : ℕ). encodeHead h ++ replicate k 0) m
 
-pub blank-fits : (key : Key) → KeyFits key → HeadFits (blankHead key)
-unfolding blankHead
-blank-fits key f = omega arith
-
-pub blank-length : (d : Desk) (key : Key) → length (blankSlot d key) ≡ slotLength d
-unfolding blankSlot slotLength
-blank-length d key =
-    let a = length-encode (blankHead key) in
-    let b : length {A = ℕ} (replicate (levelsLength d) 0) ≡ levelsLength d = length-replicate (levelsLength d) 0 in
-    length-append (encodeHead (blankHead key)) (replicate (levelsLength d) 0) ∙ (omega arith)
-
 pub blank-is : (d : Desk) (key : Key) {h : Head} {xs : List ℕ} {n : ℕ}
     → xs ≡ encodeHead h ++ replicate (n - 24) 0 → h ≡ blankHead key → n ≡ slotLength d → xs ≡ blankSlot d key
 unfolding blankSlot slotLength
@@ -174,16 +155,8 @@ blank-is d key {h} {xs} {n} e q l =
     e ∙ ap (λ (z : Head). encodeHead z ++ replicate (n - 24) 0) q ∙ ap (λ (k : ℕ). encodeHead (blankHead key) ++ replicate k 0) m
 
 -- ---- a change
-edit-fits : (e : Edit) → EditFits e → (s : List ℕ) → HeadFits (editHead e (decodeHead s))
-unfolding editHead
-edit-fits (Up fade delay) h s = let f = decode-fits s in omega arith
-edit-fits (Down fade delay) h s = let f = decode-fits s in omega arith
-edit-fits (Followon time) h s = let f = decode-fits s in omega arith
-edit-fits (Link whole fraction) h s = let f = decode-fits s in omega arith
-edit-fits (Level channel v) h s = decode-fits s
-
 pub change-fits : (d : Desk) (e : Edit) (x : List ℕ) → EditFits e → slotLength d ≤ length x → HeadFits (editHead e (decodeHead x)) × (24 ≤ length x)
-change-fits d e x f l = let g = slot-long d in (edit-fits e f x, omega arith)
+change-fits d e x f l = let g = slot-long d in (edit-fits e (decodeHead x) (decode-fits x) f, omega arith)
 
 -- the slot after it, by the arms
 pub edit-by : (d : Desk) (xs : List ℕ) {x v : Edit} {t : List ℕ} → x ≡ v → ((y : List ℕ) → withHead v y ≡ editSlot d v y) → t ≡ withHead x xs → t ≡ editSlot d x xs
@@ -202,25 +175,31 @@ edit-back d s i x {a} {e} ys ea ee f h q l =
     slot-back d s i ea ee f h ys ys refl (l ∙ lent-length d s i ea ee f h)
     ∙ ap (λ (z : List ℕ). putSlot d s i z) (q ∙ ap (λ (z : List ℕ). editSlot d x z) (slot-is d s i ea ee))
 
--- ---- the patch
-module _ (d : Desk) (page dimmer : ℕ) (o : OnPatch d page dimmer) where
-  entry-end : patchStart d + entryOf d page dimmer * 3 + 3 ≤ storeLength d
-  unfolding storeLength
-  entry-end =
-      let j : entryOf d page dimmer < entriesOf d = entry-inside d page dimmer (o .onPage) (o .onDimmer) in
-      omega arith
+-- ---- patch entries
+module _ (d : Desk) (j : ℕ) (h : j < entriesOf d) where
+  pub entry-small : InRange d → patchStart d + j * 3 + 3 ≤ 1649408
+  entry-small r = let a = entry-end d j h in let b = store-le d r in omega arith
 
-  pub entry-small : InRange d → patchStart d + entryOf d page dimmer * 3 + 3 ≤ 1649408
-  entry-small r = let a : patchStart d + entryOf d page dimmer * 3 + 3 ≤ storeLength d = entry-end in let b = store-le d r in omega arith
+  pub entry-room : {s : List ℕ} → Fitting d s → patchStart d + j * 3 + 3 ≤ length s
+  entry-room f = let a = entry-end d j h in let b = f .long in omega arith
 
-  pub entry-room : {s : List ℕ} → Fitting d s → patchStart d + entryOf d page dimmer * 3 + 3 ≤ length s
-  entry-room f = let a : patchStart d + entryOf d page dimmer * 3 + 3 ≤ storeLength d = entry-end in let b = f .long in omega arith
+-- a dimmer's is one of them
+pub entry-there : (d : Desk) (page dimmer : ℕ) {j : ℕ} → OnPatch d page dimmer → j ≡ entryOf d page dimmer → j < entriesOf d
+entry-there d page dimmer o e = subst (λ (z : ℕ). z < entriesOf d) (sym e) (entry-inside d page dimmer (o .onPage) (o .onDimmer))
 
 pub entry-is : (d : Desk) (s : List ℕ) (j : ℕ) {a : ℕ} → a ≡ patchStart d + j * 3 → take (a + 3 - a) (drop a s) ≡ entryAt d s j
 unfolding entryAt
 entry-is d s j {a} e =
     let m : a + 3 - a ≡ 3 = omega arith in
     ap (λ (z : ℕ). take z (drop a s)) m ∙ ap (λ (z : ℕ). take 3 (drop z s)) e
+
+pub entry-whole : (d : Desk) (s : List ℕ) (j : ℕ) {x : List ℕ} → Fitting d s → j < entriesOf d → x ≡ entryAt d s j → 3 ≤ length x
+entry-whole d s j f h e = let l = ap length e ∙ entry-length d s (f .long) j h in omega arith
+
+pub patched-is : (d : Desk) (s : List ℕ) (page dimmer : ℕ) {j : ℕ} {x : List ℕ} {p : Patch} → j ≡ entryOf d page dimmer → x ≡ entryAt d s j
+    → p ≡ decodePatch x → p ≡ patchedTo d s page dimmer
+unfolding patchedTo
+patched-is d s page dimmer ej ex e = e ∙ ap decodePatch (ex ∙ ap (entryAt d s) ej)
 
 pub entry-back : (d : Desk) (s : List ℕ) (j : ℕ) {a : ℕ} (ys xs : List ℕ) → a ≡ patchStart d + j * 3 → a + 3 ≤ length s
     → ys ≡ put (take (a + 3 - a) (drop a s)) 0 xs → length xs ≡ 3 → take a s ++ (ys ++ drop (a + 3 - a) (drop a s)) ≡ putEntry d s j xs
@@ -230,17 +209,18 @@ entry-back d s j {a} ys xs e g q l =
     let r : a + (a + 3 - a) ≤ length s = omega arith in
     put-front s a (a + 3 - a) ys xs q k r ∙ ap (λ (z : ℕ). put s z xs) e
 
-pub patch-back : (d : Desk) (s : List ℕ) (page dimmer channel level : ℕ) {a v : ℕ} (ys : List ℕ) {bs : List ℕ}
-    → Fitting d s → OnPatch d page dimmer → a ≡ patchStart d + entryOf d page dimmer * 3
+pub patch-back : (d : Desk) (s : List ℕ) (page dimmer channel level : ℕ) {j a v : ℕ} (ys : List ℕ) {bs : List ℕ}
+    → Fitting d s → OnPatch d page dimmer → j ≡ entryOf d page dimmer → a ≡ patchStart d + j * 3
     → bs ≡ encodePatch (record { channel = channel; level = v; rest = 0 }) → v ≡ level
     → ys ≡ put (take (a + 3 - a) (drop a s)) 0 bs
     → take a s ++ (ys ++ drop (a + 3 - a) (drop a s)) ≡ patched d s page dimmer channel level
 unfolding patched
-patch-back d s page dimmer channel level {a} {v} ys {bs} f o e eb ev q =
-    let g = entry-room d page dimmer o f in
+patch-back d s page dimmer channel level {j} {a} {v} ys {bs} f o ej e eb ev q =
+    let g = entry-room d j (entry-there d page dimmer o ej) f in
     let r : bs ≡ encodePatch (patchEntry channel level) = eb ∙ ap (λ (z : ℕ). encodePatch (patchEntry channel z)) ev in
-    entry-back d s (entryOf d page dimmer) ys bs e (omega arith) q (ap length r ∙ length-encode-patch (patchEntry channel level))
-    ∙ ap (λ (z : List ℕ). putEntry d s (entryOf d page dimmer) z) r
+    entry-back d s j ys bs e (omega arith) q (ap length r ∙ length-encode-patch (patchEntry channel level))
+    ∙ ap (λ (z : List ℕ). putEntry d s j z) r
+    ∙ ap (λ (z : ℕ). putEntry d s z (encodePatch (patchEntry channel level))) ej
 
 -- ---- zeros
 pub zero-back : (s : List ℕ) (a n : ℕ) (ys : List ℕ) → ys ≡ replicate (length (take (a + n - a) (drop a s))) 0 → a + n ≤ length s

@@ -1,14 +1,12 @@
 -- The key of a slot in one number tells what the head tells: which memory the slot holds, whether it is used, and its page. From the laws of
 -- the quick number and linear arithmetic on its four fields.
 -- Assumes nothing.
-use mathlib.Core.Path.{_≡_, refl, sym, ap, _∙_, subst}
+use mathlib.Core.Path.{_≡_, refl, sym, ap, _∙_}
 use mathlib.Core.Bool.{Bool, true, false, not}
 use mathlib.Core.List.{List}
-use Prim.Native.Nat.{ℕ, _+_, _-_, _*_, _≤_, _<_, min}
+use Prim.Native.Nat.{ℕ, _+_, _-_, _*_, _≤_, _<_}
 use native.Mathlib.Omega.{arith}
 use lib.Dec.{leb, ltb, eqb}
-use lib.ListN.{length, getD, take, drop, length-take, List·getD-eq-default}
-use lib.Seq.{getD-take, getD-drop}
 use borrow.Author.Tests.{eqb-true, eq-eqb, ne-eqb, leb-true, le-leb, lt-ltb, le-ltb}
 use Rattle.cells.specs.Search.{Found, at, firstFrom}
 use Rattle.cells.proofs.Search.{first-same, search-hit, search-miss}
@@ -16,28 +14,18 @@ use Rattle.cells.proofs.Split.{by-bool, by-lt, same-test, and-true, and-left, a
 use Rattle.store_desk.specs.declared.Desk.{Desk}
 use Rattle.store_desk.specs.declared.Key.{Key}
 use Rattle.store_desk.specs.declared.Kind.{Kind}
-use Rattle.store_desk.specs.Size.{slotLength, slotsOf}
+use Rattle.store_desk.specs.Size.{slotsOf}
 use Rattle.store_desk.specs.Name.{KeyFits, eqKey, firstSlot, slotCount}
 use Rattle.store_desk.proofs.Name.{eq-key, eq-key-true, kind-end}
 use Rattle.store_head.specs.Pack.{total, packed, Bytes}
 use Rattle.store_head.specs.Layout.{HeadFits, wordOf}
-use Rattle.store_head.proofs.Laws.{decode-fits, quick-is}
+use Rattle.store_head.proofs.Laws.{decode-fits}
 use Rattle.store.specs.Slots.{slotAt, headAt, keyOf, isUsed, holdsAt, find}
 use Rattle.store.specs.Change.{onPage, hitsAt, lowestUnused}
 use Rattle.store_code.specs.Fits.{Fitting}
 use Rattle.store.specs.Order.{slotWord}
+use Rattle.store.proofs.Ordered.{word-is}
 use Rattle.store_code.specs.Answer.{nameOf}
-use Rattle.store_code.proofs.Laws.{slot-length, slot-long}
-
--- ---- bytes of a part
-part-bytes : (s : List ℕ) → Bytes s → (a n : ℕ) → Bytes (take n (drop a s))
-part-bytes s b a n i =
-    by-lt i n
-    (λ h. subst (λ (z : ℕ). z < 256) (sym (getD-take n (drop a s) i 0 h ∙ getD-drop a s i 0)) (b (a + i)))
-    (λ h.
-    let l : length (take n (drop a s)) ≡ min n (length (drop a s)) = length-take n (drop a s) in
-    let e : getD (take n (drop a s)) i 0 ≡ 0 = List·getD-eq-default (take n (drop a s)) 0 {n = i} (omega arith) in
-    omega arith)
 
 -- ---- the number of a key
 word-is-sum : (u p w f : ℕ) → wordOf u p w f ≡ u * 1048576 + (p * 16384 + (w * 16 + f))
@@ -45,21 +33,13 @@ unfolding wordOf packed total
 word-is-sum u p w f = omega arith
 
 module _ (d : Desk) (s : List ℕ) (i : ℕ) (f : Fitting d s) (h : i < slotsOf d) (b : Bytes s) where
-  -- it is that of the slot's head
-  word-is : slotWord d s i ≡ wordOf (headAt d s i .used) (headAt d s i .page) (headAt d s i .whole) (headAt d s i .fraction)
-  unfolding slotWord headAt slotAt
-  word-is =
-      let l = slot-length d s i f h in
-      let g = slot-long d in
-      quick-is (slotAt d s i) (omega arith) (part-bytes s b (i * slotLength d) (slotLength d))
-
   fits : HeadFits (headAt d s i)
   unfolding headAt
   fits = decode-fits (slotAt d s i)
 
   word-sum : {w : ℕ} → w ≡ slotWord d s i
       → w ≡ headAt d s i .used * 1048576 + (headAt d s i .page * 16384 + (headAt d s i .whole * 16 + headAt d s i .fraction))
-  word-sum e = e ∙ word-is ∙ word-is-sum (headAt d s i .used) (headAt d s i .page) (headAt d s i .whole) (headAt d s i .fraction)
+  word-sum e = e ∙ word-is d s (f .long) b i h ∙ word-is-sum (headAt d s i .used) (headAt d s i .page) (headAt d s i .whole) (headAt d s i .fraction)
 
   used-is : isUsed (headAt d s i) ≡ true → headAt d s i .used ≡ 1
   used-is t = eqb-true (headAt d s i .used) 1 t

@@ -5,12 +5,13 @@ ghost use mathlib.Core.List.{_++_};
 ghost use Prim.Native.Nat.{_+_, _-_, _*_, _≤_, _<_};
 ghost use lib.ListN.{length, replicate};
 ghost use Rattle.cells.specs.Put.{put};
-ghost use Rattle.store_desk.specs.Size.{Within, InRange, headLength, entryLength, slotLength, slotsOf, patchStart};
-ghost use Rattle.store_desk.specs.Name.{okName, KeyFits, entryOf};
+ghost use Rattle.store_desk.specs.Size.{Within, InRange, headLength, entryLength, slotLength, slotsOf, patchStart, entriesOf};
+ghost use Rattle.store_desk.specs.Name.{okName, KeyFits};
 ghost use Rattle.store_head.specs.Layout.{HeadFits, encodeHead, decodeHead};
-ghost use Rattle.store.specs.Slots.{slotAt, putSlot, headAt, placeOf, find as findSlot};
+ghost use Rattle.store.specs.Slots.{slotAt, putSlot, entryAt, headAt, placeOf, find as findSlot};
 ghost use Rattle.store.specs.View.{patchedTo};
 ghost use Rattle.store.specs.Change.{lowestUnused, newSeat, seat as seatOf, blankHead, blankSlot, editHead, withHead, editSlot, editAt, patched, hitsAt, cleared, clearedPatch, emptied};
+ghost use Rattle.store.specs.Form.{hasTimes, hasLink};
 ghost use Rattle.store.specs.Order.{slotWord};
 ghost use Rattle.store_code.specs.Fits.{Fitting, Editing, OnPatch};
 ghost use Rattle.store_code.specs.Answer.{nameOf, startedAs, startOf, LevelsOf};
@@ -21,6 +22,30 @@ use store_desk::Key;
 use store_desk::Kind;
 use store_head::Head;
 use store_head::Patch;
+
+// ---- which values a kind can have (§6.3)
+
+// UP and DOWN.
+pub fn has_times(kind: Kind) -> bool
+    ensures { λ r. ⌜ r ≡ hasTimes kind ⌝ }
+{
+    match kind {
+        Kind::Cue => true,
+        Kind::Group => false,
+        Kind::Sub => true,
+    }
+}
+
+// FOLLOWON and LINK.
+pub fn has_link(kind: Kind) -> bool
+    ensures { λ r. ⌜ r ≡ hasLink kind ⌝ }
+{
+    match kind {
+        Kind::Cue => true,
+        Kind::Group => false,
+        Kind::Sub => false,
+    }
+}
 
 // ---- slots and their heads
 
@@ -298,13 +323,24 @@ pub fn edit(desk: Desk, store: &mut [u8], slot: usize, e: Edit)
 
 // ---- the patch
 
-// Where a dimmer's entry begins in the store.
-fn entry_start(desk: Desk, page: u32, dimmer: u32) -> usize
+// Where a patch entry begins in the store.
+fn entry_start(desk: Desk, entry: usize) -> usize
     requires { ⌜ InRange desk ⌝ }
-    requires { ⌜ OnPatch desk page dimmer ⌝ }
-    ensures { λ r. ⌜ r ≡ patchStart desk + entryOf desk page dimmer * entryLength ⌝ }
+    requires { ⌜ entry < entriesOf desk ⌝ }
+    ensures { λ r. ⌜ r ≡ patchStart desk + entry * entryLength ⌝ }
 {
-    desk.patch_start() + store_desk::entry_of(desk, page, dimmer) * store_desk::ENTRY_LENGTH
+    desk.patch_start() + entry * store_desk::ENTRY_LENGTH
+}
+
+// The bytes of a patch entry.
+pub fn entry_bytes<'a>(desk: Desk, store: &'a [u8], entry: usize) -> &'a [u8]
+    requires { ⌜ Fitting desk (now store) ⌝ }
+    requires { ⌜ entry < entriesOf desk ⌝ }
+    ensures { λ r. ⌜ now r ≡ entryAt desk (now (store .entry)) entry ⌝ }
+{
+    let at = entry_start(desk, entry);
+    let end = at + store_desk::ENTRY_LENGTH;
+    &store[at..end]
 }
 
 pub fn patch_of(desk: Desk, store: &[u8], page: u32, dimmer: u32) -> Patch
@@ -312,9 +348,8 @@ pub fn patch_of(desk: Desk, store: &[u8], page: u32, dimmer: u32) -> Patch
     requires { ⌜ OnPatch desk page dimmer ⌝ }
     ensures { λ r. ⌜ r ≡ patchedTo desk (now (store .entry)) page dimmer ⌝ }
 {
-    let at = entry_start(desk, page, dimmer);
-    let end = at + store_desk::ENTRY_LENGTH;
-    store_head::decode_patch(&store[at..end])
+    let entry = store_desk::entry_of(desk, page, dimmer);
+    store_head::decode_patch(entry_bytes(desk, store, entry))
 }
 
 // A dimmer has one channel, the last given.
@@ -329,7 +364,7 @@ pub fn patch_dimmer(desk: Desk, store: &mut [u8], page: u32, dimmer: u32, channe
         level: cells::wide32(level),
         rest: 0,
     });
-    let at = entry_start(desk, page, dimmer);
+    let at = entry_start(desk, store_desk::entry_of(desk, page, dimmer));
     let end = at + store_desk::ENTRY_LENGTH;
     cells::copy(&mut store[at..end], &bytes);
 }

@@ -4,15 +4,14 @@
 use mathlib.Core.Path.{_≡_, refl, sym, ap, _∙_, subst}
 use mathlib.Core.Bool.{Bool, true, false, cond, not, _&&_}
 use mathlib.Core.List.{List, [], _∷_, _++_}
-use Prim.Native.Nat.{ℕ, zero, suc, _+_, _-_, _*_, _<_, _≤_}
+use Prim.Native.Nat.{ℕ, zero, suc, _+_, _-_, _<_, _≤_}
 use native.Mathlib.Nat.{add-zero, zero-add, suc-add, add-suc}
 use native.Mathlib.Numerals.{add-one}
 use native.Mathlib.Omega.{arith}
 use lib.Dec.{eqb, ltb}
-use lib.ListN.{length, getD, take, drop, replicate, set, List·getD-eq-default}
-use lib.Seq.{getD-take, getD-drop}
+use lib.ListN.{length, getD, replicate, set}
 use borrow.Author.Tests.{eqb-true, eq-eqb, ne-eqb, lt-ltb, le-ltb, not-false}
-use Rattle.cells.proofs.Split.{by-bool, by-eq, by-lt, cond-true, cond-false, same-test, clash, and-true, and-left, and-right, and-false-left}
+use Rattle.cells.proofs.Split.{by-bool, by-eq, by-lt, cond-true, cond-false, and-true, and-left, and-right, and-false-left}
 use Rattle.cells.proofs.Search.{first-hit, first-miss, first-none, first-nowhere, first-is, none-is, by-first, first-same, first-skip, first-front, count-none, count-hit, count-miss, count-same, count-turn, count-skip}
 use Rattle.cells.proofs.Table.{length-tab, tab-at}
 use Rattle.cells.proofs.Pad.{padded-add, padded-nil, getD-padded}
@@ -22,57 +21,20 @@ use Rattle.cells.specs.Table.{tab}
 use Rattle.store_desk.specs.declared.Desk.{Desk}
 use Rattle.store_desk.specs.declared.Kind.{Kind}
 use Rattle.store_desk.specs.declared.Kind.the-variants.{Group, Sub}
-use Rattle.store_desk.specs.Size.{InRange, slotLength, slotsOf, subSlots}
+use Rattle.store_desk.specs.Size.{InRange, slotsOf, subSlots}
 use Rattle.store_desk.specs.Name.{firstSlot, slotCount, kindAt, eqKey, okName, subSlot}
 use Rattle.store_desk.proofs.Name.{eq-key, eq-key-true, kind-at, kind-of}
-use Rattle.store_head.specs.declared.Head.{Head}
 use Rattle.store_head.specs.Pack.{total, packed, Bytes}
-use Rattle.store_head.specs.Layout.{HeadFits, wordOf}
-use Rattle.store_head.proofs.Laws.{decode-fits, quick-is, word-same}
+use Rattle.store_head.specs.Layout.{wordOf}
+use Rattle.store_head.proofs.Laws.{decode-fits}
 use Rattle.store.specs.Slots.{slotAt, headAt, keyOf, isUsed, holdsAt, find}
-use Rattle.store.specs.Form.{placeFits, valuesFit, nameAt, slotFits, isAt, repeatsAt, badSlot, repeatedSlot, isNowhere}
-use Rattle.store_form.specs.Fitting.{Fitting}
-use Rattle.store_form.specs.Keys.{mostKeys, keyWord, keyWords, usedWord, isWord, countWord, kindStart, seenBefore, Topped, topOf}
-use Rattle.store_form.proofs.Laws.{slot-length, head-fits}
-
--- ---- words
-abbrev wordHead : Head → ℕ
-wordHead h = wordOf (h .used) (h .page) (h .whole) (h .fraction)
-
-word-used : (h : Head) → HeadFits h → ltb (wordHead h) usedWord ≡ not (isUsed h)
-unfolding wordOf packed total
-word-used h f =
-    by-bool (isUsed h)
-    (λ t.
-    let u : h .used ≡ 1 = eqb-true (h .used) 1 t in
-    le-ltb (wordHead h) usedWord (omega arith) ∙ sym (ap not t))
-    (λ t.
-    let u : h .used < 2 = f .used in
-    let z : h .used ≡ 0 = by-lt (h .used) 1 (λ l. omega arith) (λ l. clash (eq-eqb (h .used) 1 (omega arith)) t) in
-    let p : h .page < 64 = f .page in
-    let w : h .whole < 1024 = f .whole in
-    let x : h .fraction < 16 = f .fraction in
-    lt-ltb (wordHead h) usedWord (omega arith) ∙ sym (ap not t))
-
-word-holds : (h k : Head) → HeadFits h → HeadFits k → isUsed k ≡ true → eqb (wordHead h) (wordHead k) ≡ (isUsed h && eqKey (keyOf h) (keyOf k))
-word-holds h k f g u =
-    same-test (eqb (wordHead h) (wordHead k)) (isUsed h && eqKey (keyOf h) (keyOf k))
-    (λ t.
-    let l : _≡_ {A = List ℕ} (h .used ∷ h .page ∷ h .whole ∷ h .fraction ∷ []) (k .used ∷ k .page ∷ k .whole ∷ k .fraction ∷ []) =
-    word-same (h .used) (h .page) (h .whole) (h .fraction) (k .used) (k .page) (k .whole) (k .fraction)
-    (f .used, (f .page, (f .whole, (f .fraction, tt)))) (g .used, (g .page, (g .whole, (g .fraction, tt))))
-    (eqb-true (wordHead h) (wordHead k) t)
-    in
-    let a : h .used ≡ k .used = ap (λ (z : List ℕ). getD z 0 0) l in
-    let b : h .page ≡ k .page = ap (λ (z : List ℕ). getD z 1 0) l in
-    let c : h .whole ≡ k .whole = ap (λ (z : List ℕ). getD z 2 0) l in
-    let d : h .fraction ≡ k .fraction = ap (λ (z : List ℕ). getD z 3 0) l in
-    and-true (isUsed h) (eqKey (keyOf h) (keyOf k)) (ap (λ (z : ℕ). eqb z 1) a ∙ u)
-    (eq-key-true (keyOf h) (keyOf k) (λ i. record { page = b i; whole = c i; fraction = d i })))
-    (λ t.
-    let a : h .used ≡ k .used = eqb-true (h .used) 1 (and-left (isUsed h) (eqKey (keyOf h) (keyOf k)) t) ∙ sym (eqb-true (k .used) 1 u) in
-    let e : keyOf h ≡ keyOf k = eq-key (keyOf h) (keyOf k) (and-right (isUsed h) (eqKey (keyOf h) (keyOf k)) t) in
-    eq-eqb (wordHead h) (wordHead k) (λ i. wordOf (a i) (e i .page) (e i .whole) (e i .fraction)))
+use Rattle.store.specs.Form.{placeFits, valuesFit, nameAt, slotFits}
+use Rattle.store.specs.First.{isAt, repeatsAt, badSlot, repeatedSlot, isNowhere}
+use Rattle.store.specs.Order.{slotWord}
+use Rattle.store.proofs.Ordered.{word-is}
+use Rattle.store_code.specs.Fits.{Fitting}
+use Rattle.store_code.proofs.Word.{word-test, unused-test}
+use Rattle.store_form.specs.Keys.{mostKeys, keyWords, usedWord, isWord, countWord, kindStart, seenBefore, Topped, topOf}
 
 -- ---- a search, and the number of places that pass
 count-found : (p : ℕ → Bool) (m n i : ℕ) → n ≡ m → ltb 0 (countFrom p n i) ≡ not (isNowhere (firstFrom p n i))
@@ -116,40 +78,22 @@ first-only p n m i f =
     (λ e g. first-skip p n m i g ∙ none-is p m (i + n) f ∙ sym e)
 
 -- ---- slots and their words
+used-least : usedWord ≡ wordOf 1 0 0 0
+unfolding wordOf packed total
+used-least = refl
+
 module _ (d : Desk) (s : List ℕ) (f : Fitting d s) (b : Bytes s) where
-  slot-octets : (i : ℕ) → i < slotsOf d → Bytes (slotAt d s i)
-  unfolding slotAt
-  slot-octets i h k =
-      let n : ℕ = slotLength d in
-      let l : length (take n (drop (i * n) s)) ≡ n = slot-length d s f i h in
-      by-lt k n
-      (λ g.
-      subst (λ (z : ℕ). z < 256) (sym (getD-take n (drop (i * n) s) k 0 g ∙ getD-drop (i * n) s k 0)) (b (i * n + k)))
-      (λ g.
-      let e : getD (take n (drop (i * n) s)) k 0 ≡ 0 = List·getD-eq-default (take n (drop (i * n) s)) 0 (omega arith) in
-      omega arith)
-
-  word-is : (i : ℕ) → i < slotsOf d → keyWord d s i ≡ wordHead (headAt d s i)
-  unfolding keyWord headAt
-  word-is i h =
-      let l : length (slotAt d s i) ≡ slotLength d = slot-length d s f i h in
-      let g : 24 ≤ slotLength d = head-fits d in
-      quick-is (slotAt d s i) (omega arith) (slot-octets i h)
-
-  head-fits-at : (i : ℕ) → HeadFits (headAt d s i)
-  unfolding headAt
-  head-fits-at i = decode-fits (slotAt d s i)
-
-  unused-word : (i : ℕ) → i < slotsOf d → ltb (keyWord d s i) usedWord ≡ not (isUsed (headAt d s i))
-  unused-word i h = ap (λ (w : ℕ). ltb w usedWord) (word-is i h) ∙ word-used (headAt d s i) (head-fits-at i)
+  unused-word : (i : ℕ) → i < slotsOf d → ltb (slotWord d s i) usedWord ≡ not (isUsed (headAt d s i))
+  unused-word i h = unused-test d s i f h b refl used-least
 
   same-word : (i j : ℕ) → i < slotsOf d → j < slotsOf d → isUsed (headAt d s i) ≡ true
-      → eqb (keyWord d s j) (keyWord d s i) ≡ holdsAt d s (keyOf (headAt d s i)) j
-  unfolding holdsAt
+      → eqb (slotWord d s j) (slotWord d s i) ≡ holdsAt d s (keyOf (headAt d s i)) j
+  unfolding headAt
   same-word i j h l u =
-      ap (λ (w : ℕ). eqb w (keyWord d s i)) (word-is j l)
-      ∙ ap (λ (w : ℕ). eqb (wordHead (headAt d s j)) w) (word-is i h)
-      ∙ word-holds (headAt d s j) (headAt d s i) (head-fits-at j) (head-fits-at i) u
+      let x = headAt d s i in
+      let g = decode-fits (slotAt d s i) in
+      word-test d s j f l b (keyOf x) (record { page = g .page; whole = g .whole; fraction = g .fraction }) refl
+      (word-is d s (f .long) b i h ∙ ap (λ (z : ℕ). wordOf z (x .page) (x .whole) (x .fraction)) (eqb-true (x .used) 1 u))
 
 -- a used slot repeats where one of its kind before it holds its key
 module _ (d : Desk) (s : List ℕ) (i : ℕ) (h : i < slotsOf d) (u : isUsed (headAt d s i) ≡ true) where
@@ -193,11 +137,11 @@ unfolding firstSlot
 most-keys d h = let c = h .cues .1 in let g = h .groups .1 in omega arith
 
 module _ (d : Desk) (s : List ℕ) (f : Fitting d s) (b : Bytes s) where
-  key-at : (i : ℕ) → i < firstSlot d Sub → getD (keyWords d s) i 0 ≡ keyWord d s i
+  key-at : (i : ℕ) → i < firstSlot d Sub → getD (keyWords d s) i 0 ≡ slotWord d s i
   unfolding keyWords
   key-at i h =
-      let l : length (tab (keyWord d s) 0 (firstSlot d Sub)) ≡ firstSlot d Sub = length-tab (keyWord d s) 0 (firstSlot d Sub) in
-      getD-padded mostKeys (tab (keyWord d s) 0 (firstSlot d Sub)) i (omega arith) ∙ tab-at (keyWord d s) (firstSlot d Sub) i 0 h
+      let l : length (tab (slotWord d s) 0 (firstSlot d Sub)) ≡ firstSlot d Sub = length-tab (slotWord d s) 0 (firstSlot d Sub) in
+      getD-padded mostKeys (tab (slotWord d s) 0 (firstSlot d Sub)) i (omega arith) ∙ tab-at (slotWord d s) (firstSlot d Sub) i 0 h
 
   seen-repeats : (i : ℕ) → i < firstSlot d Sub → seenBefore (d .cues) (keyWords d s) i ≡ repeatsAt d s i
   unfolding seenBefore countWord
@@ -215,7 +159,7 @@ module _ (d : Desk) (s : List ℕ) (f : Fitting d s) (b : Bytes s) where
       (λ j x y.
       let g : j < firstSlot d Sub = omega arith in
       let k : j < slotsOf d = omega arith in
-      ap (λ (z : ℕ). eqb z w) (key-at j g) ∙ ap (λ (z : ℕ). eqb (keyWord d s j) z) (key-at i h) ∙ same-word d s f b i j l k u))
+      ap (λ (z : ℕ). eqb z w) (key-at j g) ∙ ap (λ (z : ℕ). eqb (slotWord d s j) z) (key-at i h) ∙ same-word d s f b i j l k u))
       ∙ count-found (holdsAt d s (keyOf (headAt d s i))) (i - a) (i - a) a refl
       ∙ sym (repeats-is d s i l u a (start-is d i h)))
       (λ u.
@@ -295,23 +239,23 @@ unfolding tab
 tab-snoc f k zero = ap (λ (z : ℕ). f z ∷ []) (sym (add-zero k))
 tab-snoc f k (suc n) = ap (λ (z : List ℕ). f k ∷ z) (tab-snoc f (suc k) n ∙ ap (λ (z : ℕ). tab f (suc k) n ++ (f z ∷ [])) (suc-add k n ∙ sym (add-suc k n)))
 
-pub words-none : (d : Desk) (s : List ℕ) → replicate mostKeys 0 ≡ padded mostKeys (tab (keyWord d s) 0 0)
+pub words-none : (d : Desk) (s : List ℕ) → replicate mostKeys 0 ≡ padded mostKeys (tab (slotWord d s) 0 0)
 unfolding tab
 words-none d s = sym (padded-nil mostKeys)
 
 pub words-turn : (d : Desk) (s : List ℕ) (i w : ℕ) {z : List ℕ}
-    → z ≡ padded mostKeys (tab (keyWord d s) 0 i) → i < mostKeys → w ≡ keyWord d s i → set z i w ≡ padded mostKeys (tab (keyWord d s) 0 (i + 1))
+    → z ≡ padded mostKeys (tab (slotWord d s) 0 i) → i < mostKeys → w ≡ slotWord d s i → set z i w ≡ padded mostKeys (tab (slotWord d s) 0 (i + 1))
 words-turn d s i w {z} e h q =
-    padded-add mostKeys (tab (keyWord d s) 0 i) i w e (sym (length-tab (keyWord d s) 0 i)) h
-    ∙ ap (λ (x : ℕ). padded mostKeys (tab (keyWord d s) 0 i ++ (x ∷ []))) (q ∙ ap (keyWord d s) (sym (zero-add i)))
-    ∙ ap (padded mostKeys) (sym (tab-snoc (keyWord d s) 0 i) ∙ ap (tab (keyWord d s) 0) (sym (add-one i)))
+    padded-add mostKeys (tab (slotWord d s) 0 i) i w e (sym (length-tab (slotWord d s) 0 i)) h
+    ∙ ap (λ (x : ℕ). padded mostKeys (tab (slotWord d s) 0 i ++ (x ∷ []))) (q ∙ ap (slotWord d s) (sym (zero-add i)))
+    ∙ ap (padded mostKeys) (sym (tab-snoc (slotWord d s) 0 i) ∙ ap (tab (slotWord d s) 0) (sym (add-one i)))
 
 pub words-end : (d : Desk) (s : List ℕ) (i n : ℕ) {z : List ℕ}
-    → z ≡ padded mostKeys (tab (keyWord d s) 0 i) → i ≤ n → n ≤ i → n ≡ firstSlot d Sub → z ≡ keyWords d s
+    → z ≡ padded mostKeys (tab (slotWord d s) 0 i) → i ≤ n → n ≤ i → n ≡ firstSlot d Sub → z ≡ keyWords d s
 unfolding keyWords
 words-end d s i n e a b q =
     let m : i ≡ firstSlot d Sub = omega arith in
-    e ∙ ap (λ (k : ℕ). padded mostKeys (tab (keyWord d s) 0 k)) m
+    e ∙ ap (λ (k : ℕ). padded mostKeys (tab (slotWord d s) 0 k)) m
 
 -- ---- how often a word stands before a slot
 pub seen-unused : (c : ℕ) (ks : List ℕ) (i : ℕ) → getD ks i 0 < usedWord → false ≡ seenBefore c ks i

@@ -1,36 +1,33 @@
 -- What the tests of a slot, of a patch entry and of a store compute: bytes joined are zero where each is, tests joined one by one are the
--- definition's, a part of the store is the slot, and a search's answer as the code has it. By cases on tests, and the laws of parts.
+-- definition's, and a search's answer as the code has it. By cases on tests.
 -- Assumes nothing.
-use mathlib.Core.Path.{_≡_, refl, sym, ap, _∙_, subst}
+use mathlib.Core.Path.{_≡_, refl, sym, ap, _∙_}
 use mathlib.Core.Bool.{Bool, true, false, cond, not, _&&_}
 use mathlib.Core.List.{List}
-use Prim.Native.Nat.{ℕ, zero, _+_, _-_, _*_, _<_, _≤_}
+use Prim.Native.Nat.{ℕ, _+_, _-_, _<_, _≤_}
 use native.Mathlib.Numerals.{add-one}
 use native.Mathlib.Omega.{arith}
 use lib.Bits.{bitOr, bitAnd, or-add-and, and-le-l, and-le-r, or-zero-l}
 use lib.Dec.{eqb, leb}
-use lib.ListN.{length, getD, take, drop, length-drop, drop-of-length-le}
-use lib.Seq.{drop-cons, length-take-le}
+use lib.ListN.{length, getD, drop, drop-of-length-le}
+use lib.Seq.{drop-cons}
 use borrow.Author.Tests.{eqb-true, eq-eqb, ne-eqb, lt-ltb, le-ltb}
 use Rattle.cells.proofs.Split.{cond-true, cond-false, same-test, and-true, and-left, and-right, and-false-left, and-false-right}
-use Rattle.cells.proofs.Arith as products
-use Rattle.cells.proofs.Search.{search-hit, search-end}
-use Rattle.cells.specs.Search.{Found, at, nowhere, firstFrom}
+use Rattle.cells.specs.Search.{Found, firstFrom}
 use Rattle.store_desk.specs.declared.Desk.{Desk}
-use Rattle.store_desk.specs.declared.Key.{Key}
 use Rattle.store_desk.specs.declared.Kind.{Kind}
 use Rattle.store_desk.specs.declared.Kind.the-variants.{Cue, Group, Sub}
-use Rattle.store_desk.specs.Size.{Within, entryLength, slotLength, slotsOf, patchStart, entriesOf, storeLength}
-use Rattle.store_desk.specs.Name.{Name, firstSlot, pagesOf, kindAt, okName, okWithin}
-use Rattle.store_desk.proofs.Size.{patch-le, store-le}
-use Rattle.store_desk.proofs.Name.{ok-within, ok-page, ok-sub}
+use Rattle.store_desk.specs.Size.{slotsOf, entriesOf}
+use Rattle.store_desk.specs.Name.{firstSlot, kindAt, okName}
 use Rattle.store_head.specs.declared.Head.{Head}
 use Rattle.store_head.specs.declared.Patch.{Patch}
 use Rattle.store_head.specs.Layout.{decodeHead, decodePatch}
 use Rattle.store.specs.declared.Place.the-variants.{At, Nowhere}
 use Rattle.store.specs.Slots.{slotAt, entryAt, headAt, keyOf, placeOf}
-use Rattle.store.specs.Form.{hasTimes, hasLink, timeFits, linkFits, isZero, placeFits, valuesFit, slotFits, patchFits, entryFits, badSlot, repeatedSlot, badEntry, isNowhere, goodForm}
-use Rattle.store_form.specs.Fitting.{Fitting, usedFits}
+use Rattle.store.specs.Form.{hasTimes, hasLink, timeFits, linkFits, isZero, placeFits, valuesFit, usedFits, slotFits, patchFits, entryFits, goodForm}
+use Rattle.store.proofs.First.{good-searched}
+use Rattle.store.specs.First.{badSlot, repeatedSlot, badEntry, isNowhere}
+use Rattle.store_code.proofs.Found.{place-at, place-nowhere}
 
 -- ---- bytes joined
 or-zero : (a b : ℕ) → bitOr a b ≡ 0 → (a ≡ 0) × (b ≡ 0)
@@ -80,67 +77,6 @@ zero-end s i bits h g =
     and-one true = refl
     and-one false = refl
 
--- ---- parts of the store
-module _ (d : Desk) (s : List ℕ) (f : Fitting d s) where
-  slots-room : patchStart d ≤ length s
-  unfolding storeLength
-  slots-room = let r : storeLength d ≤ length s = f .room in omega arith
-
-  pub slot-room : (i : ℕ) → i < slotsOf d → i * slotLength d + slotLength d ≤ length s
-  unfolding patchStart
-  slot-room i h =
-      let r : patchStart d ≤ length s = slots-room in
-      products.room (slotLength d) h r refl
-
-  -- and it is a number that the code can hold
-  pub slot-small : (i : ℕ) → i < slotsOf d → i * slotLength d + slotLength d ≤ 1643264
-  unfolding patchStart
-  slot-small i h =
-      let r : patchStart d ≤ 1643264 = patch-le d (f .range) in
-      products.room (slotLength d) h r refl
-
-  pub entry-room : (i : ℕ) → i < entriesOf d → patchStart d + i * entryLength + entryLength ≤ length s
-  unfolding storeLength
-  entry-room i h = let r : storeLength d ≤ length s = f .room in omega arith
-
-  pub entry-small : (i : ℕ) → i < entriesOf d → patchStart d + i * entryLength + entryLength ≤ 1649408
-  unfolding storeLength
-  entry-small i h = let r : storeLength d ≤ 1649408 = store-le d (f .range) in omega arith
-
-  pub slot-length : (i : ℕ) → i < slotsOf d → length (slotAt d s i) ≡ slotLength d
-  unfolding slotAt
-  slot-length i h =
-      let r : i * slotLength d + slotLength d ≤ length s = slot-room i h in
-      let l : length (drop (i * slotLength d) s) ≡ length s - i * slotLength d = length-drop (i * slotLength d) s in
-      length-take-le (slotLength d) (drop (i * slotLength d) s) (omega arith)
-
-  pub entry-length : (i : ℕ) → i < entriesOf d → length (entryAt d s i) ≡ 3
-  unfolding entryAt
-  entry-length i h =
-      let a : ℕ = patchStart d + i * entryLength in
-      let r : a + entryLength ≤ length s = entry-room i h in
-      let l : length (drop a s) ≡ length s - a = length-drop a s in
-      length-take-le entryLength (drop a s) (omega arith)
-
-pub head-fits : (d : Desk) → 24 ≤ slotLength d
-unfolding slotLength
-head-fits d = omega arith
-
--- the code's part `store[at..end]` is the slot, the entry
-pub part-slot : (d : Desk) (s : List ℕ) (i : ℕ) {len : ℕ} → len ≡ slotLength d
-    → take (i * len + len - i * len) (drop (i * len) s) ≡ slotAt d s i
-unfolding slotAt
-part-slot d s i {len} e =
-    let k : i * len + len - i * len ≡ len = omega arith in
-    ap (λ (n : ℕ). take n (drop (i * len) s)) k ∙ ap (λ (n : ℕ). take n (drop (i * n) s)) e
-
-pub part-entry : (d : Desk) (s : List ℕ) (i : ℕ) {a : ℕ} → a ≡ patchStart d
-    → take (a + i * 3 + 3 - (a + i * 3)) (drop (a + i * 3) s) ≡ entryAt d s i
-unfolding entryAt
-part-entry d s i {a} e =
-    let k : a + i * 3 + 3 - (a + i * 3) ≡ 3 = omega arith in
-    ap (λ (n : ℕ). take n (drop (a + i * 3) s)) k ∙ ap (λ (n : ℕ). take 3 (drop (n + i * 3) s)) e
-
 -- ---- the kind and the place of a slot
 pub kind-cue : (d : Desk) (i : ℕ) {a : ℕ} → a ≡ firstSlot d Group → i < a → Cue ≡ kindAt d i
 unfolding kindAt firstSlot
@@ -156,15 +92,6 @@ unfolding kindAt firstSlot
 kind-sub d i e g h l =
     sym (cond-false _ _ _ (le-ltb i (d .cues) (omega arith)) ∙ cond-false _ _ _ (le-ltb i (d .cues + d .groups) (omega arith)))
 
--- a submaster whose name can be has a place
-pub sub-place : (d : Desk) (k : Kind) (key : Key) → okName d (record { kind = k; key = key }) ≡ true → k ≡ Sub
-    → Within 1 (key .page) (d .«sub_pages») × Within 1 (key .whole) (d .subs)
-unfolding okWithin pagesOf
-sub-place d k key e q =
-    let n : Name = record { kind = Sub; key = key } in
-    let g : okName d n ≡ true = subst (λ (j : Kind). okName d (record { kind = j; key = key }) ≡ true) q e in
-    (ok-page d n g, ok-sub d (key .whole) (key .fraction) (ok-within d n g) .0)
-
 -- ---- tests joined
 pub and-join : {r a x y : Bool} → a ≡ x → a ≡ true → r ≡ y → r ≡ (x && y)
 and-join {r} {a} {x} {y} e t g = g ∙ ap (λ (z : Bool). z && y) (sym t ∙ e)
@@ -174,7 +101,6 @@ and-stop {a} {x} y e t = sym (and-false-left x y (sym e ∙ t))
 
 pub used-joins : (d : Desk) (i : ℕ) (h : Head) (k : Kind) {r a b : Bool} → r ≡ (a && b) → k ≡ kindAt d i
     → a ≡ (okName d (record { kind = k; key = keyOf h }) && placeFits d k i (keyOf h)) → b ≡ valuesFit k h → r ≡ usedFits d i h
-unfolding usedFits
 used-joins d i h k {r} {a} {b} e q f g =
     e ∙ ap (λ (x : Bool). x && b) f
     ∙ ap (λ (x : Bool). (okName d (record { kind = k; key = keyOf h }) && placeFits d k i (keyOf h)) && x) g
@@ -182,7 +108,7 @@ used-joins d i h k {r} {a} {b} e q f g =
 
 pub used-fits : (d : Desk) (s : List ℕ) (i : ℕ) {x : List ℕ} {h : Head} {r : Bool}
     → x ≡ slotAt d s i → h ≡ decodeHead x → h .used ≡ 1 → r ≡ usedFits d i h → r ≡ slotFits d s i
-unfolding slotFits usedFits headAt
+unfolding slotFits headAt
 used-fits d s i {x} {h} {r} e g u f =
     let q : h ≡ decodeHead (slotAt d s i) = g ∙ ap decodeHead e in
     let v : decodeHead (slotAt d s i) .used ≡ 1 = ap (λ (y : Head). y .used) (sym q) ∙ u in
@@ -218,15 +144,6 @@ pub patch-some : (d : Desk) (p : Patch) {r : Bool} → (p .channel ≡ 0 → ⊥
 unfolding patchFits
 patch-some d p e f = f ∙ ap (λ (x : Bool). eqb (p .rest) 0 && x) (sym (cond-false _ _ _ (ne-eqb (p .channel) 0 e)))
 
--- ---- a search's answer, for a loop from i up to n
-pub place-hit : (p : ℕ → Bool) (n i : ℕ) {b : Bool} {f : Found} → i < n → b ≡ p i → b ≡ true → firstFrom p (n - i) i ≡ f → At i ≡ placeOf f
-unfolding placeOf
-place-hit p n i h e t g = ap placeOf (search-hit p n i h e t g)
-
-pub place-end : (p : ℕ → Bool) (n i : ℕ) {f : Found} → n ≤ i → firstFrom p (n - i) i ≡ f → Nowhere ≡ placeOf f
-unfolding placeOf
-place-end p n i h g = ap placeOf (search-end p n i h g)
-
 -- where a search begins
 pub sub-none : (p : ℕ → Bool) (n : ℕ) → firstFrom p (n - 0) 0 ≡ firstFrom p n 0
 sub-none p n = let m : n - 0 ≡ n = omega arith in ap (λ (k : ℕ). firstFrom p k 0) m
@@ -241,36 +158,26 @@ entries-start d s {n} e = let m : n - 0 ≡ entriesOf d = omega arith in ap (λ 
 
 -- ---- the three searches
 at-found : (f : Found) (i : ℕ) → At i ≡ placeOf f → isNowhere f ≡ false
-unfolding placeOf isNowhere
-at-found (at j) i e = refl
-at-found nowhere i e = absurd (let z : _≡_ {A = ℕ} 0 1 = cc in omega arith)
-
-pub none-found : (f : Found) → Nowhere ≡ placeOf f → f ≡ nowhere
-unfolding placeOf
-none-found (at j) e = absurd (let z : _≡_ {A = ℕ} 0 1 = cc in omega arith)
-none-found nowhere e = refl
+unfolding isNowhere
+at-found f i e = ap isNowhere (place-at e refl)
 
 none-true : (f : Found) → Nowhere ≡ placeOf f → isNowhere f ≡ true
 unfolding isNowhere
-none-true f e = ap isNowhere (none-found f e)
+none-true f e = ap isNowhere (place-nowhere e refl)
 
 pub first-bad : (d : Desk) (s : List ℕ) {i : ℕ} → At i ≡ placeOf (badSlot d s) → false ≡ goodForm d s
-unfolding goodForm
 first-bad d s {i} e =
-    sym (and-false-left _ _ (and-false-left _ (isNowhere (repeatedSlot d s)) (at-found (badSlot d s) i e)))
+    sym (and-false-left _ _ (and-false-left _ (isNowhere (repeatedSlot d s)) (at-found (badSlot d s) i e))) ∙ sym (good-searched d s)
 
 pub second-bad : (d : Desk) (s : List ℕ) {i : ℕ} → At i ≡ placeOf (repeatedSlot d s) → false ≡ goodForm d s
-unfolding goodForm
 second-bad d s {i} e =
-    sym (and-false-left _ _ (and-false-right (isNowhere (badSlot d s)) _ (at-found (repeatedSlot d s) i e)))
+    sym (and-false-left _ _ (and-false-right (isNowhere (badSlot d s)) _ (at-found (repeatedSlot d s) i e))) ∙ sym (good-searched d s)
 
 pub third-bad : (d : Desk) (s : List ℕ) {i : ℕ} → At i ≡ placeOf (badEntry d s) → false ≡ goodForm d s
-unfolding goodForm
 third-bad d s {i} e =
-    sym (and-false-right (isNowhere (badSlot d s) && isNowhere (repeatedSlot d s)) _ (at-found (badEntry d s) i e))
+    sym (and-false-right (isNowhere (badSlot d s) && isNowhere (repeatedSlot d s)) _ (at-found (badEntry d s) i e)) ∙ sym (good-searched d s)
 
 pub none-bad : (d : Desk) (s : List ℕ)
     → Nowhere ≡ placeOf (badSlot d s) → Nowhere ≡ placeOf (repeatedSlot d s) → Nowhere ≡ placeOf (badEntry d s) → true ≡ goodForm d s
-unfolding goodForm
 none-bad d s a b c =
-    sym (and-true _ _ (and-true _ _ (none-true (badSlot d s) a) (none-true (repeatedSlot d s) b)) (none-true (badEntry d s) c))
+    sym (and-true _ _ (and-true _ _ (none-true (badSlot d s) a) (none-true (repeatedSlot d s) b)) (none-true (badEntry d s) c)) ∙ sym (good-searched d s)

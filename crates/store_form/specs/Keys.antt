@@ -13,19 +13,14 @@ use Rattle.store_desk.specs.declared.Desk.{Desk}
 use Rattle.store_desk.specs.declared.Kind.the-variants.{Sub}
 use Rattle.store_desk.specs.Size.{mostCues, mostGroups}
 use Rattle.store_desk.specs.Name.{firstSlot}
-use Rattle.store_head.specs.Layout.{quickOf}
-use Rattle.store.specs.Slots.{slotAt}
+use Rattle.store.specs.Order.{slotWord}
 
 -- the most cue and group slots
 abbrev pub mostKeys : ℕ
 mostKeys = mostCues + mostGroups
 
--- a slot's used bit, page and number in one number
-unfoldable pub keyWord : Desk → List ℕ → ℕ → ℕ
-keyWord d s i = quickOf (slotAt d s i)
-
 unfoldable pub keyWords : Desk → List ℕ → List ℕ
-keyWords d s = padded mostKeys (tab (keyWord d s) 0 (firstSlot d Sub))
+keyWords d s = padded mostKeys (tab (slotWord d s) 0 (firstSlot d Sub))
 
 -- the word of a used slot is this or more
 abbrev pub usedWord : ℕ

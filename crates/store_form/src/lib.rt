@@ -12,10 +12,11 @@ ghost use Prim.Native.Nat.{_≤_, _<_};
 ghost use Rattle.cells.specs.Search.{nowhere, firstFrom};
 ghost use Rattle.store_desk.specs.Size.{InRange, slotsOf, entriesOf};
 ghost use Rattle.store_desk.specs.Name.{kindAt, okName};
-ghost use Rattle.store.specs.Slots.{slotAt, entryAt, placeOf};
-ghost use Rattle.store.specs.Form.{hasTimes, hasLink, isZero, timeFits, linkFits, valuesFit, placeFits, slotFits, patchFits, entryFits, badSlot, repeatedSlot, badEntry, goodForm};
-ghost use Rattle.store_form.specs.Fitting.{Fitting, usedFits};
-ghost use Rattle.store_form.specs.Keys.{mostKeys, keyWord, keyWords, countWord, kindStart, seenBefore, Topped, topOf};
+ghost use Rattle.store.specs.Slots.{placeOf};
+ghost use Rattle.store.specs.Form.{isZero, timeFits, linkFits, valuesFit, placeFits, usedFits, slotFits, patchFits, entryFits, goodForm};
+ghost use Rattle.store.specs.First.{badSlot, repeatedSlot, badEntry};
+ghost use Rattle.store_code.specs.Fits.{Fitting};
+ghost use Rattle.store_form.specs.Keys.{mostKeys, keyWords, countWord, kindStart, seenBefore, Topped, topOf};
 
 // 999:59:59.9
 const MOST_TIME: u32 = 35999999;
@@ -69,31 +70,11 @@ fn link_fits(can: bool, h: Head) -> bool
     both(can, store_desk::ok_number(h.link_whole, h.link_fraction))
 }
 
-fn has_times(kind: Kind) -> bool
-    ensures { λ r. ⌜ r ≡ hasTimes kind ⌝ }
-{
-    match kind {
-        Kind::Cue => true,
-        Kind::Group => false,
-        Kind::Sub => true,
-    }
-}
-
-fn has_link(kind: Kind) -> bool
-    ensures { λ r. ⌜ r ≡ hasLink kind ⌝ }
-{
-    match kind {
-        Kind::Cue => true,
-        Kind::Group => false,
-        Kind::Sub => false,
-    }
-}
-
 fn values_fit(kind: Kind, h: Head) -> bool
     ensures { λ r. ⌜ r ≡ valuesFit kind h ⌝ }
 {
-    let times = has_times(kind);
-    let link = has_link(kind);
+    let times = store_code::has_times(kind);
+    let link = store_code::has_link(kind);
     let up = both(
         time_fits(times, h.up, h.up_fade),
         time_fits(times, h.up, h.up_delay),
@@ -158,34 +139,12 @@ fn used_fits(desk: Desk, slot: usize, h: Head) -> bool
     both(name_fits(desk, kind, slot, key), values_fit(kind, h))
 }
 
-// The bytes of a slot, and of a patch entry.
-fn slot_bytes(desk: Desk, store: &[u8], slot: usize) -> &[u8]
-    requires { ⌜ Fitting desk (now store) ⌝ }
-    requires { ⌜ slot < slotsOf desk ⌝ }
-    ensures { λ r. ⌜ now r ≡ slotAt desk (now (store .entry)) slot ⌝ }
-{
-    let length = desk.slot_length();
-    let at = slot * length;
-    let end = at + length;
-    &store[at..end]
-}
-
-fn entry_bytes(desk: Desk, store: &[u8], entry: usize) -> &[u8]
-    requires { ⌜ Fitting desk (now store) ⌝ }
-    requires { ⌜ entry < entriesOf desk ⌝ }
-    ensures { λ r. ⌜ now r ≡ entryAt desk (now (store .entry)) entry ⌝ }
-{
-    let at = desk.patch_start() + entry * store_desk::ENTRY_LENGTH;
-    let end = at + store_desk::ENTRY_LENGTH;
-    &store[at..end]
-}
-
 fn slot_fits(desk: Desk, store: &[u8], slot: usize) -> bool
     requires { ⌜ Fitting desk (now store) ⌝ }
     requires { ⌜ slot < slotsOf desk ⌝ }
     ensures { λ r. ⌜ r ≡ slotFits desk (now (store .entry)) slot ⌝ }
 {
-    let bytes = slot_bytes(desk, store, slot);
+    let bytes = store_code::slot_bytes(desk, store, slot);
     let h = store_head::decode(bytes);
     if h.used == 1 {
         return used_fits(desk, slot, h);
@@ -211,14 +170,6 @@ pub fn bad_slot(desk: Desk, store: &[u8]) -> Place
 
 // ---- a slot that repeats an earlier one
 
-fn key_word(desk: Desk, store: &[u8], slot: usize) -> u32
-    requires { ⌜ Fitting desk (now store) ⌝ }
-    requires { ⌜ slot < slotsOf desk ⌝ }
-    ensures { λ r. ⌜ r ≡ keyWord desk (now (store .entry)) slot ⌝ }
-{
-    store_head::quick(slot_bytes(desk, store, slot))
-}
-
 // The key words of cues and groups side by side: each is compared with those before it, and a slot is read once.
 fn key_words(desk: Desk, store: &[u8]) -> [u32; MOST_KEYS]
     requires { ⌜ Fitting desk (now store) ⌝ }
@@ -228,7 +179,7 @@ fn key_words(desk: Desk, store: &[u8]) -> [u32; MOST_KEYS]
     let mut words = [0u32; MOST_KEYS];
     let mut i = 0;
     while i < n {
-        words[i] = key_word(desk, store, i);
+        words[i] = store_code::word_at(desk, store, i);
         i += 1;
     }
     words
@@ -333,10 +284,8 @@ fn entry_fits(desk: Desk, store: &[u8], entry: usize) -> bool
     requires { ⌜ entry < entriesOf desk ⌝ }
     ensures { λ r. ⌜ r ≡ entryFits desk (now (store .entry)) entry ⌝ }
 {
-    patch_fits(
-        desk,
-        store_head::decode_patch(entry_bytes(desk, store, entry)),
-    )
+    let bytes = store_code::entry_bytes(desk, store, entry);
+    patch_fits(desk, store_head::decode_patch(bytes))
 }
 
 // The first patch entry that is out of form.

@@ -41,7 +41,8 @@ use Rattle.store_desk.specs.Name.{firstSlot, slotCount, pagesOf, kindAt, suppor
 use Rattle.store_head.specs.Pack.{total, packed, unpacked}
 use Rattle.store_head.specs.Layout.{encodeHead, decodeHead, firstWord, secondWord, thirdWord, wordOf, quickOf, encodePatch, decodePatch}
 use Rattle.store.specs.Slots.{slotAt, putSlot, entryAt, putEntry, headAt, levelsAt, levelPlace, holdsAt, find, onFound, placeOf}
-use Rattle.store.specs.Form.{hasTimes, hasLink, isZero, linkFits, valuesFit, placeFits, slotFits, isAt, repeatsAt, patchFits, entryFits, badSlot, repeatedSlot, badEntry, isNowhere}
+use Rattle.store.specs.Form.{hasTimes, hasLink, isZero, linkFits, valuesFit, placeFits, slotFits, patchFits, entryFits}
+use Rattle.store.specs.First.{isAt, repeatsAt, badSlot, repeatedSlot, badEntry, isNowhere}
 use Rattle.theorem_called.specs.Called.{CallsReadBack, WriteThenLoad, EdgesCalled, GoodAfter, CallsRehearse, RehearsedCalls}
 
 -- a store in good form is not turned away

@@ -16,16 +16,17 @@ use Rattle.store_desk.specs.declared.Kind.the-variants.{Cue, Group, Sub}
 use Rattle.store_desk.proofs.Size.{in-range}
 use Rattle.cells.specs.Put.{put}
 use Rattle.cells.specs.Scan.{span}
-use Rattle.cells.specs.Search.{firstFrom}
+use Rattle.cells.specs.Search.{firstFrom, allFrom}
 use Rattle.store_desk.specs.Size.{allOf, inRangeOf, levelWidth, levelsLength, slotLength, subSlots, slotsOf, patchStart, entriesOf, storeLength}
-use Rattle.store_desk.specs.Name.{Name, firstSlot, slotCount, pagesOf, kindAt, supported, eqKey, lessKey, okNumber, okSub, okWithin, okPage, okName, subSlot, entryOf}
+use Rattle.store_desk.specs.Name.{Name, firstSlot, slotCount, pagesOf, kindAt, supported, eqKind, eqKey, eqName, lessKey, okNumber, okSub, okWithin, okPage, okName, subSlot, entryOf}
 use Rattle.store_head.specs.Pack.{Bytes, total, packed, unpacked}
 use Rattle.store_head.specs.Layout.{encodeHead, decodeHead, encodePatch, decodePatch}
 use Rattle.store.specs.declared.Edit.the-variants.{Down, Level}
 use Rattle.store.specs.Slots.{slotAt, putSlot, entryAt, putEntry, headAt, levelsAt, levelPlace, holdsAt, find, onFound}
 use Rattle.store.specs.View.{memoryAt, patchedTo}
 use Rattle.store.specs.Change.{lowestUnused, newSeat, seat, blankHead, blankSlot, started, editHead, withHead, editSlot, editAt, edited, patched, hitsAt, clearFrom, cleared, patchPageLength, clearedPatch}
-use Rattle.store.specs.Form.{hasTimes, hasLink, isZero, linkFits, valuesFit, placeFits, slotFits, isAt, repeatsAt, patchFits, entryFits, badSlot, repeatedSlot, badEntry, isNowhere, goodForm}
+use Rattle.store.specs.Form.{hasTimes, hasLink, isZero, linkFits, valuesFit, placeFits, slotFits, patchFits, entryFits, shares, goodForm}
+use Rattle.store.specs.First.{isAt, repeatsAt, badSlot, repeatedSlot, badEntry, isNowhere}
 use Rattle.store.specs.Order.{usedFrom, insertSlot, sortSlots, inOrder}
 use Rattle.store.specs.Good.{Ready}
 use Rattle.store.proofs.Form.{good-sound}
@@ -81,7 +82,7 @@ unfolding usedFrom insertSlot sortSlots inOrder lessKey levelsAt memoryAt patche
 trial-lines = refl
 
 trial-form : goodForm small trial ≡ true
-unfolding goodForm badSlot repeatedSlot badEntry isNowhere slotFits repeatsAt entryFits isAt valuesFit linkFits hasTimes hasLink isZero placeFits patchFits okName okPage okWithin okNumber okSub supported pagesOf kindAt entriesOf lowestUnused newSeat seat blankHead blankSlot started editHead withHead editSlot editAt edited patched slotAt putSlot entryAt putEntry headAt levelPlace holdsAt find onFound firstFrom put allOf eqKey levelWidth levelsLength slotLength subSlots slotsOf patchStart entryOf firstSlot slotCount subSlot total packed unpacked encodeHead decodeHead encodePatch decodePatch
+unfolding goodForm allFrom shares eqName eqKind slotFits entryFits valuesFit linkFits hasTimes hasLink isZero placeFits patchFits okName okPage okWithin okNumber okSub supported pagesOf kindAt entriesOf lowestUnused newSeat seat blankHead blankSlot started editHead withHead editSlot editAt edited patched slotAt putSlot entryAt putEntry headAt levelPlace holdsAt find onFound firstFrom put allOf eqKey levelWidth levelsLength slotLength subSlots slotsOf patchStart entryOf firstSlot slotCount subSlot total packed unpacked encodeHead decodeHead encodePatch decodePatch
 trial-form = refl
 
 isByte : ℕ → Bool

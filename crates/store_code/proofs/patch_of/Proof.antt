@@ -1,44 +1,22 @@
--- `patch_of` meets its contract: the part is the entry, and decoding it is the definition.
+-- `patch_of` meets its contract: decoding the entry is the definition.
 -- Assumes nothing.
-use native.Mathlib.Omega.{arith}
-use mathlib.Core.Path.{_∙_, ap}
-use Rattle.store_code.proofs.Laws.{entry-small, entry-room, entry-is}
-use Rattle.store_head.specs.Layout.{decodePatch}
-use Rattle.store.specs.View.{patchedTo}
+use Rattle.store_code.proofs.Laws.{entry-there, entry-whole, patched-is}
 use borrow.Author.Needs.{needs}
 use Rattle.store_code.proofs.patch_of.Statement.{statement}
 use Rattle.store_code.proofs.patch_of.Tie as tie
 
-entry-start-requires : tie.Need-entry-start-requires
-entry-start-requires c κs = search needs
+entry-of-requires : tie.Need-entry-of-requires
+entry-of-requires c κs = search needs
 
-add-end : tie.Need-add-end
-add-end c = let h = entry-small _ _ _ (c .before .before .pre .1) (c .before .before .pre .0 .range) in omega (arith, c .entry-start .ensures)
-
-sub-decode-patch : tie.Need-sub-decode-patch
-sub-decode-patch c = search needs
-
-part-decode-patch-start : tie.Need-part-decode-patch-start
-part-decode-patch-start c = search needs
-
-part-decode-patch-end : tie.Need-part-decode-patch-end
-part-decode-patch-end c = let h = entry-room _ _ _ (c .before .before .pre .1) (c .before .before .pre .0) in omega (arith, c .entry-start .ensures)
+entry-bytes-requires : tie.Need-entry-bytes-requires
+entry-bytes-requires c κs = (c .before .before .pre .0, entry-there _ _ _ (c .before .before .pre .1) (c .entry-of .ensures))
 
 decode-patch-requires : tie.Need-decode-patch-requires
-decode-patch-requires c κs = search needs
+decode-patch-requires c κs = entry-whole _ _ _ (c .before .before .before .pre .0) (entry-there _ _ _ (c .before .before .before .pre .1) (c .before .entry-of .ensures)) (c .entry-bytes .ensures)
 
 returns : tie.Need-returns
-unfolding patchedTo
-returns c = c .decode-patch .ensures ∙ ap decodePatch (entry-is _ _ _ (c .before .before .entry-start .ensures))
+returns c = patched-is _ _ _ _ (c .before .before .entry-of .ensures) (c .before .entry-bytes .ensures) (c .decode-patch .ensures)
 
 pub patch-of-spec : {M : Type 1} → statement M
 patch-of-spec =
-    tie.close
-    (tie.spec
-    entry-start-requires
-    add-end
-    sub-decode-patch
-    part-decode-patch-start
-    part-decode-patch-end
-    decode-patch-requires
-    returns)
+    tie.close (tie.spec entry-of-requires entry-bytes-requires decode-patch-requires returns)

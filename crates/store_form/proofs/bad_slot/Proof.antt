@@ -1,9 +1,11 @@
 -- `bad_slot` meets its contract. The invariant: the first bad slot from here on is the first of all.
 -- Assumes nothing.
 use native.Mathlib.Omega.{arith}
-use Rattle.store.specs.Form.{slotFits, badSlot}
-use Rattle.store_form.proofs.Laws.{place-hit, place-end, slots-start}
-use Rattle.cells.proofs.Search.{search-miss}
+use Rattle.store.specs.Form.{slotFits}
+use Rattle.store.specs.First.{badSlot}
+use Rattle.store_code.proofs.Found.{at-place, nowhere-place}
+use Rattle.store_form.proofs.Laws.{slots-start}
+use Rattle.cells.proofs.Search.{search-hit, search-miss, search-end}
 use Rattle.cells.specs.Search.{firstFrom}
 use mathlib.Core.Bool.{not}
 use Prim.Native.Nat.{_-_, _≤_}
@@ -28,7 +30,7 @@ slot-fits-requires : tie.Need-slot-fits-requires Inv-loop μ-loop
 slot-fits-requires c κs = let e = c .before .before .slots .ensures in (c .before .before .before .before .pre, omega (arith, c .loop-test .taken))
 
 returns : tie.Need-returns Inv-loop μ-loop
-returns c = place-hit _ _ _ (c .before .before .loop-test .taken) (ap not (c .before .slot-fits .ensures)) (c .if1 .taken) (c .before .before .before .loop .inv .1)
+returns c = at-place (search-hit _ _ _ (c .before .before .loop-test .taken) (ap not (c .before .slot-fits .ensures)) (c .if1 .taken) (c .before .before .before .loop .inv .1))
 
 add-i : tie.Need-add-i Inv-loop μ-loop
 add-i c = search needs
@@ -40,7 +42,7 @@ loop-again : tie.Need-loop-again Inv-loop μ-loop
 loop-again c = (search needs, search-miss _ _ _ (c .before .before .loop-test .taken) (ap not (c .before .slot-fits .ensures)) (c .if1 .left) (c .before .before .before .loop .inv .1))
 
 returns-2 : tie.Need-returns-2 Inv-loop μ-loop
-returns-2 c = place-end _ _ _ (c .loop-test .left) (c .before .loop .inv .1)
+returns-2 c = nowhere-place (search-end _ _ _ (c .loop-test .left) (c .before .loop .inv .1))
 
 pub bad-slot-spec : {M : Type 1} → statement M
 bad-slot-spec =

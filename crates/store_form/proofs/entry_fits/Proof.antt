@@ -1,9 +1,7 @@
 -- `entry_fits` meets its contract: the part is the entry.
 -- Assumes nothing.
-use lib.ListN.{length}
-use mathlib.Core.Path.{ap}
-use native.Mathlib.Omega.{arith}
-use Rattle.store_form.proofs.Laws.{entry-length, entry-fits}
+use Rattle.store_code.proofs.Laws.{entry-whole}
+use Rattle.store_form.proofs.Laws.{entry-fits}
 use borrow.Author.Needs.{needs}
 use Rattle.store_form.proofs.entry_fits.Statement.{statement}
 use Rattle.store_form.proofs.entry_fits.Tie as tie
@@ -12,7 +10,7 @@ entry-bytes-requires : tie.Need-entry-bytes-requires
 entry-bytes-requires c κs = search needs
 
 decode-patch-requires : tie.Need-decode-patch-requires
-decode-patch-requires c κs = let l = ap length (c .entry-bytes .ensures) in let k = entry-length _ _ (c .before .before .pre .0) _ (c .before .before .pre .1) in omega arith
+decode-patch-requires c κs = entry-whole _ _ _ (c .before .before .pre .0) (c .before .before .pre .1) (c .entry-bytes .ensures)
 
 patch-fits-requires : tie.Need-patch-fits-requires
 patch-fits-requires c κs = search needs

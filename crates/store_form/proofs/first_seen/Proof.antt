@@ -3,8 +3,9 @@
 -- Assumes nothing.
 use Rattle.store_form.specs.Keys.{seenBefore, Topped}
 use Rattle.store_form.proofs.Keys.{topped-start, topped-turn}
-use Rattle.store_form.proofs.Laws.{place-hit, place-end, sub-none}
-use Rattle.cells.proofs.Search.{search-miss}
+use Rattle.store_code.proofs.Found.{at-place, nowhere-place}
+use Rattle.store_form.proofs.Laws.{sub-none}
+use Rattle.cells.proofs.Search.{search-hit, search-miss, search-end}
 use Rattle.cells.specs.Search.{firstFrom}
 use Prim.Native.Nat.{_-_, _≤_}
 use mathlib.Core.Path.{_≡_}
@@ -26,7 +27,7 @@ seen-before-requires : tie.Need-seen-before-requires Inv-loop μ-loop
 seen-before-requires c κs = (search needs, c .before .loop .inv .2)
 
 returns : tie.Need-returns Inv-loop μ-loop
-returns c = place-hit _ _ _ (c .before .before .loop-test .taken) (c .before .seen-before .ensures) (c .if1 .taken) (c .before .before .before .loop .inv .1)
+returns c = at-place (search-hit _ _ _ (c .before .before .loop-test .taken) (c .before .seen-before .ensures) (c .if1 .taken) (c .before .before .before .loop .inv .1))
 
 mul-word : tie.Need-mul-word Inv-loop μ-loop
 mul-word c = search needs
@@ -47,7 +48,7 @@ loop-again : tie.Need-loop-again Inv-loop μ-loop
 loop-again c = (search needs, search-miss _ _ _ (c .before .before .before .before .loop-test .taken) (c .before .before .before .seen-before .ensures) (c .before .before .if1 .left) (c .before .before .before .before .before .loop .inv .1), topped-turn _ _ _ _ (c .before .before .before .before .before .loop .inv .2) (c .top-of .ensures))
 
 returns-2 : tie.Need-returns-2 Inv-loop μ-loop
-returns-2 c = place-end _ _ _ (c .loop-test .left) (c .before .loop .inv .1)
+returns-2 c = nowhere-place (search-end _ _ _ (c .loop-test .left) (c .before .loop .inv .1))
 
 pub first-seen-spec : {M : Type 1} → statement M
 first-seen-spec =

@@ -1,6 +1,7 @@
 -- `good_form` meets its contract: the first search that finds a place decides.
 -- Assumes nothing.
-use Rattle.store_form.proofs.Laws.{none-found, first-bad, second-bad, third-bad, none-bad}
+use Rattle.store_code.proofs.Found.{place-nowhere}
+use Rattle.store_form.proofs.Laws.{first-bad, second-bad, third-bad, none-bad}
 use mathlib.Core.Path.{sym, _∙_}
 use borrow.Author.Needs.{needs}
 use Rattle.store_form.proofs.good_form.Statement.{statement}
@@ -19,7 +20,7 @@ returns : tie.Need-returns
 returns c = first-bad _ _ (sym (c .enum-told2 .given .1) ∙ c .before .before .bad-slot .ensures)
 
 repeated-slot-requires : tie.Need-repeated-slot-requires
-repeated-slot-requires c κs = (c .before .before .before .before .pre, none-found _ (sym (c .enum-told .given .1) ∙ c .before .before .bad-slot .ensures))
+repeated-slot-requires c κs = (c .before .before .before .before .pre, place-nowhere (c .before .before .bad-slot .ensures) (c .enum-told .given .1))
 
 enum-told-3 : tie.Need-enum-told-3
 enum-told-3 c = search needs

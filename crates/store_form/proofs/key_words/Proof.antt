@@ -2,7 +2,8 @@
 -- Assumes nothing.
 use Rattle.store_form.proofs.Keys.{keys-inside, words-none, words-turn, words-end, most-keys}
 use native.Mathlib.Omega.{arith}
-use Rattle.store_form.specs.Keys.{mostKeys, keyWord}
+use Rattle.store.specs.Order.{slotWord}
+use Rattle.store_form.specs.Keys.{mostKeys}
 use Rattle.cells.specs.Table.{tab}
 use Rattle.cells.specs.Pad.{padded}
 use Prim.Native.Nat.{_-_, _≤_}
@@ -12,7 +13,7 @@ use Rattle.store_form.proofs.key_words.Statement.{statement}
 use Rattle.store_form.proofs.key_words.Tie as tie
 
 abbrev Inv-loop : tie.InvT-loop
-Inv-loop desk store n words₀ i₀ words i = (i ≤ n) × (words ≡ padded mostKeys (tab (keyWord desk store) 0 i))
+Inv-loop desk store n words₀ i₀ words i = (i ≤ n) × (words ≡ padded mostKeys (tab (slotWord desk store) 0 i))
 
 abbrev μ-loop : tie.MeasureT-loop
 μ-loop desk store n words₀ i₀ words i = n - i
@@ -23,8 +24,8 @@ first-slot-requires c κs = search needs
 loop-holds : tie.Need-loop-holds Inv-loop μ-loop
 loop-holds c = (search needs, words-none _ _)
 
-key-word-requires : tie.Need-key-word-requires Inv-loop μ-loop
-key-word-requires c κs = let l = keys-inside (c .before .before .before .before .args .desk) in (c .before .before .before .before .pre, omega (arith, c .before .before .first-slot .ensures))
+word-at-requires : tie.Need-word-at-requires Inv-loop μ-loop
+word-at-requires c κs = let l = keys-inside (c .before .before .before .before .args .desk) in (c .before .before .before .before .pre, omega (arith, c .before .before .first-slot .ensures))
 
 mul-words : tie.Need-mul-words Inv-loop μ-loop
 mul-words c = let m = most-keys _ (c .before .before .before .before .before .pre .range) in omega (arith, c .before .before .before .first-slot .ensures)
@@ -39,7 +40,7 @@ loop-less : tie.Need-loop-less Inv-loop μ-loop
 loop-less c = search needs
 
 loop-again : tie.Need-loop-again Inv-loop μ-loop
-loop-again c = (search needs, words-turn _ _ _ _ (c .before .before .loop .inv .1) (let m = most-keys _ (c .before .before .before .before .before .pre .range) in omega (arith, c .before .before .before .first-slot .ensures)) (c .key-word .ensures))
+loop-again c = (search needs, words-turn _ _ _ _ (c .before .before .loop .inv .1) (let m = most-keys _ (c .before .before .before .before .before .pre .range) in omega (arith, c .before .before .before .first-slot .ensures)) (c .word-at .ensures))
 
 returns : tie.Need-returns Inv-loop μ-loop
 returns c = words-end _ _ _ _ (c .before .loop .inv .1) (c .before .loop .inv .0) (c .loop-test .left) (c .before .before .first-slot .ensures)
@@ -52,7 +53,7 @@ key-words-spec =
     μ-loop
     first-slot-requires
     loop-holds
-    key-word-requires
+    word-at-requires
     mul-words
     array-write-words
     add-i

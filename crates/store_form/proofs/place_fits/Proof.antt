@@ -4,7 +4,7 @@ use lib.Dec.{eqb}
 use Prim.Native.Nat.{ℕ}
 use Rattle.store.specs.Form.{placeFits}
 use mathlib.Core.Path.{refl, ap}
-use Rattle.store_form.proofs.Laws.{sub-place}
+use Rattle.store_code.proofs.Found.{sub-range}
 use borrow.Author.Needs.{needs}
 use Rattle.store_form.proofs.place_fits.Statement.{statement}
 use Rattle.store_form.proofs.place_fits.Tie as tie
@@ -19,7 +19,7 @@ enum-told-3 : tie.Need-enum-told-3
 enum-told-3 c = search needs
 
 sub-slot-requires : tie.Need-sub-slot-requires
-sub-slot-requires c κs = (c .before .before .pre .0, sub-place _ _ _ (c .before .before .pre .1) (c .enum-told3 .given .1))
+sub-slot-requires c κs = (c .before .before .pre .0, sub-range _ _ _ (c .enum-told3 .given .1) (c .before .before .pre .1))
 
 returns : tie.Need-returns
 unfolding placeFits

@@ -1,9 +1,7 @@
 -- `slot_fits` meets its contract: the part is the slot, which is used or not.
 -- Assumes nothing.
-use lib.ListN.{length}
-use mathlib.Core.Path.{ap}
-use native.Mathlib.Omega.{arith}
-use Rattle.store_form.proofs.Laws.{slot-length, head-fits, used-fits, unused-fits}
+use Rattle.store_code.proofs.Laws.{slot-head}
+use Rattle.store_form.proofs.Laws.{used-fits, unused-fits}
 use borrow.Author.Needs.{needs}
 use Rattle.store_form.proofs.slot_fits.Statement.{statement}
 use Rattle.store_form.proofs.slot_fits.Tie as tie
@@ -12,7 +10,7 @@ slot-bytes-requires : tie.Need-slot-bytes-requires
 slot-bytes-requires c κs = search needs
 
 decode-requires : tie.Need-decode-requires
-decode-requires c κs = let l = ap length (c .slot-bytes .ensures) in let k = slot-length _ _ (c .before .before .pre .0) _ (c .before .before .pre .1) in let m = head-fits (c .before .before .args .desk) in omega arith
+decode-requires c κs = slot-head _ _ _ (c .before .before .pre .0) (c .before .before .pre .1) (c .slot-bytes .ensures)
 
 used-fits-requires : tie.Need-used-fits-requires
 used-fits-requires c κs = search needs

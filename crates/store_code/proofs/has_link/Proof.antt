@@ -3,8 +3,8 @@
 use Rattle.store.specs.Form.{hasLink}
 use mathlib.Core.Path.{refl}
 use borrow.Author.Needs.{needs}
-use Rattle.store_form.proofs.has_link.Statement.{statement}
-use Rattle.store_form.proofs.has_link.Tie as tie
+use Rattle.store_code.proofs.has_link.Statement.{statement}
+use Rattle.store_code.proofs.has_link.Tie as tie
 
 enum-told : tie.Need-enum-told
 enum-told c = search needs

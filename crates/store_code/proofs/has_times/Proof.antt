@@ -1,9 +1,10 @@
 -- `has_times` meets its contract, kind by kind.
 -- Assumes nothing.
 use Rattle.store.specs.Form.{hasTimes}
+use mathlib.Core.Path.{refl}
 use borrow.Author.Needs.{needs}
-use Rattle.load_naming.proofs.has_times.Statement.{statement}
-use Rattle.load_naming.proofs.has_times.Tie as tie
+use Rattle.store_code.proofs.has_times.Statement.{statement}
+use Rattle.store_code.proofs.has_times.Tie as tie
 
 enum-told : tie.Need-enum-told
 enum-told c = search needs
@@ -16,15 +17,15 @@ enum-told-3 c = search needs
 
 returns : tie.Need-returns
 unfolding hasTimes
-returns c = rw (c .enum-told .given .1)
+returns c = rw (c .enum-told .given .1) refl
 
 returns-2 : tie.Need-returns-2
 unfolding hasTimes
-returns-2 c = rw (c .enum-told2 .given .1)
+returns-2 c = rw (c .enum-told2 .given .1) refl
 
 returns-3 : tie.Need-returns-3
 unfolding hasTimes
-returns-3 c = rw (c .enum-told3 .given .1)
+returns-3 c = rw (c .enum-told3 .given .1) refl
 
 pub has-times-spec : {M : Type 1} → statement M
 has-times-spec = tie.close (tie.spec enum-told enum-told-2 enum-told-3 returns returns-2 returns-3)

@@ -1,0 +1,33 @@
+-- Where a store is out of good form: the first slot that does not fit, the first that repeats an earlier one, the first patch entry that
+-- does not fit. The test `goodForm` is that there is none (law `good-searched`).
+-- Assumes nothing.
+use mathlib.Core.Bool.{Bool, true, false, not, _&&_}
+use mathlib.Core.List.{List}
+use Prim.Native.Nat.{ℕ}
+use lib.Dec.{eqb}
+use Rattle.cells.specs.Search.{Found, at, nowhere, firstFrom}
+use Rattle.store_desk.specs.declared.Desk.{Desk}
+use Rattle.store_desk.specs.Size.{slotsOf, entriesOf}
+use Rattle.store.specs.Slots.{headAt, isUsed, find}
+use Rattle.store.specs.Form.{nameAt, slotFits, entryFits}
+
+unfoldable pub isAt : ℕ → Found → Bool
+isAt i (at j) = eqb i j
+isAt i nowhere = false
+
+-- a used slot that is not the one found under its name
+unfoldable pub repeatsAt : Desk → List ℕ → ℕ → Bool
+repeatsAt d s i = isUsed (headAt d s i) && not (isAt i (find d s (nameAt d s i)))
+
+unfoldable pub badSlot : Desk → List ℕ → Found
+badSlot d s = firstFrom (λ i. not (slotFits d s i)) (slotsOf d) 0
+
+unfoldable pub repeatedSlot : Desk → List ℕ → Found
+repeatedSlot d s = firstFrom (repeatsAt d s) (slotsOf d) 0
+
+unfoldable pub badEntry : Desk → List ℕ → Found
+badEntry d s = firstFrom (λ i. not (entryFits d s i)) (entriesOf d) 0
+
+unfoldable pub isNowhere : Found → Bool
+isNowhere (at i) = false
+isNowhere nowhere = true
