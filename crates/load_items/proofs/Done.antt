@@ -9,7 +9,6 @@ use Rattle.cells.specs.Search.{at}
 use Rattle.store_desk.specs.declared.Desk.{Desk}
 use Rattle.store_desk.specs.Size.{Within}
 use Rattle.store_desk.specs.Name.{Name}
-use Rattle.text_fields.specs.Words.{Word}
 use Rattle.store.specs.declared.Edit.the-variants.{Level as SetLevel}
 use Rattle.store.specs.Slots.{find}
 use Rattle.store.proofs.Edits.{edited-at, edit-at-length, edit-at-find}
@@ -19,21 +18,12 @@ use Rattle.store_code.specs.Fits.{Fitting}
 use Rattle.store_code.proofs.Laws.{fitting-kept}
 use Rattle.load.specs.declared.Entry.{Entry}
 use Rattle.load.specs.declared.Entry.the-variants.{Level, Patch, Fault}
-use Rattle.load_items.specs.declared.Group.{Group}
-use Rattle.load_items.specs.declared.Group.the-variants.{Pair, Triple}
 use Rattle.load_items.specs.declared.Aim.{Aim}
 use Rattle.load_items.specs.declared.Aim.the-variants.{Slot, Page}
 use Rattle.load.specs.Item.{memory, page, done, allDone}
-use Rattle.load_items.specs.Done.{entriesIn, doneAt, allDoneAt}
+use Rattle.load_items.specs.Done.{doneAt, allDoneAt}
 use Rattle.load_items.specs.Take.{AimFits}
 use Rattle.load.specs.Fits.{EntryFits, AllFit}
-use Rattle.load.proofs.Entries.{pairs-fit, triples-fit}
-
--- ---- the items of a record are in range
-pub entries-fit : (d : Desk) (g : Group) (ws : List Word) → AllFit d (entriesIn g d ws)
-unfolding entriesIn
-entries-fit d Pair ws = pairs-fit d ws
-entries-fit d Triple ws = triples-fit d ws
 
 -- ---- one item
 one-length : (d : Desk) (aim : Aim) (e : Entry) (s : List ℕ) → Fitting d s → AimFits d aim → EntryFits d e → length (doneAt d aim s e) ≡ length s

@@ -1,7 +1,6 @@
--- A submaster's number as the code reads it, and that a time fits its 26 bits. By cases, and from the ranges of what is read.
+-- A submaster's number as the code reads it. By cases on what is read.
 -- Assumes nothing.
 use mathlib.Core.Path.{_≡_, sym, ap, _∙_}
-use mathlib.Core.List.{List}
 use Prim.Native.Nat.{ℕ, _≤_, _<_}
 use native.Mathlib.Omega.{arith}
 use lib.Dec.{leb}
@@ -12,13 +11,9 @@ use Rattle.store_desk.specs.Size.{isWithin}
 use Rattle.store_desk.proofs.Size.{within-true}
 use Rattle.value.specs.declared.Integer.{Integer}
 use Rattle.value.specs.declared.Integer.the-variants.{Malformed, Value}
-use Rattle.value.specs.declared.Timed.{Timed}
-use Rattle.value.specs.declared.Timed.the-variants.{Malformed as BadTime, Value as IsTime}
-use Rattle.value.specs.Time.{timeOf}
 use Rattle.load.specs.declared.Numeral.the-variants.{Wrong, Number}
 use Rattle.load.specs.Condition.{badSub, malformedSub}
 use Rattle.load.specs.Ask.{subBy}
-use Rattle.load.proofs.Ranges.{TimeOk, time-ok}
 
 -- ---- a submaster's number: 1 to the highest
 module _ (d : Desk) {i : Integer} where
@@ -44,15 +39,3 @@ module _ (d : Desk) {i : Integer} where
     sub-good z h =
         sym (ap (λ (x : Integer). subBy d x) e
         ∙ cond-true (isWithin 1 n (d .subs)) (Number n 0) (Wrong badSub) (within-true 1 n (d .subs) (omega arith)))
-
--- ---- a time fits its 26 bits
-abbrev pub TimeFits : Timed → Type 0
-TimeFits BadTime = Unit {0}
-TimeFits (IsTime t) = t < 67108864
-
-fits-by : (x : Timed) → TimeOk x → TimeFits x
-fits-by BadTime h = tt
-fits-by (IsTime t) h = omega arith
-
-pub time-fits : (s : List ℕ) → TimeFits (timeOf s)
-time-fits s = fits-by (timeOf s) (time-ok s)

@@ -1,4 +1,4 @@
--- What is open, with its slot: an answer with no faults, a slot that stays where the store finds each memory as before, and what is left
+-- What is open, with its slot: answers that leave the store alone, a slot that stays where the store finds each memory as before, and what is left
 -- open after CLEAR. By cases on what is open.
 -- Assumes nothing.
 use mathlib.Core.Path.{_≡_, refl, sym, ap, _∙_, subst}
@@ -20,11 +20,11 @@ use Rattle.load.specs.declared.State.{State}
 use Rattle.load.specs.declared.Open.{Open}
 use Rattle.load.specs.declared.Open.the-variants.{Nothing, Skipping, Memory}
 use Rattle.load.specs.declared.Outcome.{Outcome}
-use Rattle.load.specs.Ask.{name}
-use Rattle.load.specs.Step.{ended, noKey, nothingOpen, skipping, settleBy, settle}
+use Rattle.load.specs.Ask.{Ask, rests, skips, name}
+use Rattle.load.specs.Step.{ended, noKey, nothingOpen, skipping, settleBy, settle, acted}
 use Rattle.load_step.specs.declared.Held.{Held}
 use Rattle.load_step.specs.declared.Stepped.{Stepped}
-use Rattle.load_step.specs.Held.{slotBy, slotOf, heldOf, IsKept, Settled, Ready, stepping, steppedOf}
+use Rattle.load_step.specs.Held.{slotBy, slotOf, heldOf, IsKept, Settled, Ready, Res, stepping, steppedOf}
 use Rattle.load_step.specs.Parts.{kindIn, openName, IsOpen, resting, endedAs}
 
 -- ---- an answer with no faults
@@ -33,19 +33,26 @@ pub ended-as : (d : Desk) (t : List ℕ) (s : State) (o : Outcome) {h : Held} {r
 unfolding steppedOf
 ended-as d t s o e g = (λ i. stepping (e i) t) ∙ (λ i. stepping (endedAs (g i) o) t)
 
--- one with what is open as it was
-pub stays-as : (d : Desk) (t : List ℕ) (o : Outcome) {h : Held} {r : Stepped}
-    → Ready d t h → r ≡ endedAs h o → stepping r t ≡ steppedOf d (ended (h .state) o t)
-stays-as d t o {h} g e = ended-as d t (h .state) o e (g .same)
+-- ---- what answers an ask
+-- an equal one
+pub asked-as : (d : Desk) (s : State) (t : List ℕ) {a b : Ask} {q : Res} → a ≡ b → q ≡ steppedOf d (acted d s t a) → q ≡ steppedOf d (acted d s t b)
+asked-as d s t e z = z ∙ ap (λ (x : Ask). steppedOf d (acted d s t x)) e
+
+-- one that leaves what is open as it was
+pub rests-as : (d : Desk) (t : List ℕ) (o : Outcome) {h : Held} {r : Stepped}
+    → Ready d t h → r ≡ endedAs h o → stepping r t ≡ steppedOf d (acted d (h .state) t (rests o))
+unfolding acted
+rests-as d t o {h} g e = ended-as d t (h .state) o e (g .same)
 
 -- nothing open, and skipping, are in no slot
 skipping-held : (d : Desk) (t : List ℕ) → resting Skipping ≡ heldOf d t skipping
 unfolding heldOf slotBy
 skipping-held d t = refl
 
-pub skipping-as : (d : Desk) (t : List ℕ) (o : Outcome) {r : Stepped}
-    → r ≡ endedAs (resting Skipping) o → stepping r t ≡ steppedOf d (ended skipping o t)
-skipping-as d t o e = ended-as d t skipping o e (skipping-held d t)
+pub skips-as : (d : Desk) (s : State) (t : List ℕ) (o : Outcome) {r : Stepped}
+    → r ≡ endedAs (resting Skipping) o → stepping r t ≡ steppedOf d (acted d s t (skips o))
+unfolding acted
+skips-as d s t o e = ended-as d t skipping o e (skipping-held d t)
 
 -- ---- the open memory is in its slot
 open-kept : (d : Desk) (t : List ℕ) (key : Key) (o : Open) → IsOpen o → IsKept d t key o → find d t (name (kindIn o) key) ≡ at (slotBy d t key o)

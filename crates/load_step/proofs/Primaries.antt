@@ -1,14 +1,15 @@
--- A primary: its memory started at a seat, no room, refused, not supported. By cases on the seat and the name.
+-- A primary: its memory started at a seat, no room; refused, not supported; what was open plays no part. By cases on the seat and the name.
 -- Assumes nothing.
-use mathlib.Core.Path.{_≡_, sym, ap, _∙_}
+use mathlib.Core.Path.{_≡_, refl, sym, ap, _∙_}
 use mathlib.Core.Bool.{Bool, true, false}
 use mathlib.Core.List.{List}
 use Prim.Native.Nat.{ℕ}
 use Rattle.cells.specs.Search.{Found, at, nowhere}
-use Rattle.cells.proofs.Split.{cond-true, cond-false}
+use Rattle.cells.proofs.Split.{by-test, cond-true, cond-false}
 use Rattle.store_desk.specs.declared.Desk.{Desk}
 use Rattle.store_desk.specs.declared.Key.{Key}
 use Rattle.store_desk.specs.declared.Kind.{Kind}
+use Rattle.store_desk.specs.Size.{InRange}
 use Rattle.store_desk.specs.Name.{Name, supported, okName}
 use Rattle.text_fields.specs.Words.{Word}
 use Rattle.store.specs.declared.Place.{Place}
@@ -21,17 +22,18 @@ use Rattle.store_code.specs.Answer.{Started, startedAs, startOf}
 use Rattle.store_code.proofs.Found.{place-at, place-nowhere}
 use Rattle.load.specs.declared.Named.{Named}
 use Rattle.load.specs.declared.Named.the-variants.{Refused, Name as Accepted}
+use Rattle.load.specs.declared.State.{State}
 use Rattle.load.specs.declared.Open.the-variants.{Skipping}
 use Rattle.load.specs.declared.Outcome.the-variants.{Dropped, Obeyed}
 use Rattle.load.specs.Condition.{fullOf, unsupportedOf}
-use Rattle.load.specs.Ask.{name, namedOf}
-use Rattle.load.specs.Step.{Step, ended, skipping, opened, openedBy}
+use Rattle.load.specs.Ask.{Ask, skips, opens, name, namedOf, namedAsk, primaryAsk}
+use Rattle.load.specs.Step.{Step, ended, nothingOpen, skipping, opened, openedBy, acted}
 use Rattle.load.proofs.Read.{accepted-ok}
 use Rattle.load_step.specs.declared.Held.{Held}
 use Rattle.load_step.specs.declared.Stepped.{Stepped}
 use Rattle.load_step.specs.Held.{slotBy, heldOf, Res, stepping, steppedOf}
 use Rattle.load_step.specs.Parts.{resting, endedAs}
-use Rattle.load_step.proofs.Holding.{ended-as, skipping-as}
+use Rattle.load_step.proofs.Holding.{ended-as, skips-as}
 
 -- ---- an accepted one
 module _ (d : Desk) (k : Kind) (key : Key) (t : List ℕ) {p : Place} {u : List ℕ} (s : startedAs p u ≡ startOf d t (name k key)) where
@@ -43,15 +45,13 @@ module _ (d : Desk) (k : Kind) (key : Key) (t : List ℕ) {p : Place} {u : List 
   unfolding startOf
   store-is = ap (λ (x : Started). x .store) s
 
-  opened-by : (a : Found) → seat d t (name k key) ≡ a
-      → onFound a (λ i. ended (opened k key) Obeyed (started d t (name k key))) (refused (fullOf k) t) ≡ openedBy d k (Accepted key) t
-  unfolding openedBy
-  opened-by a e =
-      sym (ap (λ (x : Found). onFound x (λ i. ended (opened k key) Obeyed (started d t (name k key))) (refused (fullOf k) t)) e)
+  opened-by : {a : Found} → seat d t (name k key) ≡ a → openedBy d k key a t ≡ acted d nothingOpen t (opens k key)
+  unfolding acted
+  opened-by e = sym (ap (λ (x : Found). openedBy d k key x t) e)
 
   pub opened-at : Fitting d t → okName d (name k key) ≡ true → {i : ℕ} {r : Stepped} → p ≡ At i
-      → r ≡ endedAs (record { state = opened k key; slot = i }) Obeyed → stepping r u ≡ steppedOf d (openedBy d k (Accepted key) t)
-  unfolding onFound heldOf slotBy
+      → r ≡ endedAs (record { state = opened k key; slot = i }) Obeyed → stepping r u ≡ steppedOf d (acted d nothingOpen t (opens k key))
+  unfolding openedBy onFound heldOf slotBy
   opened-at f o {i} {r} h e =
       let n : Name = name k key in
       let a : seat d t n ≡ at i = place-at seat-is h in
@@ -60,41 +60,54 @@ module _ (d : Desk) (k : Kind) (key : Key) (t : List ℕ) {p : Place} {u : List 
       λ j. record { state = opened k key; slot = onFound (sym g j) (λ x. x) 0 } in
       ap (λ (x : List ℕ). stepping r x) store-is
       ∙ ended-as d (started d t n) (opened k key) Obeyed e q
-      ∙ ap (λ (x : Step). steppedOf d x) (opened-by (at i) a)
+      ∙ ap (λ (x : Step). steppedOf d x) (opened-by a)
 
   pub opened-full : {c : ℕ} {r : Stepped} → p ≡ Nowhere → c ≡ fullOf k → r ≡ endedAs (resting Skipping) (Dropped c)
-      → stepping r u ≡ steppedOf d (openedBy d k (Accepted key) t)
-  unfolding onFound
+      → stepping r u ≡ steppedOf d (acted d nothingOpen t (opens k key))
+  unfolding openedBy acted
   opened-full {c} {r} h g e =
       let a : seat d t (name k key) ≡ nowhere = place-nowhere seat-is h in
       ap (λ (x : List ℕ). stepping r x) (store-is ∙ started-full d t (name k key) a)
-      ∙ skipping-as d t (Dropped c) e
+      ∙ skips-as d nothingOpen t (Dropped c) e
       ∙ ap (λ (x : ℕ). steppedOf d (ended skipping (Dropped x) t)) g
-      ∙ ap (λ (x : Step). steppedOf d x) (opened-by nowhere a)
+      ∙ ap (λ (x : Step). steppedOf d x) (opened-by a)
 
 -- ---- support, then the name
-module _ (d : Desk) (k : Kind) (ws : List Word) (t : List ℕ) {b : Bool} (s : b ≡ supported d k) where
-  pub primary-unsupported : b ≡ false → {c : ℕ} {r : Stepped} → c ≡ unsupportedOf k → r ≡ endedAs (resting Skipping) (Dropped c)
-      → stepping r t ≡ steppedOf d (primaryOf d k ws t)
-  unfolding primaryOf
-  primary-unsupported h {c} g e =
-      skipping-as d t (Dropped c) e
-      ∙ ap (λ (x : ℕ). steppedOf d (refused x t)) g
-      ∙ sym (ap (λ (x : Step). steppedOf d x) (cond-false (supported d k) (openedBy d k (namedOf d k ws) t) (refused (unsupportedOf k) t) (sym s ∙ h)))
+module _ (d : Desk) (k : Kind) (ws : List Word) {b : Bool} (s : b ≡ supported d k) where
+  pub primary-unsupported : b ≡ false → {c : ℕ} → c ≡ unsupportedOf k → skips (Dropped c) ≡ primaryAsk d k ws
+  unfolding primaryAsk
+  primary-unsupported h g = ap (λ (x : ℕ). skips (Dropped x)) g ∙ sym (cond-false (supported d k) _ _ (sym s ∙ h))
 
   module _ (h : b ≡ true) {n : Named} (g : n ≡ namedOf d k ws) where
-    named-by : {m : Named} → n ≡ m → openedBy d k m t ≡ primaryOf d k ws t
-    unfolding primaryOf
-    named-by {m} e =
-        ap (λ (x : Named). openedBy d k x t) (sym e ∙ g)
-        ∙ sym (cond-true (supported d k) (openedBy d k (namedOf d k ws) t) (refused (unsupportedOf k) t) (sym s ∙ h))
+    named-by : {m : Named} → n ≡ m → namedAsk k m ≡ primaryAsk d k ws
+    unfolding primaryAsk
+    named-by e = ap (λ (x : Named). namedAsk k x) (sym e ∙ g) ∙ sym (cond-true (supported d k) _ _ (sym s ∙ h))
 
-    pub primary-refused : {c : ℕ} {r : Stepped} → n ≡ Refused c → r ≡ endedAs (resting Skipping) (Dropped c) → stepping r t ≡ steppedOf d (primaryOf d k ws t)
-    unfolding openedBy
-    primary-refused {c} e q = skipping-as d t (Dropped c) q ∙ ap (λ (x : Step). steppedOf d x) (named-by {m = Refused c} e)
+    pub primary-refused : {c : ℕ} → n ≡ Refused c → skips (Dropped c) ≡ primaryAsk d k ws
+    unfolding namedAsk
+    primary-refused {c} e = named-by {m = Refused c} e
 
-    pub primary-opened : {key : Key} {q : Res} → n ≡ Accepted key → q ≡ steppedOf d (openedBy d k (Accepted key) t) → q ≡ steppedOf d (primaryOf d k ws t)
-    primary-opened {key} e q = q ∙ ap (λ (x : Step). steppedOf d x) (named-by {m = Accepted key} e)
+    pub primary-opened : {key : Key} → n ≡ Accepted key → opens k key ≡ primaryAsk d k ws
+    unfolding namedAsk
+    primary-opened {key} e = named-by {m = Accepted key} e
 
-    pub primary-ok : Fitting d t → {key : Key} → n ≡ Accepted key → okName d (name k key) ≡ true
-    primary-ok f e = accepted-ok d k (f .range) (sym s ∙ h) ws (sym g ∙ e)
+    pub primary-ok : InRange d → {key : Key} → n ≡ Accepted key → okName d (name k key) ≡ true
+    primary-ok r e = accepted-ok d k r (sym s ∙ h) ws (sym g ∙ e)
+
+-- ---- what was open plays no part
+module _ (d : Desk) (s : State) (t : List ℕ) (k : Kind) where
+  abbrev Anew : Ask → Type 0
+  Anew a = acted d nothingOpen t a ≡ acted d s t a
+
+  named-anew : (n : Named) → Anew (namedAsk k n)
+  unfolding namedAsk acted
+  named-anew (Refused c) = refl
+  named-anew (Accepted key) = refl
+
+  primary-anew : (ws : List Word) → Anew (primaryAsk d k ws)
+  unfolding primaryAsk acted
+  primary-anew ws =
+      by-test Anew (supported d k) (namedAsk k (namedOf d k ws)) (skips (Dropped (unsupportedOf k))) (λ e. named-anew (namedOf d k ws)) (λ e. refl)
+
+  pub primary-as : (ws : List Word) {q : Res} → q ≡ steppedOf d (acted d nothingOpen t (primaryAsk d k ws)) → q ≡ steppedOf d (acted d s t (primaryAsk d k ws))
+  primary-as ws z = z ∙ ap (λ (x : Step). steppedOf d x) (primary-anew ws)

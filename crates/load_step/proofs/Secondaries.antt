@@ -1,31 +1,24 @@
 -- A secondary: the change that it asks for can be written, and is made in the slot of the open memory; CHAN's pairs; what does not apply.
 -- By cases on what the fields ask for and on what is open.
 -- Assumes nothing.
-use mathlib.Core.Path.{_≡_, sym, ap, _∙_, subst}
+use mathlib.Core.Path.{_≡_, refl, sym, ap, _∙_, subst}
 use mathlib.Core.Bool.{Bool, true, false}
-use mathlib.Core.List.{List, [], _∷_}
-use Prim.Native.Nat.{ℕ, _<_}
-use native.Mathlib.Omega.{arith}
+use mathlib.Core.List.{List}
+use Prim.Native.Nat.{ℕ}
 use Rattle.cells.proofs.Split.{cond-true, cond-false}
 use Rattle.store_desk.specs.declared.Desk.{Desk}
 use Rattle.store_desk.specs.declared.Kind.{Kind}
+use Rattle.store_desk.specs.declared.Kind.the-variants.{Cue}
 use Rattle.store_desk.specs.Name.{Name}
-use Rattle.store_desk.proofs.Name.{ok-number}
-use Rattle.text_fields.specs.Words.{Word, headOf, tailOf}
-use Rattle.value.specs.declared.Timed.{Timed}
-use Rattle.value.specs.declared.Timed.the-variants.{Malformed as BadTime, Value as IsTime}
-use Rattle.value.specs.declared.Numbered.{Numbered}
-use Rattle.value.specs.declared.Numbered.the-variants.{Malformed as BadNumber, TooLarge, Value as IsNumber}
-use Rattle.value.specs.Number.{numberOf}
-use Rattle.value.specs.Time.{timeOf}
+use Rattle.text_fields.specs.Words.{Word}
 use Rattle.store.specs.declared.Edit.{Edit}
+use Rattle.store.specs.declared.Edit.the-variants.{Up as SetUp, Down as SetDown, Followon as SetFollowon, Link as SetLink, Level as SetLevel}
 use Rattle.store.specs.Slots.{find}
 use Rattle.store.specs.Change.{edited, editAt}
-use Rattle.store.proofs.Edits.{edited-at, edit-at-find}
-use Rattle.store_code.specs.Fits.{Fitting, Editing}
-use Rattle.load_items.specs.declared.Faults.{Faults}
-use Rattle.load_items.specs.declared.Group.the-variants.{Pair}
-use Rattle.load_items.specs.declared.Aim.the-variants.{Slot}
+use Rattle.store.specs.Form.{hasTimes, hasLink}
+use Rattle.store.proofs.Edits.{edited-at, edit-at-find, in-time-fits}
+use Rattle.store_code.specs.Fits.{Fitting, OnDesk, Editing}
+use Rattle.load.specs.declared.Entry.{Entry}
 use Rattle.load.specs.declared.State.{State}
 use Rattle.load.specs.declared.Open.{Open}
 use Rattle.load.specs.declared.Open.the-variants.{Nothing, Skipping, Memory}
@@ -36,143 +29,118 @@ use Rattle.load.specs.declared.Reading.{Reading}
 use Rattle.load.specs.declared.Reading.the-variants.{Wrong as Misread, Change}
 use Rattle.load.specs.Condition.{wrongSecondary}
 use Rattle.load.specs.Item.{pairsOf, faultsOf, memory, allDone}
+use Rattle.load.specs.Ask.{Ask, rests, edits, name, augments, timesOf, changeAsk, obeyedAsk, secondaryAsk}
+use Rattle.load.specs.Step.{ended, acted}
+use Rattle.load.proofs.Entries.{pairs-fit}
+use Rattle.load.proofs.Read.{NoLevel, ChangeOk, ReadingOk, reading-ok}
+use Rattle.load_items.specs.declared.Faults.{Faults}
+use Rattle.load_items.specs.declared.Group.the-variants.{Pair}
+use Rattle.load_items.specs.declared.Aim.the-variants.{Slot}
 use Rattle.load_items.specs.Done.{entriesIn, faultsHeld}
-use Rattle.load.specs.Ask.{name, numberedBy, augments, onTime, delayOf, fadeOf, linkBy, timesOf}
-use Rattle.load.specs.Step.{Step, ended}
-use Rattle.load.proofs.Ranges.{NumberOk, number-ok}
-use Rattle.load_naming.proofs.Numbers.{TimeFits, time-fits}
 use Rattle.load_items.specs.Take.{Taken, takenAs, takenOf}
-use Rattle.load_items.proofs.Done.{pairs-slot, pairs-find}
+use Rattle.load_items.proofs.Done.{done-slot, slot-find}
 use Rattle.load_step.specs.declared.Held.{Held}
 use Rattle.load_step.specs.declared.Stepped.{Stepped}
-use Rattle.load_step.specs.Held.{heldOf, Ready, Res, stepping, steppedOf}
+use Rattle.load_step.specs.Held.{heldOf, Ready, stepping, steppedOf}
 use Rattle.load_step.specs.Parts.{kindIn, openName, IsOpen, endedAs, ReadingFits}
-use Rattle.load_step.proofs.Holding.{ended-as, stays-as, open-found, open-slot, held-stays}
+use Rattle.load_step.proofs.Holding.{ended-as, open-found, open-slot, held-stays}
 
 -- ---- a change that is asked for can be written
-module _ (d : Desk) where
-  on-time : (t : Timed) → TimeFits t → (f : ℕ → Reading) → ((v : ℕ) → v < 67108864 → ReadingFits d (f v)) → ReadingFits d (onTime t f)
-  unfolding onTime
-  on-time BadTime h f g = tt
-  on-time (IsTime v) h f g = g v h
+pub change-editing : (d : Desk) (k : Kind) (e : Edit) → ChangeOk k e → Editing d e
+change-editing d k e c = record { fits = in-time-fits e (c .1); channel = on-desk e (c .2) }
+  where
+    on-desk : (x : Edit) → NoLevel x → OnDesk d x
+    on-desk (SetUp fade delay) h = tt
+    on-desk (SetDown fade delay) h = tt
+    on-desk (SetFollowon time) h = tt
+    on-desk (SetLink whole fraction) h = tt
+    on-desk (SetLevel channel v) h = absurd h
 
-  delay-fits : (ws : List Word) → TimeFits (delayOf ws)
-  unfolding delayOf
-  delay-fits [] = omega arith
-  delay-fits (w ∷ ws) = time-fits (w .chars)
+reading-fits : (d : Desk) (k : Kind) (x : Reading) → ReadingOk k x → ReadingFits d x
+reading-fits d k (Misread c) h = tt
+reading-fits d k (Change e) h = change-editing d k e h
 
-  link-fits : (x : Numbered) → NumberOk x → ReadingFits d (linkBy (numberedBy x))
-  unfolding linkBy numberedBy
-  link-fits BadNumber h = tt
-  link-fits TooLarge h = tt
-  link-fits (IsNumber n) h =
-      let o = ok-number (n .whole) (n .fraction) h in
-      record { fits = omega arith; channel = tt }
+-- a cue has them all
+cue-has : (e : Secondary) → augments Cue e ≡ true
+unfolding augments hasTimes hasLink
+cue-has Chan = refl
+cue-has Up = refl
+cue-has Down = refl
+cue-has Followon = refl
+cue-has Link = refl
 
-  pub times-fit : (e : Secondary) (ws : List Word) → ReadingFits d (timesOf e ws)
-  unfolding timesOf fadeOf
-  times-fit Chan ws = tt
-  times-fit Up ws =
-      on-time (timeOf (headOf ws .chars)) (time-fits (headOf ws .chars)) _
-      (λ v h. on-time (delayOf (tailOf ws)) (delay-fits (tailOf ws)) _ (λ u g. record { fits = (h, g); channel = tt }))
-  times-fit Down ws =
-      on-time (timeOf (headOf ws .chars)) (time-fits (headOf ws .chars)) _
-      (λ v h. on-time (delayOf (tailOf ws)) (delay-fits (tailOf ws)) _ (λ u g. record { fits = (h, g); channel = tt }))
-  times-fit Followon ws =
-      on-time (timeOf (headOf ws .chars)) (time-fits (headOf ws .chars)) _ (λ v h. record { fits = h; channel = tt })
-  times-fit Link ws = link-fits (numberOf (headOf ws .chars)) (number-ok (headOf ws .chars))
+pub times-fit : (d : Desk) (e : Secondary) (ws : List Word) {x : Reading} → x ≡ timesOf e ws → ReadingFits d x
+times-fit d e ws g = subst (λ (y : Reading). ReadingFits d y) (sym g) (reading-fits d Cue (timesOf e ws) (reading-ok Cue e (cue-has e) ws))
 
-  pub change-fits : {x : Reading} (e : Secondary) (ws : List Word) → x ≡ timesOf e ws → ReadingFits d x
-  change-fits e ws g = subst (λ (y : Reading). ReadingFits d y) (sym g) (times-fit e ws)
+pub change-fits : (d : Desk) {x : Reading} {e : Edit} → ReadingFits d x → x ≡ Change e → Editing d e
+change-fits d f g = subst (λ (y : Reading). ReadingFits d y) g f
 
-  pub change-editing : {x : Reading} {e : Edit} → ReadingFits d x → x ≡ Change e → Editing d e
-  change-editing f g = subst (λ (y : Reading). ReadingFits d y) g f
+-- ---- UP, DOWN, FOLLOWON, LINK: what is asked
+pub change-wrong : (n : Name) {x : Reading} {c : ℕ} → x ≡ Misread c → rests (Dropped c) ≡ changeAsk n x
+unfolding changeAsk
+change-wrong n e = sym (ap (λ (y : Reading). changeAsk n y) e)
 
--- ---- UP, DOWN, FOLLOWON, LINK
-module _ (d : Desk) (t : List ℕ) {h : Held} (g : Ready d t h) where
-  pub changed-wrong : (n : Name) {x : Reading} {c : ℕ} {r : Stepped} → x ≡ Misread c → r ≡ endedAs h (Dropped c)
-      → stepping r t ≡ steppedOf d (changedBy d (h .state) n x t)
-  unfolding changedBy
-  changed-wrong n {x} {c} e q =
-      stays-as d t (Dropped c) g q ∙ sym (ap (λ (y : Reading). steppedOf d (changedBy d (h .state) n y t)) e)
+pub change-edits : (n : Name) {x : Reading} {e : Edit} → x ≡ Change e → edits n e ≡ changeAsk n x
+unfolding changeAsk
+change-edits n e = sym (ap (λ (y : Reading). changeAsk n y) e)
 
-  module _ (f : Fitting d t) (o : IsOpen (h .state .«open»)) where
-    pub changed-change : {x : Reading} {e : Edit} {u : List ℕ} {r : Stepped} → ReadingFits d x → x ≡ Change e → u ≡ editAt d t (h .slot) e
-        → r ≡ endedAs h Obeyed → stepping r u ≡ steppedOf d (changedBy d (h .state) (openName (h .state)) x t)
-    unfolding changedBy
-    changed-change {x} {e} {u} m w q z =
-        let ed : edited d t (openName (h .state)) e ≡ u = edited-at d t (openName (h .state)) e (h .slot) (open-found d t g o) ∙ sym q in
-        let same : (y : Name) → find d u y ≡ find d t y =
-        λ y. ap (λ (v : List ℕ). find d v y) q
-        ∙ edit-at-find d t (f .long) (h .slot) (open-slot d t g o) e (change-editing d m w .fits) y in
-        ended-as d u (h .state) Obeyed z (held-stays d t u same (g .same))
-        ∙ ap (λ (v : List ℕ). steppedOf d (ended (h .state) Obeyed v)) (sym ed)
-        ∙ sym (ap (λ (y : Reading). steppedOf d (changedBy d (h .state) (openName (h .state)) y t)) w)
+pub obeyed-change : (d : Desk) (n : Name) (ws : List Word) {e f : Secondary} → e ≡ f → obeyedAsk d n f ws ≡ changeAsk n (timesOf f ws)
+    → {x : Reading} → x ≡ timesOf e ws → changeAsk n x ≡ obeyedAsk d n e ws
+obeyed-change d n ws g k b =
+    ap (λ (y : Reading). changeAsk n y) b
+    ∙ ap (λ (y : Secondary). changeAsk n (timesOf y ws)) g
+    ∙ sym (ap (λ (y : Secondary). obeyedAsk d n y ws) g ∙ k)
 
-    -- ---- CHAN
-    pub chan-done : (ws : List Word) {x : Faults} {u : List ℕ}
-        → takenAs x u ≡ takenOf d (Slot (h .slot)) t (entriesIn Pair d ws)
-        → stepping (record { held = h; outcome = Obeyed; faults = x }) u
-        ≡ steppedOf d (obeyedBy d (h .state) (openName (h .state)) Chan ws t)
-    unfolding obeyedBy steppedOf takenOf entriesIn
-    chan-done ws {x} {u} q =
-        let n : Name = openName (h .state) in
-        let b : x ≡ faultsHeld (faultsOf (pairsOf d ws)) = ap (λ (y : Taken). y .faults) q in
-        let a : u ≡ allDone d (memory n) t (pairsOf d ws) =
-        ap (λ (y : Taken). y .store) q ∙ sym (pairs-slot d t f n (h .slot) (open-found d t g o) ws) in
-        let e : h ≡ heldOf d (allDone d (memory n) t (pairsOf d ws)) (h .state) =
-        held-stays d t (allDone d (memory n) t (pairsOf d ws)) (pairs-find d t f n (h .slot) (open-found d t g o) ws) (g .same) in
-        λ i. stepping (record { held = e i; outcome = Obeyed; faults = b i }) (a i)
+pub obeyed-chan : (d : Desk) (n : Name) (ws : List Word) {e : Secondary} → e ≡ Chan → obeyedAsk d n Chan ws ≡ obeyedAsk d n e ws
+obeyed-chan d n ws g = sym (ap (λ (y : Secondary). obeyedAsk d n y ws) g)
 
--- ---- by the secondary
-module _ (d : Desk) (s : State) (n : Name) (ws : List Word) (t : List ℕ) {e : Secondary} {q : Res} where
-  pub obeyed-chan : e ≡ Chan → q ≡ steppedOf d (obeyedBy d s n Chan ws t) → q ≡ steppedOf d (obeyedBy d s n e ws t)
-  obeyed-chan g h = h ∙ sym (ap (λ (x : Secondary). steppedOf d (obeyedBy d s n x ws t)) g)
+-- ---- what the store does in the open memory's slot
+module _ (d : Desk) (t : List ℕ) {h : Held} (g : Ready d t h) (f : Fitting d t) (o : IsOpen (h .state .«open»)) where
+  pub edits-as : {e : Edit} {u : List ℕ} {r : Stepped} → Editing d e → u ≡ editAt d t (h .slot) e → r ≡ endedAs h Obeyed
+      → stepping r u ≡ steppedOf d (acted d (h .state) t (edits (openName (h .state)) e))
+  unfolding acted
+  edits-as {e} {u} m q z =
+      let ed : u ≡ edited d t (openName (h .state)) e = q ∙ sym (edited-at d t (openName (h .state)) e (h .slot) (open-found d t g o)) in
+      let same : (y : Name) → find d u y ≡ find d t y =
+      λ y. ap (λ (v : List ℕ). find d v y) q ∙ edit-at-find d t (f .long) (h .slot) (open-slot d t g o) e (m .fits) y in
+      ended-as d u (h .state) Obeyed z (held-stays d t u same (g .same)) ∙ ap (λ (v : List ℕ). steppedOf d (ended (h .state) Obeyed v)) ed
 
-  pub obeyed-as : {f : Secondary} → e ≡ f → obeyedBy d s n f ws t ≡ changedBy d s n (timesOf f ws) t → {x : Reading} → x ≡ timesOf e ws
-      → q ≡ steppedOf d (changedBy d s n x t) → q ≡ steppedOf d (obeyedBy d s n e ws t)
-  obeyed-as {f} g k b h =
-      h ∙ ap (λ (y : Reading). steppedOf d (changedBy d s n y t)) b
-      ∙ ap (λ (y : Secondary). steppedOf d (changedBy d s n (timesOf y ws) t)) g
-      ∙ ap (λ (y : Step). steppedOf d y) (sym k)
-      ∙ sym (ap (λ (y : Secondary). steppedOf d (obeyedBy d s n y ws t)) g)
+  pub chan-as : (ws : List Word) {x : Faults} {u : List ℕ} → takenAs x u ≡ takenOf d (Slot (h .slot)) t (entriesIn Pair d ws)
+      → stepping (record { held = h; outcome = Obeyed; faults = x }) u
+      ≡ steppedOf d (acted d (h .state) t (obeyedAsk d (openName (h .state)) Chan ws))
+  unfolding acted obeyedAsk steppedOf takenOf entriesIn
+  chan-as ws {x} {u} q =
+      let n : Name = openName (h .state) in
+      let es : List Entry = pairsOf d ws in
+      let b : x ≡ faultsHeld (faultsOf es) = ap (λ (y : Taken). y .faults) q in
+      let a : u ≡ allDone d (memory n) t es =
+      ap (λ (y : Taken). y .store) q ∙ sym (done-slot d n (h .slot) es t f (pairs-fit d ws) (open-found d t g o)) in
+      let e : h ≡ heldOf d (allDone d (memory n) t es) (h .state) =
+      held-stays d t (allDone d (memory n) t es) (slot-find d t f n (h .slot) (open-found d t g o) es (pairs-fit d ws)) (g .same) in
+      λ i. stepping (record { held = e i; outcome = Obeyed; faults = b i }) (a i)
 
 -- ---- by what is open
-module _ (d : Desk) (t : List ℕ) {h : Held} (g : Ready d t h) (e : Secondary) (ws : List Word) where
-  by-open : {o : Open} → h .state .«open» ≡ o
-      → steppedOf d (secondaryBy d (h .state) o e ws t) ≡ steppedOf d (secondaryBy d (h .state) (h .state .«open») e ws t)
-  by-open q = ap (λ (o : Open). steppedOf d (secondaryBy d (h .state) o e ws t)) (sym q)
-
-  pub secondary-nothing : {r : Stepped} → h .state .«open» ≡ Nothing → r ≡ endedAs h (Dropped wrongSecondary)
-      → stepping r t ≡ steppedOf d (secondaryBy d (h .state) (h .state .«open») e ws t)
-  unfolding secondaryBy
-  secondary-nothing q z = stays-as d t (Dropped wrongSecondary) g z ∙ by-open q
-
-  pub secondary-skipping : {r : Stepped} → h .state .«open» ≡ Skipping → r ≡ endedAs h Passed
-      → stepping r t ≡ steppedOf d (secondaryBy d (h .state) (h .state .«open») e ws t)
-  unfolding secondaryBy
-  secondary-skipping q z = stays-as d t Passed g z ∙ by-open q
-
 pub is-open : {o : Open} {k : Kind} → o ≡ Memory k → IsOpen o
 is-open e = subst (λ (x : Open). IsOpen x) (sym e) tt
 
-module _ (d : Desk) (t : List ℕ) {h : Held} (g : Ready d t h) (e : Secondary) (ws : List Word) {k : Kind}
-    (o : h .state .«open» ≡ Memory k) {b : Bool} (a : b ≡ augments k e) where
-  pub secondary-wrong : b ≡ false → {r : Stepped} → r ≡ endedAs h (Dropped wrongSecondary)
-      → stepping r t ≡ steppedOf d (secondaryBy d (h .state) (h .state .«open») e ws t)
-  unfolding secondaryBy
-  secondary-wrong w z =
-      stays-as d t (Dropped wrongSecondary) g z
-      ∙ sym (ap (λ (x : Step). steppedOf d x)
-      (cond-false (augments k e) (obeyedBy d (h .state) (name k (h .state .key)) e ws t) (ended (h .state) (Dropped wrongSecondary) t) (sym a ∙ w)))
-      ∙ ap (λ (x : Open). steppedOf d (secondaryBy d (h .state) x e ws t)) (sym o)
+module _ (d : Desk) (s : State) (e : Secondary) (ws : List Word) where
+  abbrev Asked : Open → Ask
+  Asked o = secondaryAsk d (s .key) o e ws
 
-  pub secondary-obeyed : b ≡ true → {q : Res} → q ≡ steppedOf d (obeyedBy d (h .state) (openName (h .state)) e ws t)
-      → q ≡ steppedOf d (secondaryBy d (h .state) (h .state .«open») e ws t)
-  unfolding secondaryBy kindIn
-  secondary-obeyed w z =
-      z
-      ∙ ap (λ (x : Open). steppedOf d (obeyedBy d (h .state) (name (kindIn x) (h .state .key)) e ws t)) o
-      ∙ sym (ap (λ (x : Step). steppedOf d x)
-      (cond-true (augments k e) (obeyedBy d (h .state) (name k (h .state .key)) e ws t) (ended (h .state) (Dropped wrongSecondary) t) (sym a ∙ w)))
-      ∙ ap (λ (x : Open). steppedOf d (secondaryBy d (h .state) x e ws t)) (sym o)
+  pub secondary-nothing : s .«open» ≡ Nothing → rests (Dropped wrongSecondary) ≡ Asked (s .«open»)
+  unfolding secondaryAsk
+  secondary-nothing q = ap Asked (sym q)
+
+  pub secondary-skipping : s .«open» ≡ Skipping → rests Passed ≡ Asked (s .«open»)
+  unfolding secondaryAsk
+  secondary-skipping q = ap Asked (sym q)
+
+  module _ {k : Kind} (o : s .«open» ≡ Memory k) {b : Bool} (a : b ≡ augments k e) where
+    pub secondary-wrong : b ≡ false → rests (Dropped wrongSecondary) ≡ Asked (s .«open»)
+    unfolding secondaryAsk
+    secondary-wrong w = sym (cond-false (augments k e) _ _ (sym a ∙ w)) ∙ ap Asked (sym o)
+
+    pub secondary-obeyed : b ≡ true → obeyedAsk d (openName s) e ws ≡ Asked (s .«open»)
+    unfolding secondaryAsk kindIn
+    secondary-obeyed w =
+        ap (λ (x : Open). obeyedAsk d (name (kindIn x) (s .key)) e ws) o ∙ sym (cond-true (augments k e) _ _ (sym a ∙ w)) ∙ ap Asked (sym o)

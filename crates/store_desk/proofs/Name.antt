@@ -145,7 +145,7 @@ module _ (d : Desk) (n : Name) (e : okName d n ≡ true) where
   unfolding okName okPage
   ok-page = within 1 _ _ (all-at _ 2 e)
 
-pages-le : (d : Desk) → InRange d → (k : Kind) → pagesOf d k ≤ 63
+pub pages-le : (d : Desk) → InRange d → (k : Kind) → pagesOf d k ≤ 63
 unfolding pagesOf
 pages-le d h Cue = h .cuePages .1
 pages-le d h Group = h .groupPages .1

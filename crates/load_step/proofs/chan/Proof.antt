@@ -2,7 +2,7 @@
 -- Assumes nothing.
 use borrow.Author.Needs.{needs}
 use Rattle.load_step.proofs.Holding.{open-slot}
-use Rattle.load_step.proofs.Secondaries.{chan-done}
+use Rattle.load_step.proofs.Secondaries.{chan-as}
 use Rattle.load_step.proofs.chan.Statement.{statement}
 use Rattle.load_step.proofs.chan.Tie as tie
 
@@ -13,7 +13,7 @@ same-length : tie.Need-same-length
 same-length c = search needs
 
 returns : tie.Need-returns
-returns c = chan-done _ _ (c .before .before .before .before .before .before .before .pre .1 .1 .0) (c .before .before .before .before .before .before .before .pre .0) (c .before .before .before .before .before .before .before .pre .1 .1 .1) _ (c .before .before .take-items .ensures .0)
+returns c = chan-as _ _ (c .before .before .before .before .before .before .before .pre .1 .1 .0) (c .before .before .before .before .before .before .before .pre .0) (c .before .before .before .before .before .before .before .pre .1 .1 .1) _ (c .before .before .take-items .ensures .0)
 
 pub chan-spec : {M : Type 1} → statement M
 chan-spec = tie.close (tie.spec take-items-requires same-length returns)

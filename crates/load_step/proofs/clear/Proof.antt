@@ -1,8 +1,9 @@
 -- `clear` meets its contract, item by item.
 -- Assumes nothing.
 use borrow.Author.Needs.{needs}
+use Rattle.load.specs.Ask.{itemAsk}
 use Rattle.load_naming.proofs.Fields.{field-in, line-next}
-use Rattle.load_step.proofs.Holding.{stays-as}
+use Rattle.load_step.proofs.Holding.{asked-as, rests-as}
 use Rattle.load_step.proofs.Clearing.{clear-as}
 use Rattle.load_step.proofs.clear.Statement.{statement}
 use Rattle.load_step.proofs.clear.Tie as tie
@@ -62,44 +63,44 @@ same-length : tie.Need-same-length
 same-length c = search needs
 
 returns : tie.Need-returns
-unfolding clearBy
-returns c = clear-as _ _ _ (c .before .before .before .before .before .before .before .before .before .before .before .before .pre .1 .0) (c .before .before .before .before .before .before .before .before .field-at .ensures) (c .before .before .before .before .before .before .before .word .ensures) (c .before .before .before .before .before .before .item-of .ensures) (c .before .before .before .before .enum-told .given .1) (c .before .before .clear-all .ensures)
+unfolding itemAsk
+returns c = asked-as _ _ _ (clear-as _ (c .before .before .before .before .before .before .before .before .before .before .before .before .pre .1 .0) (c .before .before .before .before .before .before .before .before .field-at .ensures) (c .before .before .before .before .before .before .before .word .ensures) (c .before .before .before .before .before .before .item-of .ensures) (c .before .before .before .before .enum-told .given .1)) (c .before .before .clear-all .ensures)
 
 same-length-2 : tie.Need-same-length-2
 same-length-2 c = search needs
 
 returns-2 : tie.Need-returns-2
-unfolding clearBy
-returns-2 c = clear-as _ _ _ (c .before .before .before .before .before .before .before .before .before .before .before .before .pre .1 .0) (c .before .before .before .before .before .before .before .before .field-at .ensures) (c .before .before .before .before .before .before .before .word .ensures) (c .before .before .before .before .before .before .item-of .ensures) (c .before .before .before .before .enum-told2 .given .1) (c .before .before .clear-kind .ensures)
+unfolding itemAsk
+returns-2 c = asked-as _ _ _ (clear-as _ (c .before .before .before .before .before .before .before .before .before .before .before .before .pre .1 .0) (c .before .before .before .before .before .before .before .before .field-at .ensures) (c .before .before .before .before .before .before .before .word .ensures) (c .before .before .before .before .before .before .item-of .ensures) (c .before .before .before .before .enum-told2 .given .1)) (c .before .before .clear-kind .ensures)
 
 same-length-3 : tie.Need-same-length-3
 same-length-3 c = search needs
 
 returns-3 : tie.Need-returns-3
-unfolding clearBy
-returns-3 c = clear-as _ _ _ (c .before .before .before .before .before .before .before .before .before .before .before .before .pre .1 .0) (c .before .before .before .before .before .before .before .before .field-at .ensures) (c .before .before .before .before .before .before .before .word .ensures) (c .before .before .before .before .before .before .item-of .ensures) (c .before .before .before .before .enum-told3 .given .1) (c .before .before .clear-kind2 .ensures)
+unfolding itemAsk
+returns-3 c = asked-as _ _ _ (clear-as _ (c .before .before .before .before .before .before .before .before .before .before .before .before .pre .1 .0) (c .before .before .before .before .before .before .before .before .field-at .ensures) (c .before .before .before .before .before .before .before .word .ensures) (c .before .before .before .before .before .before .item-of .ensures) (c .before .before .before .before .enum-told3 .given .1)) (c .before .before .clear-kind2 .ensures)
 
 same-length-4 : tie.Need-same-length-4
 same-length-4 c = search needs
 
 returns-4 : tie.Need-returns-4
-unfolding clearBy
-returns-4 c = clear-as _ _ _ (c .before .before .before .before .before .before .before .before .before .before .before .before .pre .1 .0) (c .before .before .before .before .before .before .before .before .field-at .ensures) (c .before .before .before .before .before .before .before .word .ensures) (c .before .before .before .before .before .before .item-of .ensures) (c .before .before .before .before .enum-told4 .given .1) (c .before .before .clear-patch .ensures)
+unfolding itemAsk
+returns-4 c = asked-as _ _ _ (clear-as _ (c .before .before .before .before .before .before .before .before .before .before .before .before .pre .1 .0) (c .before .before .before .before .before .before .before .before .field-at .ensures) (c .before .before .before .before .before .before .before .word .ensures) (c .before .before .before .before .before .before .item-of .ensures) (c .before .before .before .before .enum-told4 .given .1)) (c .before .before .clear-patch .ensures)
 
 same-length-5 : tie.Need-same-length-5
 same-length-5 c = search needs
 
 returns-5 : tie.Need-returns-5
-unfolding clearBy
-returns-5 c = clear-as _ _ _ (c .before .before .before .before .before .before .before .before .before .before .before .before .pre .1 .0) (c .before .before .before .before .before .before .before .before .field-at .ensures) (c .before .before .before .before .before .before .before .word .ensures) (c .before .before .before .before .before .before .item-of .ensures) (c .before .before .before .before .enum-told5 .given .1) (c .before .before .clear-kind3 .ensures)
+unfolding itemAsk
+returns-5 c = asked-as _ _ _ (clear-as _ (c .before .before .before .before .before .before .before .before .before .before .before .before .pre .1 .0) (c .before .before .before .before .before .before .before .before .field-at .ensures) (c .before .before .before .before .before .before .before .word .ensures) (c .before .before .before .before .before .before .item-of .ensures) (c .before .before .before .before .enum-told5 .given .1)) (c .before .before .clear-kind3 .ensures)
 
 returns-6 : tie.Need-returns-6
-unfolding clearBy
-returns-6 c = clear-as _ _ _ (c .before .before .before .before .before .before .before .before .before .pre .1 .0) (c .before .before .before .before .before .field-at .ensures) (c .before .before .before .before .word .ensures) (c .before .before .before .item-of .ensures) (c .before .enum-told6 .given .1) (stays-as _ _ _ (c .before .before .before .before .before .before .before .before .before .pre .1 .1) (c .ended .ensures))
+unfolding itemAsk
+returns-6 c = asked-as _ _ _ (clear-as _ (c .before .before .before .before .before .before .before .before .before .pre .1 .0) (c .before .before .before .before .before .field-at .ensures) (c .before .before .before .before .word .ensures) (c .before .before .before .item-of .ensures) (c .before .enum-told6 .given .1)) (rests-as _ _ _ (c .before .before .before .before .before .before .before .before .before .pre .1 .1) (c .ended .ensures))
 
 returns-7 : tie.Need-returns-7
-unfolding clearBy
-returns-7 c = clear-as _ _ _ (c .before .before .before .before .before .before .before .before .before .pre .1 .0) (c .before .before .before .before .before .field-at .ensures) (c .before .before .before .before .word .ensures) (c .before .before .before .item-of .ensures) (c .before .enum-told7 .given .1) (stays-as _ _ _ (c .before .before .before .before .before .before .before .before .before .pre .1 .1) (c .ended2 .ensures))
+unfolding itemAsk
+returns-7 c = asked-as _ _ _ (clear-as _ (c .before .before .before .before .before .before .before .before .before .pre .1 .0) (c .before .before .before .before .before .field-at .ensures) (c .before .before .before .before .word .ensures) (c .before .before .before .item-of .ensures) (c .before .enum-told7 .given .1)) (rests-as _ _ _ (c .before .before .before .before .before .before .before .before .before .pre .1 .1) (c .ended2 .ensures))
 
 pub clear-spec : {M : Type 1} → statement M
 clear-spec =

@@ -1,7 +1,9 @@
 -- `clear_all` meets its contract, by the page.
 -- Assumes nothing.
 use borrow.Author.Needs.{needs}
-use Rattle.load_step.proofs.Clearing.{cleared-bad, cleared-good, all-as}
+use mathlib.Core.Path.{_∙_}
+use Rattle.load_step.proofs.Holding.{asked-as, rests-as}
+use Rattle.load_step.proofs.Clearing.{paged-bad, paged-good, clears-as, all-as}
 use Rattle.load_step.proofs.clear_all.Statement.{statement}
 use Rattle.load_step.proofs.clear_all.Tie as tie
 
@@ -27,13 +29,13 @@ cleared-requires : tie.Need-cleared-requires
 cleared-requires c κs = search needs
 
 returns : tie.Need-returns
-returns c = all-as _ _ _ _ (c .before .before .before .before .most-pages .ensures) (c .before .before .before .page-at .ensures) (cleared-bad _ _ _ (c .before .before .before .before .before .before .before .before .pre .1 .1) (c .before .enum-told .given .1) (c .ended .ensures))
+returns c = asked-as _ _ _ (paged-bad _ (c .before .enum-told .given .1) ∙ all-as _ _ (c .before .before .before .before .most-pages .ensures) (c .before .before .before .page-at .ensures)) (rests-as _ _ _ (c .before .before .before .before .before .before .before .before .pre .1 .1) (c .ended .ensures))
 
 same-length : tie.Need-same-length
 same-length c = search needs
 
 returns-2 : tie.Need-returns-2
-returns-2 c = all-as _ _ _ _ (c .before .before .before .before .before .before .before .before .before .before .before .most-pages .ensures) (c .before .before .before .before .before .before .before .before .before .before .page-at .ensures) (cleared-good _ _ _ _ (c .before .before .before .before .before .before .before .before .page .given .1) (c .before .before .before .before .before .clear-tables .ensures) (c .cleared .ensures))
+returns-2 c = asked-as _ _ _ (paged-good _ (c .before .before .before .before .before .before .before .before .page .given .1) ∙ all-as _ _ (c .before .before .before .before .before .before .before .before .before .before .before .most-pages .ensures) (c .before .before .before .before .before .before .before .before .before .before .page-at .ensures)) (clears-as _ _ _ (c .cleared .ensures) _ (c .before .before .before .before .before .clear-tables .ensures))
 
 pub clear-all-spec : {M : Type 1} → statement M
 clear-all-spec =

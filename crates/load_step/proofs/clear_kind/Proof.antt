@@ -1,7 +1,9 @@
 -- `clear_kind` meets its contract: support, then the page.
 -- Assumes nothing.
 use borrow.Author.Needs.{needs}
-use Rattle.load_step.proofs.Clearing.{kind-page, cleared-bad, cleared-good, kind-as, kind-unsupported}
+use mathlib.Core.Path.{_∙_}
+use Rattle.load_step.proofs.Holding.{asked-as, rests-as}
+use Rattle.load_step.proofs.Clearing.{kind-page, paged-bad, paged-good, table-cleared, kind-as, kind-unsupported}
 use Rattle.load_step.proofs.clear_kind.Statement.{statement}
 use Rattle.load_step.proofs.clear_kind.Tie as tie
 
@@ -21,7 +23,7 @@ ended-requires : tie.Need-ended-requires
 ended-requires c κs = search needs
 
 returns : tie.Need-returns
-returns c = kind-as _ _ _ _ (c .before .before .before .before .before .before .supports .ensures) (c .before .before .before .before .before .if1 .taken) _ (c .before .before .before .before .pages .ensures) (c .before .before .before .page-at .ensures) (cleared-bad _ _ _ (c .before .before .before .before .before .before .before .before .before .before .pre .1 .1) (c .before .enum-told .given .1) (c .ended .ensures))
+returns c = asked-as _ _ _ (paged-bad _ (c .before .enum-told .given .1) ∙ kind-as _ _ _ (c .before .before .before .before .before .before .supports .ensures) (c .before .before .before .before .before .if1 .taken) (c .before .before .before .before .pages .ensures) (c .before .before .before .page-at .ensures)) (rests-as _ _ _ (c .before .before .before .before .before .before .before .before .before .before .pre .1 .1) (c .ended .ensures))
 
 enum-known-page : tie.Need-enum-known-page
 enum-known-page c = search needs
@@ -36,13 +38,13 @@ same-length : tie.Need-same-length
 same-length c = search needs
 
 returns-2 : tie.Need-returns-2
-returns-2 c = kind-as _ _ _ _ (c .before .before .before .before .before .before .before .before .before .before .before .before .before .supports .ensures) (c .before .before .before .before .before .before .before .before .before .before .before .before .if1 .taken) _ (c .before .before .before .before .before .before .before .before .before .before .before .pages .ensures) (c .before .before .before .before .before .before .before .before .before .before .page-at .ensures) (cleared-good _ _ _ _ (c .before .before .before .before .before .before .before .before .page .given .1) (c .before .before .before .before .before .clear-kind .ensures) (c .cleared .ensures))
+returns-2 c = asked-as _ _ _ (paged-good _ (c .before .before .before .before .before .before .before .before .page .given .1) ∙ kind-as _ _ _ (c .before .before .before .before .before .before .before .before .before .before .before .before .before .supports .ensures) (c .before .before .before .before .before .before .before .before .before .before .before .before .if1 .taken) (c .before .before .before .before .before .before .before .before .before .before .before .pages .ensures) (c .before .before .before .before .before .before .before .before .before .before .page-at .ensures)) (table-cleared _ _ _ (c .cleared .ensures) _ _ (c .before .before .before .before .before .clear-kind .ensures))
 
 ended-requires-2 : tie.Need-ended-requires-2
 ended-requires-2 c κs = search needs
 
 returns-3 : tie.Need-returns-3
-returns-3 c = kind-unsupported _ _ _ _ (c .before .before .supports .ensures) (c .before .if1 .left) (c .before .before .before .before .before .before .pre .1 .1) (c .ended2 .ensures)
+returns-3 c = asked-as _ _ _ (kind-unsupported _ _ _ (c .before .before .supports .ensures) (c .before .if1 .left)) (rests-as _ _ _ (c .before .before .before .before .before .before .pre .1 .1) (c .ended2 .ensures))
 
 pub clear-kind-spec : {M : Type 1} → statement M
 clear-kind-spec =

@@ -1,7 +1,9 @@
 -- `clear_patch` meets its contract, by the page.
 -- Assumes nothing.
 use borrow.Author.Needs.{needs}
-use Rattle.load_step.proofs.Clearing.{page-le, cleared-bad, cleared-good, patch-as}
+use mathlib.Core.Path.{_∙_}
+use Rattle.load_step.proofs.Holding.{asked-as, rests-as}
+use Rattle.load_step.proofs.Clearing.{page-le, paged-bad, paged-good, patch-cleared, dimmers-as}
 use Rattle.load_step.proofs.clear_patch.Statement.{statement}
 use Rattle.load_step.proofs.clear_patch.Tie as tie
 
@@ -24,13 +26,13 @@ cleared-requires : tie.Need-cleared-requires
 cleared-requires c κs = search needs
 
 returns : tie.Need-returns
-returns c = patch-as _ _ _ _ (c .before .before .before .page-at .ensures) (cleared-bad _ _ _ (c .before .before .before .before .before .before .before .pre .1 .1) (c .before .enum-told .given .1) (c .ended .ensures))
+returns c = asked-as _ _ _ (paged-bad _ (c .before .enum-told .given .1) ∙ dimmers-as _ _ (c .before .before .before .page-at .ensures)) (rests-as _ _ _ (c .before .before .before .before .before .before .before .pre .1 .1) (c .ended .ensures))
 
 same-length : tie.Need-same-length
 same-length c = search needs
 
 returns-2 : tie.Need-returns-2
-returns-2 c = patch-as _ _ _ _ (c .before .before .before .before .before .before .before .before .before .before .page-at .ensures) (cleared-good _ _ _ _ (c .before .before .before .before .before .before .before .before .page .given .1) (c .before .before .before .before .before .clear-patch .ensures) (c .cleared .ensures))
+returns-2 c = asked-as _ _ _ (paged-good _ (c .before .before .before .before .before .before .before .before .page .given .1) ∙ dimmers-as _ _ (c .before .before .before .before .before .before .before .before .before .before .page-at .ensures)) (patch-cleared _ _ _ (c .cleared .ensures) _ (c .before .before .before .before .before .clear-patch .ensures))
 
 pub clear-patch-spec : {M : Type 1} → statement M
 clear-patch-spec =

@@ -1,10 +1,12 @@
 -- `obey` meets its contract, keyword by keyword.
 -- Assumes nothing.
 use mathlib.Core.Path.{_∙_, ap}
+use Rattle.load.specs.Ask.{keywordAsk}
 use Rattle.load.specs.declared.Outcome.the-variants.{Passed}
 use Rattle.load_step.specs.declared.Held.{Held}
 use Rattle.load_step.specs.Parts.{endedAs}
-use Rattle.load_step.proofs.Holding.{stays-as, skipping-as}
+use Rattle.load_step.proofs.Holding.{asked-as, rests-as, skips-as}
+use Rattle.load_step.proofs.Primaries.{primary-as}
 use Rattle.load_step.proofs.Basic.{ident-as, keyword-as}
 use borrow.Author.Needs.{needs}
 use Rattle.load_step.proofs.obey.Statement.{statement}
@@ -140,114 +142,114 @@ ended-requires-10 : tie.Need-ended-requires-10
 ended-requires-10 c κs = search needs
 
 returns : tie.Need-returns
-unfolding keywordStep
-returns c = keyword-as _ _ _ _ (c .before .before .before .enum-told .given .1) (ident-as _ _ (c .before .before .before .before .before .before .before .before .pre .1 .1) (c .before .before .version-at .ensures) (c .before .ident .ensures) (c .ended .ensures))
+unfolding keywordAsk
+returns c = keyword-as _ _ _ _ (c .before .before .before .enum-told .given .1) (asked-as _ _ _ (ident-as (c .before .before .version-at .ensures) (c .before .ident .ensures)) (rests-as _ _ _ (c .before .before .before .before .before .before .before .before .pre .1 .1) (c .ended .ensures)))
 
 same-length : tie.Need-same-length
 same-length c = search needs
 
 returns-2 : tie.Need-returns-2
-unfolding keywordStep
+unfolding keywordAsk
 returns-2 c = keyword-as _ _ _ _ (c .before .before .before .before .enum-told2 .given .1) (c .before .before .clear .ensures)
 
 same-length-2 : tie.Need-same-length-2
 same-length-2 c = search needs
 
 returns-3 : tie.Need-returns-3
-unfolding keywordStep
+unfolding keywordAsk
 returns-3 c = keyword-as _ _ _ _ (c .before .before .before .before .enum-told3 .given .1) (c .before .before .patch .ensures)
 
 same-length-3 : tie.Need-same-length-3
 same-length-3 c = search needs
 
 returns-4 : tie.Need-returns-4
-unfolding keywordStep
-returns-4 c = keyword-as _ _ _ _ (c .before .before .before .before .enum-told4 .given .1) (c .before .before .primary .ensures)
+unfolding keywordAsk
+returns-4 c = keyword-as _ _ _ _ (c .before .before .before .before .enum-told4 .given .1) (primary-as _ _ _ _ _ (c .before .before .primary .ensures))
 
 same-length-4 : tie.Need-same-length-4
 same-length-4 c = search needs
 
 returns-5 : tie.Need-returns-5
-unfolding keywordStep
-returns-5 c = keyword-as _ _ _ _ (c .before .before .before .before .enum-told5 .given .1) (c .before .before .primary2 .ensures)
+unfolding keywordAsk
+returns-5 c = keyword-as _ _ _ _ (c .before .before .before .before .enum-told5 .given .1) (primary-as _ _ _ _ _ (c .before .before .primary2 .ensures))
 
 same-length-5 : tie.Need-same-length-5
 same-length-5 c = search needs
 
 returns-6 : tie.Need-returns-6
-unfolding keywordStep
-returns-6 c = keyword-as _ _ _ _ (c .before .before .before .before .enum-told6 .given .1) (c .before .before .primary3 .ensures)
+unfolding keywordAsk
+returns-6 c = keyword-as _ _ _ _ (c .before .before .before .before .enum-told6 .given .1) (primary-as _ _ _ _ _ (c .before .before .primary3 .ensures))
 
 same-length-6 : tie.Need-same-length-6
 same-length-6 c = search needs
 
 returns-7 : tie.Need-returns-7
-unfolding keywordStep
+unfolding keywordAsk
 returns-7 c = keyword-as _ _ _ _ (c .before .before .before .before .enum-told7 .given .1) (c .before .before .secondary .ensures)
 
 same-length-7 : tie.Need-same-length-7
 same-length-7 c = search needs
 
 returns-8 : tie.Need-returns-8
-unfolding keywordStep
+unfolding keywordAsk
 returns-8 c = keyword-as _ _ _ _ (c .before .before .before .before .enum-told8 .given .1) (c .before .before .secondary2 .ensures)
 
 same-length-8 : tie.Need-same-length-8
 same-length-8 c = search needs
 
 returns-9 : tie.Need-returns-9
-unfolding keywordStep
+unfolding keywordAsk
 returns-9 c = keyword-as _ _ _ _ (c .before .before .before .before .enum-told9 .given .1) (c .before .before .secondary3 .ensures)
 
 same-length-9 : tie.Need-same-length-9
 same-length-9 c = search needs
 
 returns-10 : tie.Need-returns-10
-unfolding keywordStep
+unfolding keywordAsk
 returns-10 c = keyword-as _ _ _ _ (c .before .before .before .before .enum-told10 .given .1) (c .before .before .secondary4 .ensures)
 
 same-length-10 : tie.Need-same-length-10
 same-length-10 c = search needs
 
 returns-11 : tie.Need-returns-11
-unfolding keywordStep
+unfolding keywordAsk
 returns-11 c = keyword-as _ _ _ _ (c .before .before .before .before .enum-told11 .given .1) (c .before .before .secondary5 .ensures)
 
 returns-12 : tie.Need-returns-12
-unfolding keywordStep
-returns-12 c = keyword-as _ _ _ _ (c .before .enum-told12 .given .1) (stays-as _ _ _ (c .before .before .before .before .before .before .pre .1 .1) (c .ended2 .ensures))
+unfolding keywordAsk
+returns-12 c = keyword-as _ _ _ _ (c .before .enum-told12 .given .1) (rests-as _ _ _ (c .before .before .before .before .before .before .pre .1 .1) (c .ended2 .ensures))
 
 returns-13 : tie.Need-returns-13
-unfolding keywordStep
-returns-13 c = keyword-as _ _ _ _ (c .before .enum-told13 .given .1) (stays-as _ _ _ (c .before .before .before .before .before .before .pre .1 .1) (c .ended3 .ensures))
+unfolding keywordAsk
+returns-13 c = keyword-as _ _ _ _ (c .before .enum-told13 .given .1) (rests-as _ _ _ (c .before .before .before .before .before .before .pre .1 .1) (c .ended3 .ensures))
 
 returns-14 : tie.Need-returns-14
-unfolding keywordStep
-returns-14 c = keyword-as _ _ _ _ (c .before .enum-told14 .given .1) (stays-as _ _ _ (c .before .before .before .before .before .before .pre .1 .1) (c .ended4 .ensures))
+unfolding keywordAsk
+returns-14 c = keyword-as _ _ _ _ (c .before .enum-told14 .given .1) (rests-as _ _ _ (c .before .before .before .before .before .before .pre .1 .1) (c .ended4 .ensures))
 
 returns-15 : tie.Need-returns-15
-unfolding keywordStep
-returns-15 c = keyword-as _ _ _ _ (c .before .enum-told15 .given .1) (stays-as _ _ _ (c .before .before .before .before .before .before .pre .1 .1) (c .ended5 .ensures))
+unfolding keywordAsk
+returns-15 c = keyword-as _ _ _ _ (c .before .enum-told15 .given .1) (rests-as _ _ _ (c .before .before .before .before .before .before .pre .1 .1) (c .ended5 .ensures))
 
 returns-16 : tie.Need-returns-16
-unfolding keywordStep
-returns-16 c = keyword-as _ _ _ _ (c .before .enum-told16 .given .1) (stays-as _ _ _ (c .before .before .before .before .before .before .pre .1 .1) (c .ended6 .ensures))
+unfolding keywordAsk
+returns-16 c = keyword-as _ _ _ _ (c .before .enum-told16 .given .1) (rests-as _ _ _ (c .before .before .before .before .before .before .pre .1 .1) (c .ended6 .ensures))
 
 returns-17 : tie.Need-returns-17
-unfolding keywordStep
-returns-17 c = keyword-as _ _ _ _ (c .before .enum-told17 .given .1) (stays-as _ _ _ (c .before .before .before .before .before .before .pre .1 .1) (c .ended7 .ensures))
+unfolding keywordAsk
+returns-17 c = keyword-as _ _ _ _ (c .before .enum-told17 .given .1) (rests-as _ _ _ (c .before .before .before .before .before .before .pre .1 .1) (c .ended7 .ensures))
 
 returns-18 : tie.Need-returns-18
-unfolding keywordStep
-returns-18 c = keyword-as _ _ _ _ (c .before .before .enum-told18 .given .1) (skipping-as _ _ _ (c .ended8 .ensures ∙ ap (λ (h : Held). endedAs h Passed) (c .before .resting .ensures)))
+unfolding keywordAsk
+returns-18 c = keyword-as _ _ _ _ (c .before .before .enum-told18 .given .1) (skips-as _ _ _ _ (c .ended8 .ensures ∙ ap (λ (h : Held). endedAs h Passed) (c .before .resting .ensures)))
 
 returns-19 : tie.Need-returns-19
-unfolding keywordStep
-returns-19 c = keyword-as _ _ _ _ (c .before .enum-told19 .given .1) (stays-as _ _ _ (c .before .before .before .before .before .before .pre .1 .1) (c .ended9 .ensures))
+unfolding keywordAsk
+returns-19 c = keyword-as _ _ _ _ (c .before .enum-told19 .given .1) (rests-as _ _ _ (c .before .before .before .before .before .before .pre .1 .1) (c .ended9 .ensures))
 
 returns-20 : tie.Need-returns-20
-unfolding keywordStep
-returns-20 c = keyword-as _ _ _ _ (c .before .enum-told20 .given .1) (stays-as _ _ _ (c .before .before .before .before .before .before .pre .1 .1) (c .ended10 .ensures))
+unfolding keywordAsk
+returns-20 c = keyword-as _ _ _ _ (c .before .enum-told20 .given .1) (rests-as _ _ _ (c .before .before .before .before .before .before .pre .1 .1) (c .ended10 .ensures))
 
 pub obey-spec : {M : Type 1} → statement M
 obey-spec =

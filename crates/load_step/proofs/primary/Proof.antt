@@ -1,6 +1,7 @@
 -- `primary` meets its contract: support, then the name, then room.
 -- Assumes nothing.
 use borrow.Author.Needs.{needs}
+use Rattle.load_step.proofs.Holding.{asked-as, skips-as}
 use Rattle.load_step.proofs.Primaries.{primary-refused, primary-opened, primary-ok, primary-unsupported}
 use Rattle.load_step.proofs.primary.Statement.{statement}
 use Rattle.load_step.proofs.primary.Tie as tie
@@ -18,19 +19,19 @@ refused-requires : tie.Need-refused-requires
 refused-requires c κs = search needs
 
 returns : tie.Need-returns
-returns c = primary-refused _ _ _ _ (c .before .before .before .before .before .before .supports .ensures) (c .before .before .before .before .before .if1 .taken) (c .before .before .before .before .name-at .ensures) (c .before .before .condition .given .1) (c .refused .ensures)
+returns c = asked-as _ _ _ (primary-refused _ _ _ (c .before .before .before .before .before .before .supports .ensures) (c .before .before .before .before .before .if1 .taken) (c .before .before .before .before .name-at .ensures) (c .before .before .condition .given .1)) (skips-as _ _ _ _ (c .refused .ensures))
 
 enum-known-key : tie.Need-enum-known-key
 enum-known-key c = search needs
 
 opened-requires : tie.Need-opened-requires
-opened-requires c κs = (c .before .before .before .before .before .before .before .before .before .before .pre .0, primary-ok _ _ _ _ (c .before .before .before .before .before .before .supports .ensures) (c .before .before .before .before .before .if1 .taken) (c .before .before .before .before .name-at .ensures) (c .before .before .before .before .before .before .before .before .before .before .pre .0) (c .before .before .key .given .1))
+opened-requires c κs = (c .before .before .before .before .before .before .before .before .before .before .pre .0, primary-ok _ _ _ (c .before .before .before .before .before .before .supports .ensures) (c .before .before .before .before .before .if1 .taken) (c .before .before .before .before .name-at .ensures) (c .before .before .before .before .before .before .before .before .before .before .pre .0 .range) (c .before .before .key .given .1))
 
 same-length : tie.Need-same-length
 same-length c = search needs
 
 returns-2 : tie.Need-returns-2
-returns-2 c = primary-opened _ _ _ _ (c .before .before .before .before .before .before .before .before .before .supports .ensures) (c .before .before .before .before .before .before .before .before .if1 .taken) (c .before .before .before .before .before .before .before .name-at .ensures) (c .before .before .before .before .before .key .given .1) (c .before .before .opened .ensures)
+returns-2 c = asked-as _ _ _ (primary-opened _ _ _ (c .before .before .before .before .before .before .before .before .before .supports .ensures) (c .before .before .before .before .before .before .before .before .if1 .taken) (c .before .before .before .before .before .before .before .name-at .ensures) (c .before .before .before .before .before .key .given .1)) (c .before .before .opened .ensures)
 
 unsupported-requires : tie.Need-unsupported-requires
 unsupported-requires c κs = search needs
@@ -39,7 +40,7 @@ refused-requires-2 : tie.Need-refused-requires-2
 refused-requires-2 c κs = search needs
 
 returns-3 : tie.Need-returns-3
-returns-3 c = primary-unsupported _ _ _ _ (c .before .before .before .supports .ensures) (c .before .before .if1 .left) (c .before .unsupported .ensures) (c .refused2 .ensures)
+returns-3 c = asked-as _ _ _ (primary-unsupported _ _ _ (c .before .before .before .supports .ensures) (c .before .before .if1 .left) (c .before .unsupported .ensures)) (skips-as _ _ _ _ (c .refused2 .ensures))
 
 pub primary-spec : {M : Type 1} → statement M
 primary-spec =

@@ -1,6 +1,7 @@
 -- `step` meets its contract: a record with no field, and one that goes by its keyword.
 -- Assumes nothing.
 use borrow.Author.Needs.{needs}
+use Rattle.load_step.proofs.Holding.{asked-as, rests-as}
 use Rattle.load_naming.proofs.Fields.{field-in, line-next}
 use Rattle.load_step.proofs.Basic.{first-line, step-blank, step-as}
 use Rattle.load_step.proofs.Laws.{step-told}
@@ -26,13 +27,13 @@ same-length : tie.Need-same-length
 same-length c = search needs
 
 returns : tie.Need-returns
-returns c = step-told _ _ _ _ _ (c .before .before .before .before .before .before .before .before .before .before .before .before .pre .even) (c .before .before .before .before .before .before .before .before .before .before .before .before .pre .short) (step-as _ _ _ _ (c .before .before .before .before .before .before .before .before .more .ensures) (c .before .before .before .before .before .before .before .if1 .taken) _ (c .before .before .before .before .before .before .field-at .ensures) (c .before .before .before .before .before .word .ensures) (c .before .before .before .before .keyword-of .ensures) (c .before .before .obey .ensures))
+returns c = step-told _ _ _ _ _ (c .before .before .before .before .before .before .before .before .before .before .before .before .pre .short) (asked-as _ _ _ (step-as _ _ _ (c .before .before .before .before .before .before .before .before .more .ensures) _ (c .before .before .before .before .before .before .before .if1 .taken) (c .before .before .before .before .before .before .field-at .ensures) (c .before .before .before .before .before .word .ensures) (c .before .before .before .before .keyword-of .ensures)) (c .before .before .obey .ensures))
 
 ended-requires : tie.Need-ended-requires
 ended-requires c κs = search needs
 
 returns-2 : tie.Need-returns-2
-returns-2 c = step-told _ _ _ _ _ (c .before .before .before .before .before .before .pre .even) (c .before .before .before .before .before .before .pre .short) (step-blank _ _ _ _ (c .before .before .more .ensures) (c .before .if1 .left) (c .before .before .before .before .before .before .pre .ready) (c .ended .ensures))
+returns-2 c = step-told _ _ _ _ _ (c .before .before .before .before .before .before .pre .short) (asked-as _ _ _ (step-blank _ _ _ (c .before .before .more .ensures) _ (c .before .if1 .left)) (rests-as _ _ _ (c .before .before .before .before .before .before .pre .ready) (c .ended .ensures)))
 
 pub step-spec : {M : Type 1} → statement M
 step-spec =
