@@ -18,15 +18,16 @@ use Rattle.load.specs.declared.Outcome.the-variants.{Dropped}
 use Rattle.load.specs.declared.State.{State}
 use Rattle.load.specs.Condition.{noEnddata}
 use Rattle.load.specs.Ask.{isOverLong}
-use Rattle.load.specs.Step.{Step, nothingOpen, ignoredIn, outcomeReports, conditionsOf, recordStep}
+use Rattle.load.specs.Step.{Step, noKey, nothingOpen, ignoredIn, outcomeReports, conditionsOf, recordStep}
 use Rattle.load.specs.Run.{Report, Run, reportsAt, allReports}
 use Rattle.theorem_rehearse.specs.Rehearse.{Rehearsal, loaded, isFull, hasFull, HadRoom, Ships, Complete, SamePatch, Rehearsed}
-use Rattle.theorem_rehearse.proofs.Ready.{record-ready}
+use Rattle.load.proofs.Steps.{record-ready}
 use Rattle.theorem_rehearse.proofs.Runs.{loads}
 use Rattle.theorem_rehearse.proofs.Dimmers.{Alike, wide-page, wide-dimmer, record-alike}
 use Rattle.theorem_rehearse.proofs.Views.{keeps, Beside, beside-none, beside-same, beside-kept, beside-agrees, beside-back}
 use Rattle.theorem_rehearse.proofs.Clears.{keeps-ok}
-use Rattle.theorem_rehearse.proofs.Steps.{Held, record-both}
+use Rattle.theorem_rehearse.proofs.Opens.{nothing-open}
+use Rattle.theorem_rehearse.proofs.Steps.{Held, record-after}
 
 -- ---- reports of 0021 and 0022 in a joined list
 full-next : (b : Bool) (x : Bool) → x ≡ true → cond b true x ≡ true
@@ -100,7 +101,7 @@ module _ (d D : Desk) (s S : List ℕ) (h : Rehearsal d D s S) where
     step n r a t A T i p = (
       record-ready d t (i .0) a r,
       record-ready D T (i .1) A r,
-      record-both d D (h .larger) Lost out t T (i .0) (i .1) (i .2 .0) a A (i .2 .1) r
+      record-after d D (h .larger) Lost out t T (i .0) (i .1) (i .2 .0) a A (i .2 .1) r
           (λ c e f. p .1 (dropped-full n r (recordStep d a r t) c e f))
           (λ c e f. clash (dropped-full n r (recordStep D A r T) c e f) (p .0)),
     )
@@ -109,12 +110,12 @@ module _ (d D : Desk) (s S : List ℕ) (h : Rehearsal d D s S) where
     start = (
       small-ready,
       large-ready,
-      (λ m. beside-same d (Lost m) (empty-view d s (h .long) m) (empty-view D S (h .longer) m) (beside-none d (Lost m)), tt),
+      (λ m. beside-same d (Lost m) (empty-view d s (h .long) m) (empty-view D S (h .longer) m) (beside-none d (Lost m)), nothing-open noKey noKey),
     )
 
     views : (stream : List ℕ) → HadRoom (loaded D S stream) → (hasFull (loaded d s stream .reports) ≡ true → (n : Name) → Lost n)
         → Related (loaded d s stream .state) (loaded d s stream .store) (loaded D S stream .state) (loaded D S stream .store)
-    views stream g q = loads d D Related Told apart step (emptied d s) (emptied D S) start stream (had-room (loaded D S stream) g, q)
+    views stream g q = loads d D (h .larger) Related Told apart step (emptied d s) (emptied D S) start stream (had-room (loaded D S stream) g, q)
 
   module _ (stream : List ℕ) where
     pub ships : Ships d D (loaded d s stream) (loaded D S stream)
@@ -139,7 +140,7 @@ module _ (d D : Desk) (s S : List ℕ) (h : Rehearsal d D s S) where
     -- ---- part three
     pub same-patches : SamePatch d D (loaded d s stream) (loaded D S stream)
     same-patches c =
-        loads d D Patched (λ xs XS. Unit {0}) (λ a b A B p. (tt, tt)) patch-step (emptied d s) (emptied D S)
+        loads d D (h .larger) Patched (λ xs XS. Unit {0}) (λ a b A B p. (tt, tt)) patch-step (emptied d s) (emptied D S)
         (small-ready, large-ready, λ p q wp wq. empty-patch d s (h .long) p q wp wq ∙ sym (empty-patch D S (h .longer) p q (wide-page d D (h .larger) c p wp) (wide-dimmer d D (h .larger) c q wq)))
         stream tt
         .2
@@ -150,7 +151,7 @@ module _ (d D : Desk) (s S : List ℕ) (h : Rehearsal d D s S) where
         patch-step : (n : ℕ) (r : List ℕ) (a : State) (t : List ℕ) (A : State) (T : List ℕ) → Patched a t A T → Unit {0}
             → Patched (recordStep d a r t .state) (recordStep d a r t .store) (recordStep D A r T .state) (recordStep D A r T .store)
         patch-step n r a t A T i p =
-            (record-ready d t (i .0) a r, record-ready D T (i .1) A r, record-alike d D (h .larger) c a A t T (i .0) (i .1) (i .2) r)
+            (record-ready d t (i .0) a r, record-ready D T (i .1) A r, record-alike d D (h .larger) c t T (i .0) (i .1) (i .2) a A r)
 
 pub rehearsed : (d D : Desk) (s S : List ℕ) → Rehearsed d D s S
 rehearsed d D s S h stream = (ships d D s S h stream, complete d D s S h stream, same-patches d D s S h stream)

@@ -10,7 +10,7 @@ use native.Mathlib.Omega.{arith}
 use lib.ListN.{set}
 use lib.Seq.{take-set-lt, take-set-le}
 use Rattle.cells.specs.Search.{at}
-use Rattle.cells.proofs.Split.{by-bool, cond-true, cond-false}
+use Rattle.cells.proofs.Split.{by-bool, cond-true}
 use Rattle.store_desk.specs.declared.Desk.{Desk}
 use Rattle.store_desk.specs.declared.Key.{Key}
 use Rattle.store_desk.specs.Size.{Within, levelWidth, levelsLength}
@@ -28,9 +28,12 @@ use Rattle.store.proofs.Patches.{part-zeros}
 use Rattle.load.specs.declared.Entry.{Entry}
 use Rattle.load.specs.declared.Entry.the-variants.{Level as LevelItem, Patch as PatchItem, Fault}
 use Rattle.load.specs.Item.{memory, done, allDone}
+use Rattle.load.specs.Fits.{AllFit}
+use Rattle.load.proofs.Steps.{level-ready}
 use Rattle.theorem_rehearse.specs.Rehearse.{Larger, isKept, Agrees}
+use Rattle.theorem_rehearse.specs.Frame.{Framed}
 use Rattle.theorem_rehearse.proofs.Items.{Pairs, pair-faults, beyond-channel, same-level, Each, none, next}
-use Rattle.theorem_rehearse.proofs.Ready.{level-ready}
+use Rattle.theorem_rehearse.proofs.Frame.{noDimmer, framed-same, start-framed, edit-framed}
 
 abbrev pub keeps : Desk → List ℕ → Name → Bool
 keeps d t n = isKept (memoryOf d t n)
@@ -89,7 +92,7 @@ module _ (d : Desk) (lost : Type 0) where
   pub beside-same : {k k₂ K K₂ : Kept} → k₂ ≡ k → K₂ ≡ K → Beside d lost k K → Beside d lost k₂ K₂
   beside-same e E h = subst₂ (λ a b. Beside d lost a b) (sym e) (sym E) h
 
-  beside-cond : (b : Bool) (k k₂ K K₂ : Kept) → Beside d lost k K → Beside d lost k₂ K₂ → Beside d lost (cond b k k₂) (cond b K K₂)
+  pub beside-cond : (b : Bool) (k k₂ K K₂ : Kept) → Beside d lost k K → Beside d lost k₂ K₂ → Beside d lost (cond b k k₂) (cond b K K₂)
   beside-cond true k k₂ K K₂ h g = h
   beside-cond false k k₂ K K₂ h g = g
 
@@ -109,21 +112,23 @@ module _ (d : Desk) (lost : Type 0) where
   beside-right F a (kept m) absent h = h
   beside-right F a (kept m) (kept M) h = a m M h
 
-  beside-skipped : (F : Memory → Memory) (k K : Kept) → isKept k ≡ false → Beside d lost k K → Beside d lost k (mapKept F K)
-  unfolding Beside mapKept isKept
-  beside-skipped F absent absent e h = h
-  beside-skipped F absent (kept M) e h = h
-  beside-skipped F (kept m) K e h = absurd (true≢false e)
+  -- what the larger alone keeps, changed
+  beside-alone : (k K K₂ : Kept) → isKept k ≡ false → isKept K₂ ≡ isKept K → Beside d lost k K → Beside d lost k K₂
+  unfolding Beside isKept
+  beside-alone (kept m) K K₂ e q h = absurd (true≢false e)
+  beside-alone absent K absent e q h = tt
+  beside-alone absent absent (kept M) e q h = absurd (true≢false q)
+  beside-alone absent (kept N) (kept M) e q h = h
 
   beside-lost : (k : Kept) (M : Memory) → isKept k ≡ false → lost → Beside d lost k (kept M)
   unfolding Beside isKept
   beside-lost absent M e h = h
   beside-lost (kept m) M e h = absurd (true≢false e)
 
-  pub beside-gone : (k : Kept) → isKept k ≡ false → Beside d lost k absent
-  unfolding Beside isKept
-  beside-gone absent e = tt
-  beside-gone (kept m) e = absurd (true≢false e)
+  -- what is removed on the larger alone, the smaller does not keep
+  pub beside-gone : (b : Bool) (k K : Kept) → k ≡ absent → Beside d lost k K → Beside d lost k (cond b absent K)
+  beside-gone true k K e h = beside-same e refl beside-none
+  beside-gone false k K e h = h
 
   pub beside-kept : (k K : Kept) → Beside d lost k K → isKept k ≡ true → isKept K ≡ true
   unfolding Beside isKept
@@ -142,22 +147,31 @@ module _ (d : Desk) (lost : Type 0) where
   beside-back absent (kept M) h e g = g h
   beside-back (kept m) K h e g = refl
 
--- ---- the relation, for all names, and the operations
+-- ---- the memory that is started or changed
 map-keeps : (f : Memory → Memory) (k : Kept) → isKept (mapKept f k) ≡ isKept k
 unfolding mapKept isKept
 map-keeps f absent = refl
 map-keeps f (kept m) = refl
 
--- a change keeps what is kept
-pub edit-keeps : (d : Desk) (t : List ℕ) → Ready d t → (n : Name) (e : Edit) → EditFits e → (m : Name) → keeps d (edited d t n e) m ≡ keeps d t m
-edit-keeps d t r n e g m =
-    ap isKept (edit-view d t r n e g m)
-    ∙ by-bool (eqName m n)
-    (λ z.
-    ap isKept (cond-true (eqName m n) (mapKept (editMemory d e) (memoryOf d t n)) (memoryOf d t m) z)
-    ∙ map-keeps (editMemory d e) (memoryOf d t n)
-    ∙ ap (keeps d t) (sym (eq-name m n z)))
-    (λ z. ap isKept (cond-false (eqName m n) (mapKept (editMemory d e) (memoryOf d t n)) (memoryOf d t m) z))
+module _ (d : Desk) (t : List ℕ) (r : Ready d t) (n : Name) where
+  start-here : okName d n ≡ true → (i : ℕ) → seat d t n ≡ at i → memoryOf d (started d t n) n ≡ kept (blankMemory d (n .key))
+  start-here o i e = start-view d t r n o i e n ∙ cond-true (eqName n n) (kept (blankMemory d (n .key))) (memoryOf d t n) (eq-name-refl n)
+
+  edit-here : (e : Edit) → EditFits e → memoryOf d (edited d t n e) n ≡ mapKept (editMemory d e) (memoryOf d t n)
+  edit-here e g = edit-view d t r n e g n ∙ cond-true (eqName n n) (mapKept (editMemory d e) (memoryOf d t n)) (memoryOf d t n) (eq-name-refl n)
+
+  pub start-keeps : okName d n ≡ true → (i : ℕ) → seat d t n ≡ at i → keeps d (started d t n) n ≡ true
+  unfolding isKept
+  start-keeps o i e = ap isKept (start-here o i e)
+
+  -- a change keeps what is kept
+  pub edit-keeps : (e : Edit) → EditFits e → (m : Name) → keeps d (edited d t n e) m ≡ keeps d t m
+  edit-keeps e g m =
+      by-bool (eqName m n)
+      (λ z.
+      subst (λ (a : Name). keeps d (edited d t n e) a ≡ keeps d t a) (sym (eq-name m n z))
+      (ap isKept (edit-here e g) ∙ map-keeps (editMemory d e) (memoryOf d t n)))
+      (λ z. ap isKept (edit-framed d t r n e g .memories m z))
 
 pub levels-keep : (d : Desk) (n : Name) (es : List Entry) (t : List ℕ) → Ready d t → (m : Name) → keeps d (allDone d (memory n) t es) m ≡ keeps d t m
 unfolding allDone done
@@ -167,82 +181,57 @@ levels-keep d n (LevelItem channel v ∷ es) t r m =
 levels-keep d n (PatchItem channel dimmer v ∷ es) t r m = levels-keep d n es t r m
 levels-keep d n (Fault c x ∷ es) t r m = levels-keep d n es t r m
 
-pub start-keeps : (d : Desk) (t : List ℕ) → Ready d t → (n : Name) → okName d n ≡ true → (i : ℕ) → seat d t n ≡ at i → keeps d (started d t n) n ≡ true
-unfolding isKept
-start-keeps d t r n o i e =
-    ap isKept (start-view d t r n o i e n ∙ cond-true (eqName n n) (kept (blankMemory d (n .key))) (memoryOf d t n) (eq-name-refl n))
-
+-- ---- the relation, for all names, and the operations
 module _ (d D : Desk) (l : Larger d D) (Lost : Name → Type 0) where
   abbrev pub Views : List ℕ → List ℕ → Type 0
   Views t T = (m : Name) → Beside d (Lost m) (memoryOf d t m) (memoryOf D T m)
 
-  module _ (t T : List ℕ) (r : Ready d t) (R : Ready D T) (v : Views t T) where
-    pub start-both : (n : Name) → okName d n ≡ true → okName D n ≡ true → (i I : ℕ) → seat d t n ≡ at i → seat D T n ≡ at I
+  module _ (t T : List ℕ) (r : Ready d t) (R : Ready D T) (v : Views t T) (n : Name) where
+    -- where only the memory of one name changes
+    views-at : (u U : List ℕ) → Framed d t u (λ m. eqName m n) noDimmer → Framed D T U (λ m. eqName m n) noDimmer
+        → Beside d (Lost n) (memoryOf d u n) (memoryOf D U n) → Views u U
+    views-at u U f F h m =
+        by-bool (eqName m n)
+        (λ z. subst (λ (a : Name). Beside d (Lost a) (memoryOf d u a) (memoryOf D U a)) (sym (eq-name m n z)) h)
+        (λ z. beside-same d (Lost m) (f .memories m z) (F .memories m z) (v m))
+
+    pub start-both : okName d n ≡ true → okName D n ≡ true → (i I : ℕ) → seat d t n ≡ at i → seat D T n ≡ at I
         → Views (started d t n) (started D T n)
     unfolding Beside
-    start-both n o O i I e E m =
-        beside-same d (Lost m) (start-view d t r n o i e m) (start-view D T R n O I E m)
-        (beside-cond d (Lost m) (eqName m n) _ _ _ _ (blank-agrees d D l (n .key)) (v m))
+    start-both o O i I e E =
+        views-at (started d t n) (started D T n) (start-framed d t r n o i e) (start-framed D T R n O I E)
+        (beside-same d (Lost n) (start-here d t r n o i e) (start-here D T R n O I E) (blank-agrees d D l (n .key)))
 
     -- the larger alone starts a memory that the smaller does not keep
-    pub start-right : (n : Name) → okName D n ≡ true → (I : ℕ) → seat D T n ≡ at I → keeps d t n ≡ false → Lost n → Views t (started D T n)
-    start-right n O I E g x m =
-        beside-same d (Lost m) refl (start-view D T R n O I E m)
-        (by-bool (eqName m n)
-        (λ z.
-        let q : n ≡ m = sym (eq-name m n z) in
-        beside-same d (Lost m) refl (cond-true (eqName m n) (kept (blankMemory D (n .key))) (memoryOf D T m) z)
-        (beside-lost d (Lost m) (memoryOf d t m) (blankMemory D (n .key)) (subst (λ (a : Name). keeps d t a ≡ false) q g) (subst Lost q x)))
-        (λ z. beside-same d (Lost m) refl (cond-false (eqName m n) (kept (blankMemory D (n .key))) (memoryOf D T m) z) (v m)))
+    pub start-right : okName D n ≡ true → (I : ℕ) → seat D T n ≡ at I → keeps d t n ≡ false → Lost n → Views t (started D T n)
+    start-right O I E g x =
+        views-at t (started D T n) (framed-same d t) (start-framed D T R n O I E)
+        (beside-same d (Lost n) refl (start-here D T R n O I E) (beside-lost d (Lost n) (memoryOf d t n) (blankMemory D (n .key)) g x))
 
-    pub edit-both : (n : Name) (e : Edit) → EditFits e → InChannels d e → Views (edited d t n e) (edited D T n e)
-    edit-both n e g c m =
-        beside-same d (Lost m) (edit-view d t r n e g m) (edit-view D T R n e g m)
-        (by-bool (eqName m n)
-        (λ z.
-        let q : n ≡ m = sym (eq-name m n z) in
-        beside-same d (Lost m) (cond-true (eqName m n) _ _ z) (cond-true (eqName m n) _ _ z)
-        (beside-map d (Lost m) (editMemory d e) (editMemory D e) (edit-agrees d D l e c) (memoryOf d t n) (memoryOf D T n)
-        (subst (λ (a : Name). Beside d (Lost m) (memoryOf d t a) (memoryOf D T a)) (sym q) (v m))))
-        (λ z. beside-same d (Lost m) (cond-false (eqName m n) _ _ z) (cond-false (eqName m n) _ _ z) (v m)))
+    pub edit-both : (e : Edit) → EditFits e → InChannels d e → Views (edited d t n e) (edited D T n e)
+    edit-both e g c =
+        views-at (edited d t n e) (edited D T n e) (edit-framed d t r n e g) (edit-framed D T R n e g)
+        (beside-same d (Lost n) (edit-here d t r n e g) (edit-here D T R n e g)
+        (beside-map d (Lost n) (editMemory d e) (editMemory D e) (edit-agrees d D l e c) (memoryOf d t n) (memoryOf D T n) (v n)))
 
-    -- the larger alone changes a memory, as `h` allows it
-    edit-alone : (n : Name) (e : Edit) → EditFits e
-        → ((lost : Type 0) → Beside d lost (memoryOf d t n) (memoryOf D T n) → Beside d lost (memoryOf d t n) (mapKept (editMemory D e) (memoryOf D T n)))
-        → Views t (edited D T n e)
-    edit-alone n e g h m =
-        beside-same d (Lost m) refl (edit-view D T R n e g m)
-        (by-bool (eqName m n)
-        (λ z.
-        let q : m ≡ n = eq-name m n z in
-        beside-same d (Lost m) (ap (memoryOf d t) q) (cond-true (eqName m n) _ _ z)
-        (h (Lost m) (subst (λ (a : Name). Beside d (Lost m) (memoryOf d t a) (memoryOf D T a)) q (v m))))
-        (λ z. beside-same d (Lost m) refl (cond-false (eqName m n) _ _ z) (v m)))
+    -- the larger alone changes a level beyond the smaller's channels
+    edit-beyond : (channel w : ℕ) → d .channels < channel → Views t (edited D T n (Level channel w))
+    edit-beyond channel w h =
+        views-at t (edited D T n (Level channel w)) (framed-same d t) (edit-framed D T R n (Level channel w) tt)
+        (beside-same d (Lost n) refl (edit-here D T R n (Level channel w) tt)
+        (beside-right d (Lost n) (editMemory D (Level channel w)) (beyond-agrees d D l channel w h) (memoryOf d t n) (memoryOf D T n) (v n)))
 
-    pub edit-skipped : (n : Name) (e : Edit) → EditFits e → keeps d t n ≡ false → Views t (edited D T n e)
-    edit-skipped n e g k = edit-alone n e g (λ lost h. beside-skipped d lost (editMemory D e) (memoryOf d t n) (memoryOf D T n) k h)
+    -- or a memory that the smaller does not keep
+    pub skipped : (U : List ℕ) → Framed D T U (λ m. eqName m n) noDimmer → keeps D U n ≡ keeps D T n → keeps d t n ≡ false → Views t U
+    skipped U F e k = views-at t U (framed-same d t) F (beside-alone d (Lost n) (memoryOf d t n) (memoryOf D T n) (memoryOf D U n) k e (v n))
 
-    edit-beyond : (n : Name) (channel v : ℕ) → d .channels < channel → Views t (edited D T n (Level channel v))
-    edit-beyond n channel w h =
-        edit-alone n (Level channel w) tt
-        (λ lost b. beside-right d lost (editMemory D (Level channel w)) (beyond-agrees d D l channel w h) (memoryOf d t n) (memoryOf D T n) b)
-
-  pub levels-both : (n : Name) {es ES : List Entry} → Each (Pairs d D) es ES → (t T : List ℕ) → Ready d t → Ready D T → Views t T
+  pub levels-both : (n : Name) {es ES : List Entry} → Each (Pairs d D) es ES → AllFit d es → (t T : List ℕ) → Ready d t → Ready D T → Views t T
       → Views (allDone d (memory n) t es) (allDone D (memory n) T ES)
   unfolding allDone done
-  levels-both n none t T r R v = v
-  levels-both n (next (pair-faults c x C X) h) t T r R v = levels-both n h t T r R v
-  levels-both n (next (beyond-channel c x k w b B) h) t T r R v =
-      levels-both n h t (edited D T n (Level k w)) r (level-ready D T R n k w) (edit-beyond t T r R v n k w b)
-  levels-both n (next (same-level k w c) h) t T r R v =
-      levels-both n h (edited d t n (Level k w)) (edited D T n (Level k w)) (level-ready d t r n k w) (level-ready D T R n k w)
-      (edit-both t T r R v n (Level k w) tt c)
-
-  pub levels-skipped : (n : Name) (ES : List Entry) (t T : List ℕ) → Ready d t → Ready D T → keeps d t n ≡ false → Views t T
-      → Views t (allDone D (memory n) T ES)
-  unfolding allDone done
-  levels-skipped n [] t T r R k v = v
-  levels-skipped n (LevelItem c w ∷ es) t T r R k v =
-      levels-skipped n es t (edited D T n (Level c w)) r (level-ready D T R n c w) k (edit-skipped t T r R v n (Level c w) tt k)
-  levels-skipped n (PatchItem c q w ∷ es) t T r R k v = levels-skipped n es t T r R k v
-  levels-skipped n (Fault c x ∷ es) t T r R k v = levels-skipped n es t T r R k v
+  levels-both n none f t T r R v = v
+  levels-both n (next pair-faults h) f t T r R v = levels-both n h (f .1) t T r R v
+  levels-both n (next (beyond-channel k w b) h) f t T r R v =
+      levels-both n h (f .1) t (edited D T n (Level k w)) r (level-ready D T R n k w) (edit-beyond t T r R v n k w b)
+  levels-both n (next (same-level k w) h) f t T r R v =
+      levels-both n h (f .1) (edited d t n (Level k w)) (edited D T n (Level k w)) (level-ready d t r n k w) (level-ready D T R n k w)
+      (edit-both t T r R v n (Level k w) tt (f .0 .0))

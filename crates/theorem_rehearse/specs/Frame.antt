@@ -11,21 +11,19 @@ use lib.ListN.{drop}
 use Rattle.store_desk.specs.declared.Desk.{Desk}
 use Rattle.store_desk.specs.Size.{Within, storeLength}
 use Rattle.store_desk.specs.Name.{Name, eqName}
+use Rattle.store.specs.declared.Edit.{Edit}
 use Rattle.store.specs.View.{memoryOf, patchedTo}
 use Rattle.store.specs.Change.{onPage, hits}
 use Rattle.store.specs.Good.{Ready}
 use Rattle.load.specs.declared.Entry.{Entry}
 use Rattle.load.specs.declared.Entry.the-variants.{Level, Patch, Fault}
 use Rattle.load.specs.declared.Open.the-variants.{Memory}
+use Rattle.load.specs.declared.Outcome.{Outcome}
 use Rattle.load.specs.declared.Outcome.the-variants.{Obeyed}
 use Rattle.load.specs.declared.State.{State}
-use Rattle.load.specs.Ask.{name}
-use Rattle.load.specs.Step.{recordStep}
-use Rattle.load.specs.Ask.{Wipe, table, dimmers, Ask, rests, skips, opens, edits, items, clears, name, askOf}
 use Rattle.load.specs.Item.{Target, memory, page}
-use mathlib.Core.List.{List, [], _∷_}
-use mathlib.Core.Path.{_≡_}
-use mathlib.Core.Bool.{Bool, false, _||_, _&&_}
+use Rattle.load.specs.Ask.{Wipe, table, dimmers, Ask, rests, skips, opens, edits, items, clears, name, askOf}
+use Rattle.load.specs.Step.{recordStep}
 
 -- ---- the memories
 
@@ -93,6 +91,11 @@ pub record Own (d : Desk) (s : State) (r : List ℕ) : Type 0 where
   pub change : (n : Name) (e : Edit) → askOf d s r ≡ edits n e → IsOpen s n
   pub levels : (n : Name) (es : List Entry) → askOf d s r ≡ items (memory n) es → IsOpen s n
 
--- a record that is not obeyed changes no byte, on whatever store
+-- one that asks for nothing of the store changes no byte, on whatever store
+pub record Quiet (d : Desk) (t : List ℕ) (s : State) (r : List ℕ) : Type 0 where
+  pub resting : (o : Outcome) → askOf d s r ≡ rests o → recordStep d s r t .store ≡ t
+  pub skipping : (o : Outcome) → askOf d s r ≡ skips o → recordStep d s r t .store ≡ t
+
+-- nor does one that is not obeyed
 abbrev pub Idle : Desk → List ℕ → State → List ℕ → Type 0
 Idle d t s r = (recordStep d s r t .outcome ≡ Obeyed → ⊥) → recordStep d s r t .store ≡ t
