@@ -1,20 +1,19 @@
 -- What can be read lies in its range: a submaster's number, a page, a time in its 26 bits. By cases, and from the ranges of what is read.
 -- Assumes nothing.
-use mathlib.Core.Path.{_≡_, refl, sym, ap, _∙_, subst}
+use mathlib.Core.Path.{_≡_, refl, sym, ap, _∙_}
 use mathlib.Core.Bool.{true, cond}
 use mathlib.Core.List.{List, [], _∷_}
-use Prim.Native.Nat.{ℕ, _+_, _≤_, _<_}
+use Prim.Native.Nat.{ℕ, _≤_, _<_}
 use native.Mathlib.Omega.{arith}
 use lib.Dec.{eqb, ltb, leb}
-use lib.ListN.{length}
-use borrow.Author.Tests.{lt-ltb, lt-leb, ltb-false, eqb-false}
-use Rattle.cells.proofs.Split.{by-test, by-lt, by-le, cond-true, cond-false, and-false-left, and-false-right}
+use borrow.Author.Tests.{lt-leb, ltb-false, eqb-false}
+use Rattle.cells.proofs.Split.{by-test, cond-true, cond-false, and-false-left, and-false-right}
 use Rattle.store_desk.specs.declared.Desk.{Desk}
 use Rattle.store_desk.specs.Size.{Within, isWithin}
-use Rattle.store_desk.specs.Name.{okNumber, okSub}
+use Rattle.store_desk.specs.Name.{okSub}
 use Rattle.store_desk.proofs.Size.{within, within-true, all-more, all-none}
-use Rattle.store_desk.proofs.Name.{number-low}
 use Rattle.text_fields.specs.Words.{Word}
+use Rattle.store_head.specs.Layout.{timeSpan}
 use Rattle.value.specs.declared.Integer.{Integer}
 use Rattle.value.specs.declared.Integer.the-variants.{Malformed, Value}
 use Rattle.value.specs.declared.Timed.{Timed}
@@ -99,10 +98,10 @@ unfolding pageAt
 page-at-in lo other limit l h [] = h
 page-at-in lo other limit l h (w ∷ ws) = page-in lo limit l (w .chars)
 
--- ---- a time fits its 26 bits
+-- ---- a time fits its bits
 abbrev pub TimeFits : Timed → Type 0
 TimeFits BadTime = Unit {0}
-TimeFits (IsTime t) = t < 67108864
+TimeFits (IsTime t) = t < timeSpan
 
 fits-by : (x : Timed) → TimeOk x → TimeFits x
 fits-by BadTime h = tt

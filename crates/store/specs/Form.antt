@@ -6,6 +6,7 @@ use mathlib.Core.List.{List, [], _∷_}
 use Prim.Native.Nat.{ℕ}
 use lib.Dec.{eqb, leb}
 use Rattle.cells.specs.Search.{Found, at, nowhere, firstFrom}
+use Rattle.value.specs.Time.{timeMax}
 use Rattle.store_desk.specs.declared.Desk.{Desk}
 use Rattle.store_desk.specs.declared.Key.{Key}
 use Rattle.store_desk.specs.declared.Kind.{Kind}
@@ -15,8 +16,6 @@ use Rattle.store_desk.specs.Name.{Name, kindAt, okNumber, okName, subSlot}
 use Rattle.store_head.specs.declared.Head.{Head}
 use Rattle.store_head.specs.declared.Patch.{Patch}
 use Rattle.store_head.specs.Layout.{decodePatch}
-use Rattle.store.specs.declared.Edit.{Edit}
-use Rattle.store.specs.declared.Edit.the-variants.{Up, Down, Followon, Link, Level}
 use Rattle.store.specs.Slots.{slotAt, entryAt, headAt, keyOf, isUsed, find}
 
 -- ---- which values a kind can have (§6.3: CHAN, UP and DOWN, FOLLOWON and LINK)
@@ -37,13 +36,9 @@ unfoldable pub isZero : List ℕ → Bool
 isZero [] = true
 isZero (b ∷ bs) = let r = isZero bs in cond (eqb b 0) r false
 
--- 999:59:59.9
-abbrev pub mostTime : ℕ
-mostTime = 35999999
-
 -- an absent value is all zero; one that is there is in its range, and of a kind that can have it
 abbrev pub timeFits : Bool → ℕ → ℕ → Bool
-timeFits can present time = cond (eqb present 0) (eqb time 0) (can && leb time mostTime)
+timeFits can present time = cond (eqb present 0) (eqb time 0) (can && leb time timeMax)
 
 unfoldable pub linkFits : Bool → Head → Bool
 linkFits can h =
