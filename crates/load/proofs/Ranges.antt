@@ -21,7 +21,7 @@ use Rattle.value.specs.declared.Timed.the-variants.{Malformed as BadTime, Value
 use Rattle.value.specs.Integer.{integerOf, AtMost}
 use Rattle.value.specs.Parts.{point, cutAt, before, after, decimalsOf}
 use Rattle.value.specs.Number.{wholeMax, fractionDigits, number, numberedOf, numberOf}
-use Rattle.value.specs.Time.{tenthsDigits, joinOf, clockOf, timedOf, timeOf}
+use Rattle.value.specs.Time.{timeMax, tenthsDigits, joinOf, clockOf, timedOf, timeOf}
 use Rattle.value.proofs.Digits.{run-below}
 use Rattle.value.proofs.Cuts.{decimals-none, decimals-many, decimals-few}
 use Rattle.value.proofs.Times.{join-most, clock-most}
@@ -71,9 +71,9 @@ number-ok s = numbered-ok (integerOf (before (cutAt point s) s)) _ (decimals-nin
 -- ---- a time is at most 999:59:59.9
 abbrev pub TimeOk : Timed → Type 0
 TimeOk BadTime = Unit {0}
-TimeOk (IsTime t) = t ≤ 35999999
+TimeOk (IsTime t) = t ≤ timeMax
 
-timed-ok : (i : Integer) → AtMost 35999999 i → TimeOk (timedOf i)
+timed-ok : (i : Integer) → AtMost timeMax i → TimeOk (timedOf i)
 unfolding timedOf
 timed-ok Malformed h = tt
 timed-ok (Value t) h = h

@@ -27,11 +27,11 @@ use Rattle.value.specs.declared.Paged.{Paged}
 use Rattle.value.specs.declared.Paged.the-variants.{Bad, Value as IsPage}
 use Rattle.value.specs.Integer.{integerOf}
 use Rattle.value.specs.Number.{numberOf}
-use Rattle.value.specs.Time.{timeOf}
+use Rattle.value.specs.Time.{timeMax, timeOf}
 use Rattle.value.specs.Field.{pagedOf, pageOf}
 use Rattle.store.specs.declared.Edit.{Edit}
 use Rattle.store.specs.declared.Edit.the-variants.{Up as SetUp, Down as SetDown, Followon as SetFollowon, Link as SetLink, Level as SetLevel}
-use Rattle.store.specs.Form.{hasLink, mostTime}
+use Rattle.store.specs.Form.{hasLink}
 use Rattle.store.specs.Memories.{has, InTime}
 use Rattle.load.specs.declared.Secondary.{Secondary}
 use Rattle.load.specs.declared.Secondary.the-variants.{Chan, Up, Down, Followon, Link}
@@ -154,11 +154,11 @@ ReadingOk k (Misread c) = c < conditionSpan
 ReadingOk k (Change e) = ChangeOk k e
 
 abbrev EditOk : Kind → (ℕ → ℕ → Edit) → Type 0
-EditOk k f = (fade delay : ℕ) → fade ≤ mostTime → delay ≤ mostTime → ChangeOk k (f fade delay)
+EditOk k f = (fade delay : ℕ) → fade ≤ timeMax → delay ≤ timeMax → ChangeOk k (f fade delay)
 
 delay-ok : (ws : List Word) → TimeOk (delayOf ws)
 unfolding delayOf
-delay-ok [] = let z : 0 ≤ mostTime = omega arith in z
+delay-ok [] = let z : 0 ≤ timeMax = omega arith in z
 delay-ok (w ∷ ws) = time-ok (w .chars)
 
 fade-by : (k : Kind) (f : ℕ → ℕ → Edit) → EditOk k f → (a b : Timed) → TimeOk a → TimeOk b

@@ -13,6 +13,7 @@ use Rattle.cells.specs.Search.{Found, at, nowhere}
 use Rattle.cells.proofs.Search.{first-same}
 use Rattle.cells.proofs.Put.{put-zero}
 use Rattle.cells.proofs.Split.{by-bool, by-eq, cond-true, cond-false, and-true, and-left, and-right}
+use Rattle.value.specs.Time.{timeMax}
 use Rattle.store_desk.specs.declared.Desk.{Desk}
 use Rattle.store_desk.specs.declared.Key.{Key}
 use Rattle.store_desk.specs.declared.Kind.{Kind}
@@ -28,7 +29,7 @@ use Rattle.store.specs.declared.Edit.the-variants.{Up, Down, Followon, L
 use Rattle.store.specs.Slots.{slotAt, entryAt, headAt, levelPlace, keyOf, isUsed, holdsAt, find, onFound}
 use Rattle.store.specs.View.{Memory, Kept, absent, kept, memoryAt, memoryOf}
 use Rattle.store.specs.Change.{editHead, withHead, editSlot, editAt, edited}
-use Rattle.store.specs.Form.{hasTimes, hasLink, mostTime, timeFits, linkFits, valuesFit}
+use Rattle.store.specs.Form.{hasTimes, hasLink, timeFits, linkFits, valuesFit}
 use Rattle.store.specs.Memories.{memoryIn, editLevels, editMemory, mapKept, has, EditFits, InTime}
 use Rattle.store.specs.Good.{Ready}
 use Rattle.store.proofs.Places.{slot-length, put-length, slot-same, slot-other, slot-patch, slot-tail}
@@ -314,8 +315,8 @@ pub of-values : (k : Kind) (h : Head) → Values k h → valuesFit k h ≡ true
 unfolding valuesFit
 of-values k h v = seven-joined _ _ _ _ _ _ _ (v .upFade) (v .upDelay) (v .downFade) (v .downDelay) (v .followon) (v .link) (v .rest)
 
-time-set : (can : Bool) (t : ℕ) → can ≡ true → t ≤ mostTime → timeFits can 1 t ≡ true
-time-set can t c l = and-true can (leb t mostTime) c (le-leb t mostTime l)
+time-set : (can : Bool) (t : ℕ) → can ≡ true → t ≤ timeMax → timeFits can 1 t ≡ true
+time-set can t c l = and-true can (leb t timeMax) c (le-leb t timeMax l)
 
 pub edit-values : (k : Kind) (e : Edit) (h : Head) → valuesFit k h ≡ true → has k e ≡ true → InTime e → valuesFit k (editHead e h) ≡ true
 unfolding has editHead linkFits

@@ -19,7 +19,7 @@ use Rattle.store_head.specs.declared.Patch.{Patch}
 use Rattle.store_head.specs.Layout.{decodeHead, encodeHead, encodePatch}
 use Rattle.store.specs.declared.Edit.{Edit}
 use Rattle.store.specs.declared.Edit.the-variants.{Up, Down, Followon, Link, Level}
-use Rattle.store.specs.Slots.{slotAt, putSlot, putEntry, headAt, levelPlace, keyOf, isUsed, find, onFound}
+use Rattle.store.specs.Slots.{slotAt, putSlot, putEntry, headAt, levelPlace, isUsed, find, onFound}
 
 -- ---- start: a new cue or group takes the lowest unused slot, a submaster its own; a kept memory stays in its slot
 

@@ -5,6 +5,7 @@ use mathlib.Core.List.{List, [], _∷_}
 use Prim.Native.Nat.{ℕ}
 use lib.Dec.{eqb, leb}
 use Rattle.cells.specs.Search.{allFrom}
+use Rattle.value.specs.Time.{timeMax}
 use Rattle.store_desk.specs.declared.Desk.{Desk}
 use Rattle.store_desk.specs.declared.Key.{Key}
 use Rattle.store_desk.specs.declared.Kind.{Kind}
@@ -34,13 +35,9 @@ unfoldable pub isZero : List ℕ → Bool
 isZero [] = true
 isZero (b ∷ bs) = let r = isZero bs in cond (eqb b 0) r false
 
--- 999:59:59.9
-abbrev pub mostTime : ℕ
-mostTime = 35999999
-
 -- an absent value is all zero; one that is there is in its range, and of a kind that can have it
 abbrev pub timeFits : Bool → ℕ → ℕ → Bool
-timeFits can present time = cond (eqb present 0) (eqb time 0) (can && leb time mostTime)
+timeFits can present time = cond (eqb present 0) (eqb time 0) (can && leb time timeMax)
 
 unfoldable pub linkFits : Bool → Head → Bool
 linkFits can h =

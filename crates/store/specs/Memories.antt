@@ -6,18 +6,19 @@ use mathlib.Core.Path.{_≡_}
 use Prim.Native.Nat.{ℕ, _-_, _*_, _≤_, _<_}
 use lib.ListN.{drop, set, replicate}
 use Rattle.cells.specs.Search.{countFrom}
+use Rattle.value.specs.Time.{timeMax}
 use Rattle.store_desk.specs.declared.Desk.{Desk}
 use Rattle.store_desk.specs.declared.Key.{Key}
 use Rattle.store_desk.specs.declared.Kind.{Kind}
 use Rattle.store_desk.specs.Size.{headLength, levelWidth, levelsLength}
 use Rattle.store_desk.specs.Name.{firstSlot, slotCount, okNumber}
-use Rattle.store_head.specs.Layout.{decodeHead}
+use Rattle.store_head.specs.Layout.{wholeSpan, fractionSpan, timeSpan, decodeHead}
 use Rattle.store.specs.declared.Edit.{Edit}
 use Rattle.store.specs.declared.Edit.the-variants.{Up, Down, Followon, Link, Level}
 use Rattle.store.specs.Slots.{headAt, isUsed}
 use Rattle.store.specs.View.{Memory, Kept, absent, kept, memoryAt}
 use Rattle.store.specs.Change.{blankHead, editHead}
-use Rattle.store.specs.Form.{hasTimes, hasLink, mostTime}
+use Rattle.store.specs.Form.{hasTimes, hasLink}
 
 -- the memory that a slot's bytes hold
 unfoldable pub memoryIn : List ℕ → Memory
@@ -54,19 +55,19 @@ has k (Followon time) = hasLink k
 has k (Link whole fraction) = hasLink k
 has k (Level channel v) = true
 
--- the values of a change fit their bits in the head: times 26, a number 10 and 4
+-- the values of a change fit their bits in the head
 abbrev pub EditFits : Edit → Type 0
-EditFits (Up fade delay) = (fade < 67108864) × (delay < 67108864)
-EditFits (Down fade delay) = (fade < 67108864) × (delay < 67108864)
-EditFits (Followon time) = time < 67108864
-EditFits (Link whole fraction) = (whole < 1024) × (fraction < 16)
+EditFits (Up fade delay) = (fade < timeSpan) × (delay < timeSpan)
+EditFits (Down fade delay) = (fade < timeSpan) × (delay < timeSpan)
+EditFits (Followon time) = time < timeSpan
+EditFits (Link whole fraction) = (whole < wholeSpan) × (fraction < fractionSpan)
 EditFits (Level channel v) = Unit
 
 -- the values of a change are in range: times at most 999:59:59.9, a link 0.1 to 999.9
 abbrev pub InTime : Edit → Type 0
-InTime (Up fade delay) = (fade ≤ mostTime) × (delay ≤ mostTime)
-InTime (Down fade delay) = (fade ≤ mostTime) × (delay ≤ mostTime)
-InTime (Followon time) = time ≤ mostTime
+InTime (Up fade delay) = (fade ≤ timeMax) × (delay ≤ timeMax)
+InTime (Down fade delay) = (fade ≤ timeMax) × (delay ≤ timeMax)
+InTime (Followon time) = time ≤ timeMax
 InTime (Link whole fraction) = okNumber whole fraction ≡ true
 InTime (Level channel v) = Unit
 

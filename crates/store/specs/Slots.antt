@@ -13,8 +13,7 @@ use Rattle.store_desk.specs.declared.Key.{Key}
 use Rattle.store_desk.specs.Size.{headLength, entryLength, levelWidth, slotLength, patchStart}
 use Rattle.store_desk.specs.Name.{Name, eqKey, firstSlot, slotCount}
 use Rattle.store_head.specs.declared.Head.{Head}
-use Rattle.store_head.specs.declared.Patch.{Patch}
-use Rattle.store_head.specs.Layout.{decodeHead, decodePatch}
+use Rattle.store_head.specs.Layout.{decodeHead}
 use Rattle.store.specs.declared.Place.{Place}
 use Rattle.store.specs.declared.Place.the-variants.{At, Nowhere}
 

@@ -7,7 +7,7 @@ use mathlib.Core.List.{List}
 use Prim.Native.Nat.{ℕ, _+_, _-_, _*_, _≤_, _<_}
 use native.Mathlib.Omega.{arith}
 use lib.Dec.{leb, ltb, eqb}
-use borrow.Author.Tests.{eqb-true, eq-eqb, ne-eqb, leb-true, le-leb, lt-ltb, le-ltb}
+use borrow.Author.Tests.{eqb-true, eq-eqb, ne-eqb, leb-true, le-leb, ltb-true, lt-ltb, le-ltb}
 use Rattle.cells.specs.Search.{Found, at, firstFrom}
 use Rattle.cells.proofs.Search.{first-same, search-hit, search-miss}
 use Rattle.cells.proofs.Split.{by-bool, by-lt, same-test, and-true, and-left, and-right, or-true-left, or-true-right, by-or, not-of-true, not-of-false}
@@ -17,9 +17,9 @@ use Rattle.store_desk.specs.declared.Kind.{Kind}
 use Rattle.store_desk.specs.Size.{slotsOf}
 use Rattle.store_desk.specs.Name.{KeyFits, eqKey, firstSlot, slotCount}
 use Rattle.store_desk.proofs.Name.{eq-key, eq-key-true, kind-end}
-use Rattle.store_head.specs.Pack.{total, packed, Bytes}
-use Rattle.store_head.specs.Layout.{HeadFits, wordOf}
-use Rattle.store_head.proofs.Laws.{decode-fits}
+use Rattle.store_head.specs.Pack.{Bytes}
+use Rattle.store_head.specs.Layout.{HeadFits, usedWord, pageWord, wholeWord, wordOf}
+use Rattle.store_head.proofs.Laws.{decode-fits, word-sum}
 use Rattle.store.specs.Slots.{slotAt, headAt, keyOf, isUsed, holdsAt, find}
 use Rattle.store.specs.Change.{onPage, hitsAt, lowestUnused}
 use Rattle.store_code.specs.Fits.{Fitting}
@@ -27,32 +27,27 @@ use Rattle.store.specs.Order.{slotWord}
 use Rattle.store.proofs.Ordered.{word-is}
 use Rattle.store_code.specs.Answer.{nameOf}
 
--- ---- the number of a key
-word-is-sum : (u p w f : ℕ) → wordOf u p w f ≡ u * 1048576 + (p * 16384 + (w * 16 + f))
-unfolding wordOf packed total
-word-is-sum u p w f = omega arith
-
 module _ (d : Desk) (s : List ℕ) (i : ℕ) (f : Fitting d s) (h : i < slotsOf d) (b : Bytes s) where
   fits : HeadFits (headAt d s i)
   unfolding headAt
   fits = decode-fits (slotAt d s i)
 
-  word-sum : {w : ℕ} → w ≡ slotWord d s i
-      → w ≡ headAt d s i .used * 1048576 + (headAt d s i .page * 16384 + (headAt d s i .whole * 16 + headAt d s i .fraction))
-  word-sum e = e ∙ word-is d s (f .long) b i h ∙ word-is-sum (headAt d s i .used) (headAt d s i .page) (headAt d s i .whole) (headAt d s i .fraction)
+  sum-at : {w : ℕ} → w ≡ slotWord d s i
+      → w ≡ headAt d s i .used * usedWord + (headAt d s i .page * pageWord + (headAt d s i .whole * wholeWord + headAt d s i .fraction))
+  sum-at e = e ∙ word-is d s (f .long) b i h ∙ word-sum (headAt d s i .used) (headAt d s i .page) (headAt d s i .whole) (headAt d s i .fraction)
 
   used-is : isUsed (headAt d s i) ≡ true → headAt d s i .used ≡ 1
   used-is t = eqb-true (headAt d s i .used) 1 t
 
   -- ---- look-up
   module _ (key : Key) (k : KeyFits key) {w wanted : ℕ} (e : w ≡ slotWord d s i) (q : wanted ≡ wordOf 1 (key .page) (key .whole) (key .fraction)) where
-    wanted-sum : wanted ≡ 1048576 + (key .page * 16384 + (key .whole * 16 + key .fraction))
-    wanted-sum = let z = word-is-sum 1 (key .page) (key .whole) (key .fraction) in omega arith
+    wanted-sum : wanted ≡ usedWord + (key .page * pageWord + (key .whole * wholeWord + key .fraction))
+    wanted-sum = let z = word-sum 1 (key .page) (key .whole) (key .fraction) in omega arith
 
     word-holds : w ≡ wanted → holdsAt d s key i ≡ true
     unfolding holdsAt
     word-holds g =
-        let a = word-sum e in
+        let a = sum-at e in
         let c = wanted-sum in
         let l = fits in
         let u : headAt d s i .used ≡ 1 = omega (arith, l .used, l .page, l .whole, l .fraction, k .page, k .whole, k .fraction) in
@@ -71,7 +66,7 @@ module _ (d : Desk) (s : List ℕ) (i : ℕ) (f : Fitting d s) (h : i < slotsOf 
         let x : headAt d s i .page ≡ key .page = ap (λ (z : Key). z .page) m in
         let y : headAt d s i .whole ≡ key .whole = ap (λ (z : Key). z .whole) m in
         let z : headAt d s i .fraction ≡ key .fraction = ap (λ (z : Key). z .fraction) m in
-        let a = word-sum e in
+        let a = sum-at e in
         let c = wanted-sum in
         omega arith
 
@@ -80,39 +75,37 @@ module _ (d : Desk) (s : List ℕ) (i : ℕ) (f : Fitting d s) (h : i < slotsOf 
         same-test (eqb w wanted) (holdsAt d s key i) (λ t. word-holds (eqb-true w wanted t)) (λ t. eq-eqb w wanted (holds-word t))
 
   -- ---- used or not
-  module _ {w least : ℕ} (e : w ≡ slotWord d s i) (q : least ≡ wordOf 1 0 0 0) where
-    word-used : least ≤ w → isUsed (headAt d s i) ≡ true
+  module _ {w : ℕ} (e : w ≡ slotWord d s i) where
+    word-used : usedWord ≤ w → isUsed (headAt d s i) ≡ true
     word-used g =
-        let a = word-sum e in
-        let c = word-is-sum 1 0 0 0 in
+        let a = sum-at e in
         let l = fits in
         eq-eqb (headAt d s i .used) 1 (omega (arith, l .used, l .page, l .whole, l .fraction))
 
-    used-word : isUsed (headAt d s i) ≡ true → least ≤ w
+    used-word : isUsed (headAt d s i) ≡ true → usedWord ≤ w
     used-word t =
         let u : headAt d s i .used ≡ 1 = used-is t in
-        let a = word-sum e in
-        let c = word-is-sum 1 0 0 0 in
+        let a = sum-at e in
         omega arith
 
-    pub unused-test : ltb w least ≡ not (isUsed (headAt d s i))
+    pub unused-test : ltb w usedWord ≡ not (isUsed (headAt d s i))
     unused-test =
-        by-lt w least
-        (λ g. lt-ltb w least g ∙ sym (not-of-false (isUsed (headAt d s i)) (unless g)))
-        (λ g. le-ltb w least g ∙ sym (not-of-true (isUsed (headAt d s i)) (word-used g)))
+        by-lt w usedWord
+        (λ g. lt-ltb w usedWord g ∙ sym (not-of-false (isUsed (headAt d s i)) (unless g)))
+        (λ g. le-ltb w usedWord g ∙ sym (not-of-true (isUsed (headAt d s i)) (word-used g)))
       where
-        unless : w < least → isUsed (headAt d s i) ≡ false
+        unless : w < usedWord → isUsed (headAt d s i) ≡ false
         unless g = by-bool (isUsed (headAt d s i)) (λ t. absurd (let l = used-word t in omega arith)) (λ t. t)
 
     -- ---- a CLEAR of every page
-    pub hits-every : (p : ℕ) → p ≡ 0 → leb least w ≡ hitsAt d s p i
+    pub hits-every : (p : ℕ) → p ≡ 0 → leb usedWord w ≡ hitsAt d s p i
     unfolding hitsAt
     hits-every p z =
-        same-test (leb least w) _
+        same-test (leb usedWord w) _
         (λ t.
-        and-true (isUsed (headAt d s i)) (onPage p (headAt d s i .page)) (word-used (leb-true least w t))
+        and-true (isUsed (headAt d s i)) (onPage p (headAt d s i .page)) (word-used (leb-true usedWord w t))
         (or-true-left (eqb p 0) (eqb p (headAt d s i .page)) (eq-eqb p 0 z)))
-        (λ t. le-leb least w (used-word (and-left (isUsed (headAt d s i)) (onPage p (headAt d s i .page)) t)))
+        (λ t. le-leb usedWord w (used-word (and-left (isUsed (headAt d s i)) (onPage p (headAt d s i .page)) t)))
 
   -- ---- and of one
   module _ {w : ℕ} (p : ℕ) (e : w ≡ slotWord d s i) (np : p ≡ 0 → ⊥) where
@@ -126,21 +119,20 @@ module _ (d : Desk) (s : List ℕ) (i : ℕ) (f : Fitting d s) (h : i < slotsOf 
         (λ t.
         let u : headAt d s i .used ≡ 1 = used-is (and-left (isUsed (headAt d s i)) (onPage p (headAt d s i .page)) t) in
         let m : p ≡ headAt d s i .page = on-page (and-right (isUsed (headAt d s i)) (onPage p (headAt d s i .page)) t) in
-        let a = word-sum e in
-        let c = word-is-sum 1 p 0 0 in
+        let a = sum-at e in
+        let c = word-sum 1 p 0 0 in
         absurd (omega arith))
         (λ t. sym t)
 
-    pub hits-above : {low high : ℕ} → low ≡ wordOf 1 p 0 0 → high ≡ wordOf 1 p 1023 15 → low ≤ w → leb w high ≡ hitsAt d s p i
+    pub hits-above : {low : ℕ} → low ≡ wordOf 1 p 0 0 → low ≤ w → ltb w (low + pageWord) ≡ hitsAt d s p i
     unfolding hitsAt
-    hits-above q r g =
-        let a = word-sum e in
-        let c = word-is-sum 1 p 0 0 in
-        let x = word-is-sum 1 p 1023 15 in
+    hits-above q g =
+        let a = sum-at e in
+        let c = word-sum 1 p 0 0 in
         let l = fits in
-        same-test (leb w _) _
+        same-test (ltb w _) _
         (λ t.
-        let y = leb-true w _ t in
+        let y = ltb-true w _ t in
         let u : headAt d s i .used ≡ 1 = omega (arith, l .used, l .page, l .whole, l .fraction) in
         let m : p ≡ headAt d s i .page = omega (arith, l .used, l .page, l .whole, l .fraction) in
         and-true (isUsed (headAt d s i)) (onPage p (headAt d s i .page)) (eq-eqb (headAt d s i .used) 1 u)
@@ -148,7 +140,7 @@ module _ (d : Desk) (s : List ℕ) (i : ℕ) (f : Fitting d s) (h : i < slotsOf 
         (λ t.
         let u : headAt d s i .used ≡ 1 = used-is (and-left (isUsed (headAt d s i)) (onPage p (headAt d s i .page)) t) in
         let m : p ≡ headAt d s i .page = on-page (and-right (isUsed (headAt d s i)) (onPage p (headAt d s i .page)) t) in
-        le-leb w _ (omega (arith, l .whole, l .fraction)))
+        lt-ltb w _ (omega (arith, l .whole, l .fraction)))
 
 -- ---- the searches, as the code makes them
 abbrev pub isWord : Desk → List ℕ → ℕ → ℕ → Bool
@@ -171,10 +163,9 @@ module _ (d : Desk) (s : List ℕ) (k : Kind) (f : Fitting d s) (b : Bytes s) {f
   unfolding find
   find-words key kf wanted q = of-kind (isWord d s wanted) (holdsAt d s key) (λ i h. word-test d s i f h b key kf refl q)
 
-  pub unused-words : (least : ℕ) → least ≡ wordOf 1 0 0 0
-      → firstFrom (isBelow d s least) (first + count - first) first ≡ lowestUnused d s k
+  pub unused-words : firstFrom (isBelow d s usedWord) (first + count - first) first ≡ lowestUnused d s k
   unfolding lowestUnused
-  unused-words least q = of-kind (isBelow d s least) (λ i. not (isUsed (headAt d s i))) (λ i h. unused-test d s i f h b refl q)
+  unused-words = of-kind (isBelow d s usedWord) (λ i. not (isUsed (headAt d s i))) (λ i h. unused-test d s i f h b refl)
 
 -- one turn of either
 module _ (d : Desk) (s : List ℕ) {w x e i : ℕ} {a : Found} (h : i < e) (q : x ≡ slotWord d s i) where

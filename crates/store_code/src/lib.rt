@@ -7,7 +7,7 @@ ghost use lib.ListN.{length, replicate};
 ghost use Rattle.cells.specs.Put.{put};
 ghost use Rattle.store_desk.specs.Size.{Within, InRange, headLength, entryLength, slotLength, slotsOf, patchStart, entriesOf};
 ghost use Rattle.store_desk.specs.Name.{okName, KeyFits};
-ghost use Rattle.store_head.specs.Layout.{HeadFits, encodeHead, decodeHead};
+ghost use Rattle.store_head.specs.Layout.{pageSpan, channelSpan, HeadFits, encodeHead, decodeHead};
 ghost use Rattle.store.specs.Slots.{slotAt, putSlot, entryAt, headAt, placeOf, find as findSlot};
 ghost use Rattle.store.specs.View.{patchedTo};
 ghost use Rattle.store.specs.Change.{lowestUnused, newSeat, seat as seatOf, blankHead, blankSlot, editHead, withHead, editSlot, editAt, patched, hitsAt, cleared, clearedPatch, emptied};
@@ -131,12 +131,11 @@ fn lowest_unused(desk: Desk, store: &[u8], kind: Kind) -> Place
     requires { ⌜ Fitting desk (now store) ⌝ }
     ensures { λ r. ⌜ r ≡ placeOf (lowestUnused desk (now (store .entry)) kind) ⌝ }
 {
-    let least_used = store_head::quick_key(0, 0, 0);
     let first = store_desk::first_slot(desk, kind);
     let end = first + store_desk::slot_count(desk, kind);
     let mut i = first;
     while i < end {
-        if word_at(desk, store, i) < least_used {
+        if word_at(desk, store, i) < store_head::USED_WORD {
             return Place::At(i);
         }
         i += 1;
@@ -356,7 +355,7 @@ pub fn patch_of(desk: Desk, store: &[u8], page: u32, dimmer: u32) -> Patch
 pub fn patch_dimmer(desk: Desk, store: &mut [u8], page: u32, dimmer: u32, channel: u32, level: u8)
     requires { ⌜ Fitting desk (now store) ⌝ }
     requires { ⌜ OnPatch desk page dimmer ⌝ }
-    requires { ⌜ channel < 1024 ⌝ }
+    requires { ⌜ channel < channelSpan ⌝ }
     ensures { λ _. ⌜ now (store .exit) ≡ patched desk (now (store .entry)) page dimmer channel level ⌝ }
 {
     let bytes = store_head::encode_patch(Patch {
@@ -371,26 +370,22 @@ pub fn patch_dimmer(desk: Desk, store: &mut [u8], page: u32, dimmer: u32, channe
 
 // ---- CLEAR, and emptying
 
-// The last number of a page that the bits of a head hold.
-const LAST_WHOLE: u32 = 1023;
-
-const LAST_FRACTION: u32 = 15;
-
 // A memory of this page; of any page where page is 0. The key's number tells it, so that the rest of a head is not read.
 fn hits(desk: Desk, store: &[u8], slot: usize, page: u32) -> bool
     requires { ⌜ Fitting desk (now store) ⌝ }
     requires { ⌜ slot < slotsOf desk ⌝ }
-    requires { ⌜ page < 64 ⌝ }
+    requires { ⌜ page < pageSpan ⌝ }
     ensures { λ r. ⌜ r ≡ hitsAt desk (now (store .entry)) page slot ⌝ }
 {
     let word = word_at(desk, store, slot);
     if page == 0 {
-        return store_head::quick_key(0, 0, 0) <= word;
+        return store_head::USED_WORD <= word;
     }
-    if word < store_head::quick_key(page, 0, 0) {
+    let first = store_head::quick_key(page, 0, 0);
+    if word < first {
         return false;
     }
-    word <= store_head::quick_key(page, LAST_WHOLE, LAST_FRACTION)
+    word < first + store_head::PAGE_WORD
 }
 
 // So many bytes from a place on become zero.
@@ -415,7 +410,7 @@ fn zero_slot(desk: Desk, store: &mut [u8], slot: usize)
 fn clear_slot(desk: Desk, store: &mut [u8], slot: usize, page: u32)
     requires { ⌜ Fitting desk (now store) ⌝ }
     requires { ⌜ slot < slotsOf desk ⌝ }
-    requires { ⌜ page < 64 ⌝ }
+    requires { ⌜ page < pageSpan ⌝ }
     ensures { λ _. ⌜ now (store .exit) ≡ cond (hitsAt desk (now (store .entry)) page slot) (putSlot desk (now (store .entry)) slot (replicate (slotLength desk) 0)) (now (store .entry)) ⌝ }
 {
     if hits(desk, store, slot, page) {
@@ -426,7 +421,7 @@ fn clear_slot(desk: Desk, store: &mut [u8], slot: usize, page: u32)
 // The memories of a kind, on one page, or on every page where page is 0.
 pub fn clear_kind(desk: Desk, store: &mut [u8], kind: Kind, page: u32)
     requires { ⌜ Fitting desk (now store) ⌝ }
-    requires { ⌜ page < 64 ⌝ }
+    requires { ⌜ page < pageSpan ⌝ }
     ensures { λ _. ⌜ now (store .exit) ≡ cleared desk (now (store .entry)) kind page ⌝ }
 {
     let first = store_desk::first_slot(desk, kind);

@@ -13,7 +13,9 @@ use Rattle.store_desk.specs.declared.Desk.{Desk}
 use Rattle.store_desk.specs.declared.Key.{Key}
 use Rattle.store_desk.specs.declared.Kind.{Kind}
 use Rattle.store_desk.specs.declared.Kind.the-variants.{Cue, Group, Sub}
-use Rattle.store_desk.specs.Size.{Within, InRange, subSlots, slotsOf, entriesOf}
+use Rattle.store_desk.specs.Size.{Within, InRange, mostPages, subSlots, slotsOf, entriesOf}
+use Rattle.value.specs.Number.{wholeMax, fractionMax}
+use Rattle.store_head.specs.Layout.{wholeSpan, fractionSpan}
 use Rattle.store_desk.specs.Name.{firstSlot, slotCount, slotsEnd, pagesOf, kindAt, supported, Name, kindNumber, eqKind, eqKey, eqName, okNumber, okSub, okWithin, okPage, okName, KeyFits, subSlot, entryOf}
 use Rattle.store_desk.proofs.Size.{within, all-at, all-none, all-more}
 use Rattle.cells.proofs.Split.{by-lt, cond-true, cond-false, same-test}
@@ -117,14 +119,14 @@ kind-at d i h =
     in-sub b = unfold firstSlot slotCount slotsOf in (omega arith)
 
 -- ---- names that can be
-pub number-low : (whole fraction : ℕ) → whole ≤ 999 → fraction ≤ 9 → ltb 0 (whole + fraction) ≡ okNumber whole fraction
+pub number-low : (whole fraction : ℕ) → whole ≤ wholeMax → fraction ≤ fractionMax → ltb 0 (whole + fraction) ≡ okNumber whole fraction
 unfolding okNumber
 number-low w f hw hf =
     same-test (ltb 0 (w + f)) _
-    (λ e. all-more _ _ e (all-more _ _ (le-leb w 999 hw) (all-more _ _ (le-leb f 9 hf) all-none)))
+    (λ e. all-more _ _ e (all-more _ _ (le-leb w wholeMax hw) (all-more _ _ (le-leb f fractionMax hf) all-none)))
     (λ e. all-at _ 0 e)
 
-pub ok-number : (whole fraction : ℕ) → okNumber whole fraction ≡ true → (0 < whole + fraction) × (whole ≤ 999) × (fraction ≤ 9)
+pub ok-number : (whole fraction : ℕ) → okNumber whole fraction ≡ true → (0 < whole + fraction) × (whole ≤ wholeMax) × (fraction ≤ fractionMax)
 unfolding okNumber
 ok-number w f e = (ltb-true _ _ (all-at _ 0 e), leb-true _ _ (all-at _ 1 e), leb-true _ _ (all-at _ 2 e))
 
@@ -145,13 +147,13 @@ module _ (d : Desk) (n : Name) (e : okName d n ≡ true) where
   unfolding okName okPage
   ok-page = within 1 _ _ (all-at _ 2 e)
 
-pub pages-le : (d : Desk) → InRange d → (k : Kind) → pagesOf d k ≤ 63
+pub pages-le : (d : Desk) → InRange d → (k : Kind) → pagesOf d k ≤ mostPages
 unfolding pagesOf
 pages-le d h Cue = h .cuePages .1
 pages-le d h Group = h .groupPages .1
 pages-le d h Sub = let l = h .subPages .1 in omega arith
 
-within-fits : (d : Desk) → InRange d → (k : Kind) (key : Key) → okWithin d k key ≡ true → (key .whole < 1024) × (key .fraction < 16)
+within-fits : (d : Desk) → InRange d → (k : Kind) (key : Key) → okWithin d k key ≡ true → (key .whole < wholeSpan) × (key .fraction < fractionSpan)
 unfolding okWithin
 within-fits d h Cue key e = let o = ok-number _ _ e in omega arith
 within-fits d h Group key e = let o = ok-number _ _ e in omega arith

@@ -4,6 +4,8 @@ use mathlib.Core.Bool.{Bool, cond}
 use mathlib.Core.List.{[], _∷_}
 use Prim.Native.Nat.{ℕ, _+_, _-_, _*_, _<_}
 use lib.Dec.{leb, ltb, eqb}
+use Rattle.value.specs.Number.{wholeMax, fractionMax}
+use Rattle.store_head.specs.Layout.{pageSpan, wholeSpan, fractionSpan}
 use Rattle.store_desk.specs.declared.Desk.{Desk}
 use Rattle.store_desk.specs.declared.Key.{Key}
 use Rattle.store_desk.specs.declared.Kind.{Kind}
@@ -70,14 +72,8 @@ lessKey a b =
 -- ---- names that can be
 
 -- a cue or group number, and a link, is 0.1 to 999.9 with one fraction digit
-abbrev pub mostWhole : ℕ
-mostWhole = 999
-
-abbrev pub mostFraction : ℕ
-mostFraction = 9
-
 unfoldable pub okNumber : ℕ → ℕ → Bool
-okNumber whole fraction = allOf (ltb 0 (whole + fraction) ∷ leb whole mostWhole ∷ leb fraction mostFraction ∷ [])
+okNumber whole fraction = allOf (ltb 0 (whole + fraction) ∷ leb whole wholeMax ∷ leb fraction fractionMax ∷ [])
 
 -- a submaster is 1 to the highest
 unfoldable pub okSub : Desk → ℕ → ℕ → Bool
@@ -95,11 +91,11 @@ okPage d k page = isWithin 1 page (pagesOf d k)
 unfoldable pub okName : Desk → Name → Bool
 okName d n = allOf (supported d (n .kind) ∷ okWithin d (n .kind) (n .key) ∷ okPage d (n .kind) (n .key .page) ∷ [])
 
--- a key fits its bits in a head: page 6, whole number 10, fraction 4 (law: a name in range does)
+-- a key fits its bits in a head (law: a name in range does)
 pub record KeyFits (k : Key) : Type 0 where
-  pub page : k .page < 64
-  pub whole : k .whole < 1024
-  pub fraction : k .fraction < 16
+  pub page : k .page < pageSpan
+  pub whole : k .whole < wholeSpan
+  pub fraction : k .fraction < fractionSpan
 
 -- ---- places that a desk gives
 

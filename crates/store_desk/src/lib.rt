@@ -175,10 +175,6 @@ const MOST_SUB_PAGES: u32 = 8;
 
 const MOST_PATCH_PAGES: u32 = 4;
 
-const MOST_WHOLE: u32 = 999;
-
-const MOST_FRACTION: u32 = 9;
-
 // Bytes of a slot's head, and of a patch entry.
 pub const HEAD_LENGTH: usize = 24;
 
@@ -252,10 +248,10 @@ pub fn supports(desk: Desk, kind: Kind) -> bool
 pub fn ok_number(whole: u32, fraction: u32) -> bool
     ensures { λ r. ⌜ r ≡ okNumber whole fraction ⌝ }
 {
-    if MOST_WHOLE < whole {
+    if value::WHOLE_MAX < whole {
         return false;
     }
-    if MOST_FRACTION < fraction {
+    if value::FRACTION_MAX < fraction {
         return false;
     }
     0 < whole + fraction

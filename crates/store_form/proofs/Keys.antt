@@ -24,8 +24,8 @@ use Rattle.store_desk.specs.declared.Kind.the-variants.{Group, Sub}
 use Rattle.store_desk.specs.Size.{InRange, slotsOf, subSlots}
 use Rattle.store_desk.specs.Name.{firstSlot, slotCount, kindAt, eqKey, okName, subSlot}
 use Rattle.store_desk.proofs.Name.{eq-key, eq-key-true, kind-at, kind-of}
-use Rattle.store_head.specs.Pack.{total, packed, Bytes}
-use Rattle.store_head.specs.Layout.{wordOf}
+use Rattle.store_head.specs.Pack.{Bytes}
+use Rattle.store_head.specs.Layout.{usedWord, wordOf}
 use Rattle.store_head.proofs.Laws.{decode-fits}
 use Rattle.store.specs.Slots.{slotAt, headAt, keyOf, isUsed, holdsAt, find}
 use Rattle.store.specs.Form.{placeFits, valuesFit, nameAt, slotFits}
@@ -34,7 +34,7 @@ use Rattle.store.specs.Order.{slotWord}
 use Rattle.store.proofs.Ordered.{word-is}
 use Rattle.store_code.specs.Fits.{Fitting}
 use Rattle.store_code.proofs.Word.{word-test, unused-test}
-use Rattle.store_form.specs.Keys.{mostKeys, keyWords, usedWord, isWord, countWord, kindStart, seenBefore, Topped, topOf}
+use Rattle.store_form.specs.Keys.{mostKeys, keyWords, isWord, countWord, kindStart, seenBefore, Topped, topOf}
 
 -- ---- a search, and the number of places that pass
 count-found : (p : ℕ → Bool) (m n i : ℕ) → n ≡ m → ltb 0 (countFrom p n i) ≡ not (isNowhere (firstFrom p n i))
@@ -78,13 +78,9 @@ first-only p n m i f =
     (λ e g. first-skip p n m i g ∙ none-is p m (i + n) f ∙ sym e)
 
 -- ---- slots and their words
-used-least : usedWord ≡ wordOf 1 0 0 0
-unfolding wordOf packed total
-used-least = refl
-
 module _ (d : Desk) (s : List ℕ) (f : Fitting d s) (b : Bytes s) where
   unused-word : (i : ℕ) → i < slotsOf d → ltb (slotWord d s i) usedWord ≡ not (isUsed (headAt d s i))
-  unused-word i h = unused-test d s i f h b refl used-least
+  unused-word i h = unused-test d s i f h b refl
 
   same-word : (i j : ℕ) → i < slotsOf d → j < slotsOf d → isUsed (headAt d s i) ≡ true
       → eqb (slotWord d s j) (slotWord d s i) ≡ holdsAt d s (keyOf (headAt d s i)) j

@@ -13,6 +13,7 @@ use Rattle.store_desk.specs.declared.Desk.{Desk}
 use Rattle.store_desk.specs.declared.Kind.the-variants.{Sub}
 use Rattle.store_desk.specs.Size.{mostCues, mostGroups}
 use Rattle.store_desk.specs.Name.{firstSlot}
+use Rattle.store_head.specs.Layout.{usedWord}
 use Rattle.store.specs.Order.{slotWord}
 
 -- the most cue and group slots
@@ -21,10 +22,6 @@ mostKeys = mostCues + mostGroups
 
 unfoldable pub keyWords : Desk → List ℕ → List ℕ
 keyWords d s = padded mostKeys (tab (slotWord d s) 0 (firstSlot d Sub))
-
--- the word of a used slot is this or more
-abbrev pub usedWord : ℕ
-usedWord = 1048576
 
 -- how often w stands at the places from a on, before e
 abbrev pub isWord : List ℕ → ℕ → ℕ → Bool

@@ -18,14 +18,8 @@ ghost use Rattle.store.specs.First.{badSlot, repeatedSlot, badEntry};
 ghost use Rattle.store_code.specs.Fits.{Fitting};
 ghost use Rattle.store_form.specs.Keys.{mostKeys, keyWords, countWord, kindStart, seenBefore, Topped, topOf};
 
-// 999:59:59.9
-const MOST_TIME: u32 = 35999999;
-
 // The most cue and group slots.
 const MOST_KEYS: usize = 800;
-
-// The key word of a used slot is this or more.
-const USED_WORD: u32 = 1048576;
 
 fn both(a: bool, b: bool) -> bool
     ensures { λ r. ⌜ r ≡ (a && b) ⌝ }
@@ -58,7 +52,7 @@ fn time_fits(can: bool, present: u32, time: u32) -> bool
     if present == 0 {
         return time == 0;
     }
-    both(can, time <= MOST_TIME)
+    both(can, time <= value::TIME_MAX)
 }
 
 fn link_fits(can: bool, h: Head) -> bool
@@ -217,7 +211,7 @@ fn seen_before(cues: usize, words: &[u32; MOST_KEYS], slot: usize, top: u32) -> 
     ensures { λ r. ⌜ r ≡ seenBefore cues (now (words .entry)) slot ⌝ }
 {
     let word = words[slot];
-    if word < USED_WORD {
+    if word < store_head::USED_WORD {
         return false;
     }
     if top < word {

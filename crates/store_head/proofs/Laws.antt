@@ -13,7 +13,7 @@ use lib.Seq.{drop-drop, getD-drop}
 use Rattle.store_head.specs.declared.Head.{Head}
 use Rattle.store_head.specs.declared.Patch.{Patch}
 use Rattle.store_head.specs.Pack.{total, packed, unpacked, FitsIn, Bytes}
-use Rattle.store_head.specs.Layout.{octets, headWidths, headValues, headOf, HeadFits, encodeHead, decodeHead, firstWord, secondWord, thirdWord, keyWidths, wordOf, quickOf, patchWidths, patchValues, patchOf, PatchFits, encodePatch, decodePatch}
+use Rattle.store_head.specs.Layout.{octets, headWidths, headValues, headOf, HeadFits, encodeHead, decodeHead, firstWord, secondWord, thirdWord, keyWidths, usedWord, pageWord, wholeWord, wordOf, quickOf, patchWidths, patchValues, patchOf, PatchFits, encodePatch, decodePatch}
 use Rattle.store_head.proofs.Pack.{packed-lt, unpacked-fits, unpack-pack, pack-unpack-lt, unpacked-append, packed-at, packed-append, packed-cut-in, field-high, field-below, field-across, length-unpacked, packed-front, packed-take, octets-fit, unpacked-bytes, packed-zeros}
 
 -- ---- bytes as numbers
@@ -293,8 +293,9 @@ unfolding decodeHead
 decode-take s = ap (λ (z : ℕ). headOf (unpacked headWidths z)) (packed-take (octets 24) s 24 refl)
 
 -- ---- the quick number of a key
-key-fits : (used page whole fraction : ℕ) → used < 2 → page < 64 → whole < 1024 → fraction < 16 → FitsIn keyWidths (used ∷ page ∷ whole ∷ fraction ∷ [])
-key-fits u p w f hu hp hw hf = (hu, (hp, (hw, (hf, tt))))
+pub word-sum : (u p w f : ℕ) → wordOf u p w f ≡ u * usedWord + (p * pageWord + (w * wholeWord + f))
+unfolding wordOf packed total
+word-sum u p w f = omega arith
 
 key-field : (p r t w : ℕ) → r < 2 ^ 168 → (p * 2 ^ 168 + r) / 2 ^ (168 + (3 + t)) % 2 ^ w ≡ p / 8 / 2 ^ t % 2 ^ w
 key-field p r t w l =

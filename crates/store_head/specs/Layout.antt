@@ -1,7 +1,7 @@
 -- The head of a slot and the patch entry as tables of widths (paper 01, "The store"), and their bytes.
 -- Assumes nothing.
 use mathlib.Core.List.{List, [], _∷_}
-use Prim.Native.Nat.{ℕ, _/_, _%_, _^_, _<_}
+use Prim.Native.Nat.{ℕ, _+_, _/_, _%_, _^_, _<_}
 use lib.ListN.{getD, replicate}
 use Rattle.store_head.specs.declared.Head.{Head}
 use Rattle.store_head.specs.declared.Patch.{Patch}
@@ -13,10 +13,65 @@ octets n = replicate n 8
 
 -- ---- the head: 24 bytes
 
--- used 1 bit, page 6, whole number 10, fraction 4; link present 1, whole 10, fraction 4;
--- UP present 1, fade 26, delay 26; DOWN the same; FOLLOWON present 1, time 26; 23 zero bits
+-- bits of a flag, a page, a number's whole part and its fraction, a time, and those that are zero
+abbrev pub flagBits : ℕ
+flagBits = 1
+
+abbrev pub pageBits : ℕ
+pageBits = 6
+
+abbrev pub wholeBits : ℕ
+wholeBits = 10
+
+abbrev pub fractionBits : ℕ
+fractionBits = 4
+
+abbrev pub timeBits : ℕ
+timeBits = 26
+
+abbrev pub restBits : ℕ
+restBits = 23
+
+-- used, page, whole number, fraction; link present, whole, fraction;
+-- UP present, fade, delay; DOWN the same; FOLLOWON present, time; zero bits
 abbrev pub headWidths : List ℕ
-headWidths = 1 ∷ 6 ∷ 10 ∷ 4 ∷ 1 ∷ 10 ∷ 4 ∷ 1 ∷ 26 ∷ 26 ∷ 1 ∷ 26 ∷ 26 ∷ 1 ∷ 26 ∷ 23 ∷ []
+headWidths =
+    flagBits
+    ∷ pageBits
+    ∷ wholeBits
+    ∷ fractionBits
+    ∷ flagBits
+    ∷ wholeBits
+    ∷ fractionBits
+    ∷ flagBits
+    ∷ timeBits
+    ∷ timeBits
+    ∷ flagBits
+    ∷ timeBits
+    ∷ timeBits
+    ∷ flagBits
+    ∷ timeBits
+    ∷ restBits
+    ∷ []
+
+-- how many values the bits of each hold
+abbrev pub flagSpan : ℕ
+flagSpan = 2 ^ flagBits
+
+abbrev pub pageSpan : ℕ
+pageSpan = 2 ^ pageBits
+
+abbrev pub wholeSpan : ℕ
+wholeSpan = 2 ^ wholeBits
+
+abbrev pub fractionSpan : ℕ
+fractionSpan = 2 ^ fractionBits
+
+abbrev pub timeSpan : ℕ
+timeSpan = 2 ^ timeBits
+
+abbrev pub restSpan : ℕ
+restSpan = 2 ^ restBits
 
 abbrev pub headValues : Head → List ℕ
 headValues h =
@@ -61,22 +116,22 @@ headOf vs =
 
 -- each field fits its width
 pub record HeadFits (h : Head) : Type 0 where
-  pub used : h .used < 2
-  pub page : h .page < 64
-  pub whole : h .whole < 1024
-  pub fraction : h .fraction < 16
-  pub link : h .link < 2
-  pub linkWhole : h .«link_whole» < 1024
-  pub linkFraction : h .«link_fraction» < 16
-  pub up : h .up < 2
-  pub upFade : h .«up_fade» < 67108864
-  pub upDelay : h .«up_delay» < 67108864
-  pub down : h .down < 2
-  pub downFade : h .«down_fade» < 67108864
-  pub downDelay : h .«down_delay» < 67108864
-  pub followon : h .followon < 2
-  pub followonTime : h .«followon_time» < 67108864
-  pub rest : h .rest < 8388608
+  pub used : h .used < flagSpan
+  pub page : h .page < pageSpan
+  pub whole : h .whole < wholeSpan
+  pub fraction : h .fraction < fractionSpan
+  pub link : h .link < flagSpan
+  pub linkWhole : h .«link_whole» < wholeSpan
+  pub linkFraction : h .«link_fraction» < fractionSpan
+  pub up : h .up < flagSpan
+  pub upFade : h .«up_fade» < timeSpan
+  pub upDelay : h .«up_delay» < timeSpan
+  pub down : h .down < flagSpan
+  pub downFade : h .«down_fade» < timeSpan
+  pub downDelay : h .«down_delay» < timeSpan
+  pub followon : h .followon < flagSpan
+  pub followonTime : h .«followon_time» < timeSpan
+  pub rest : h .rest < restSpan
 
 unfoldable pub encodeHead : Head → List ℕ
 encodeHead h = unpacked (octets 24) (packed headWidths (headValues h))
@@ -111,7 +166,17 @@ thirdWord h =
 
 -- ---- the key in one number, for a fast search: the first 21 bits of a head, three bytes without their last three bits
 abbrev pub keyWidths : List ℕ
-keyWidths = 1 ∷ 6 ∷ 10 ∷ 4 ∷ []
+keyWidths = flagBits ∷ pageBits ∷ wholeBits ∷ fractionBits ∷ []
+
+-- what the used bit, one page and one whole number count in it; a used slot's is the first of these or more (law `word-sum`)
+abbrev pub usedWord : ℕ
+usedWord = 2 ^ (pageBits + wholeBits + fractionBits)
+
+abbrev pub pageWord : ℕ
+pageWord = 2 ^ (wholeBits + fractionBits)
+
+abbrev pub wholeWord : ℕ
+wholeWord = 2 ^ fractionBits
 
 unfoldable pub wordOf : ℕ → ℕ → ℕ → ℕ → ℕ
 wordOf used page whole fraction = packed keyWidths (used ∷ page ∷ whole ∷ fraction ∷ [])
@@ -122,8 +187,14 @@ quickOf s = packed (octets 3) s / 8
 -- ---- the patch entry: 3 bytes
 
 -- channel 10 bits, level 8, six zero bits
+abbrev pub channelBits : ℕ
+channelBits = 10
+
 abbrev pub patchWidths : List ℕ
-patchWidths = 10 ∷ 8 ∷ 6 ∷ []
+patchWidths = channelBits ∷ 8 ∷ 6 ∷ []
+
+abbrev pub channelSpan : ℕ
+channelSpan = 2 ^ channelBits
 
 abbrev pub patchValues : Patch → List ℕ
 patchValues p = p .channel ∷ p .level ∷ p .rest ∷ []
@@ -132,7 +203,7 @@ abbrev pub patchOf : List ℕ → Patch
 patchOf vs = record { channel = getD vs 0 0; level = getD vs 1 0; rest = getD vs 2 0 }
 
 pub record PatchFits (p : Patch) : Type 0 where
-  pub channel : p .channel < 1024
+  pub channel : p .channel < channelSpan
   pub level : p .level < 256
   pub rest : p .rest < 64
 

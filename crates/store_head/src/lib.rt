@@ -3,7 +3,7 @@ ghost use mathlib.Core.Path.{_≡_};
 ghost use Prim.Native.Nat.{_+_, _≤_, _<_};
 ghost use lib.ListN.{length, getD, drop};
 ghost use Rattle.store_head.specs.Pack.{packed};
-ghost use Rattle.store_head.specs.Layout.{octets, HeadFits, encodeHead, decodeHead, firstWord, secondWord, thirdWord, wordOf, quickOf, PatchFits, encodePatch, decodePatch};
+ghost use Rattle.store_head.specs.Layout.{octets, pageSpan, wholeSpan, fractionSpan, HeadFits, encodeHead, decodeHead, firstWord, secondWord, thirdWord, wordOf, quickOf, PatchFits, encodePatch, decodePatch};
 
 // The fields of a head; the flags are 0 or 1. `rest` is the bits that good form wants zero.
 pub struct Head {
@@ -190,12 +190,19 @@ pub fn quick(s: &[u8]) -> u32
     three(s) / 8
 }
 
+// What the used bit, one page and one whole number count in that number; a used slot's is the first of these or more.
+pub const USED_WORD: u32 = 1048576;
+
+pub const PAGE_WORD: u32 = 16384;
+
+const WHOLE_WORD: u32 = 16;
+
 // The same number of a used slot with this key.
 pub fn quick_key(page: u32, whole: u32, fraction: u32) -> u32
-    requires { ⌜ (page < 64) × (whole < 1024) × (fraction < 16) ⌝ }
+    requires { ⌜ (page < pageSpan) × (whole < wholeSpan) × (fraction < fractionSpan) ⌝ }
     ensures { λ r. ⌜ r ≡ wordOf 1 page whole fraction ⌝ }
 {
-    1048576 + page * 16384 + whole * 16 + fraction
+    USED_WORD + page * PAGE_WORD + whole * WHOLE_WORD + fraction
 }
 
 // The patch entry that the first 3 bytes hold.

@@ -28,7 +28,8 @@ use Rattle.value.specs.declared.Numbered.{Numbered}
 use Rattle.value.specs.declared.Timed.{Timed}
 use Rattle.value.specs.declared.Timed.the-variants.{Value as IsTime}
 use Rattle.value.specs.Integer.{cap, integerOf}
-use Rattle.value.specs.Number.{fractionDigits}
+use Rattle.value.specs.Number.{wholeMax, fractionDigits}
+use Rattle.value.specs.Time.{timeMax}
 use Rattle.value_level.specs.declared.Leveled.{Leveled}
 use Rattle.value_level.specs.Level.{levelOf}
 use Rattle.value_written.specs.Text.{integerText, numberText, levelText, timeText}
@@ -129,7 +130,7 @@ module _ (d : Desk) (r : InRange d) where
       let n = ok-sub d (key .whole) (key .fraction) o in
       sub-numeral (key .whole) (key .fraction) (n .0) (n .1)
 
-  whole-fits : (k : Kind) (key : Key) → okWithin d k key ≡ true → key .whole ≤ 999
+  whole-fits : (k : Kind) (key : Key) → okWithin d k key ≡ true → key .whole ≤ wholeMax
   unfolding okWithin
   whole-fits Cue key o = ok-number (key .whole) (key .fraction) o .1
   whole-fits Group key o = ok-number (key .whole) (key .fraction) o .1
@@ -167,14 +168,14 @@ module _ (d : Desk) (r : InRange d) where
         d s t (opened k y) (started d t (name k y)) (primary-step s t i e)
 
 -- ---- UP, DOWN, FOLLOWON, LINK
-delay-of : (delay : ℕ) → delay ≤ 35999999 → (cs : List ℕ) → delayOf (spelled (delayWords delay) cs) ≡ IsTime delay
+delay-of : (delay : ℕ) → delay ≤ timeMax → (cs : List ℕ) → delayOf (spelled (delayWords delay) cs) ≡ IsTime delay
 unfolding delayOf delayWords spelled
 delay-of delay h cs =
     by-eq delay 0
     (λ e. rw (eq-eqb delay 0 e) (ap IsTime (sym e)))
     (λ e. rw (ne-eqb delay 0 e) (time-read delay h))
 
-fade-of : (f : ℕ → ℕ → Edit) (fade delay : ℕ) → fade ≤ 35999999 → delay ≤ 35999999 → (cs : List ℕ)
+fade-of : (f : ℕ → ℕ → Edit) (fade delay : ℕ) → fade ≤ timeMax → delay ≤ timeMax → (cs : List ℕ)
     → fadeOf f (spelled (timeText fade ∷ delayWords delay) cs) ≡ Change (f fade delay)
 unfolding fadeOf spelled onTime
 fade-of f fade delay hf hd cs =
@@ -293,7 +294,7 @@ module _ (d : Desk) (k : Kind) (y : Key) (t : List ℕ) where
   abbrev now : State
   now = opened k y
 
-  module _ (fade delay : ℕ) (hf : fade ≤ 35999999) (hd : delay ≤ 35999999) (h : hasTimes k ≡ true) where
+  module _ (fade delay : ℕ) (hf : fade ≤ timeMax) (hd : delay ≤ timeMax) (h : hasTimes k ≡ true) where
     up-step : (cs : List ℕ) → stepOf d now (spelled (bytes "UP" ∷ timeText fade ∷ delayWords delay) cs) t ≡ ended now Obeyed (edited d t (name k y) (Up fade delay))
     unfolding fieldsAsk keywordAsk spelled secondaryAsk obeyedAsk augments timesOf changeAsk acted
     up-step cs =
@@ -319,7 +320,7 @@ module _ (d : Desk) (k : Kind) (y : Key) (t : List ℕ) where
     down-does = does-of (down-line fade delay hf hd) d now t now (edited d t (name k y) (Down fade delay)) down-step
 
   module _ (h : hasLink k ≡ true) where
-    module _ (time : ℕ) (l : time ≤ 35999999) where
+    module _ (time : ℕ) (l : time ≤ timeMax) where
       followon-step : (cs : List ℕ) → stepOf d now (spelled (bytes "FOLLOWON" ∷ timeText time ∷ delayWords 0) cs) t ≡ ended now Obeyed (edited d t (name k y) (Followon time))
       unfolding fieldsAsk keywordAsk spelled secondaryAsk obeyedAsk augments timesOf changeAsk acted onTime
       followon-step cs =

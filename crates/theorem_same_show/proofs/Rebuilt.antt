@@ -11,6 +11,7 @@ use lib.ListN.{length, set, replicate, length-append}
 use lib.Seq.{append-snoc, set-at}
 use borrow.Author.Tests.{eqb-true, eq-eqb, ne-eqb, leb-true}
 use Rattle.cells.proofs.Split.{by-bool, by-eq, cond-true, cond-false, and-left, and-right}
+use Rattle.value.specs.Time.{timeMax}
 use Rattle.store_desk.specs.declared.Desk.{Desk}
 use Rattle.store_desk.specs.declared.Kind.{Kind}
 use Rattle.store_desk.specs.Size.{Within, levelWidth, levelsLength}
@@ -23,7 +24,7 @@ use Rattle.store.specs.declared.Edit.the-variants.{Up, Down, Followon, Link}
 use Rattle.store.specs.Slots.{keyOf}
 use Rattle.store.specs.View.{Memory}
 use Rattle.store.specs.Change.{blankHead, editHead}
-use Rattle.store.specs.Form.{hasTimes, hasLink, mostTime, timeFits, linkFits}
+use Rattle.store.specs.Form.{hasTimes, hasLink, timeFits, linkFits}
 use Rattle.store.specs.Memories.{blankMemory, editLevels, editMemory, has, InTime}
 use Rattle.store.proofs.Edits.{Values}
 use Rattle.save_lines.specs.Line.{Lit, litFrom}
@@ -65,17 +66,17 @@ memoryEdits m = headEdits (m .head) ++ litEdits (litFrom 1 (m .levels))
 -- ---- good form of a value, taken apart
 pub time-absent : (can : Bool) (present time : ℕ) → timeFits can present time ≡ true → present ≡ 0 → time ≡ 0
 time-absent can present time e z =
-    eqb-true time 0 (sym (cond-true (eqb present 0) (eqb time 0) (can && leb time mostTime) (eq-eqb present 0 z)) ∙ e)
+    eqb-true time 0 (sym (cond-true (eqb present 0) (eqb time 0) (can && leb time timeMax) (eq-eqb present 0 z)) ∙ e)
 
 module _ (can : Bool) (present time : ℕ) (e : timeFits can present time ≡ true) (ne : present ≡ 0 → ⊥) where
-  time-there : (can && leb time mostTime) ≡ true
-  time-there = sym (cond-false (eqb present 0) (eqb time 0) (can && leb time mostTime) (ne-eqb present 0 ne)) ∙ e
+  time-there : (can && leb time timeMax) ≡ true
+  time-there = sym (cond-false (eqb present 0) (eqb time 0) (can && leb time timeMax) (ne-eqb present 0 ne)) ∙ e
 
   pub time-can : can ≡ true
-  time-can = and-left can (leb time mostTime) time-there
+  time-can = and-left can (leb time timeMax) time-there
 
-  pub time-most : time ≤ mostTime
-  time-most = leb-true time mostTime (and-right can (leb time mostTime) time-there)
+  pub time-most : time ≤ timeMax
+  time-most = leb-true time timeMax (and-right can (leb time timeMax) time-there)
 
 module _ (can : Bool) (h : Head) (e : linkFits can h ≡ true) where
   link-absent : h .link ≡ 0 → (h .«link_whole» ≡ 0) × (h .«link_fraction» ≡ 0)

@@ -22,8 +22,8 @@ use Rattle.store_desk.specs.declared.Kind.{Kind}
 use Rattle.store_desk.specs.declared.Kind.the-variants.{Cue, Group, Sub}
 use Rattle.store_desk.specs.Size.{Within}
 use Rattle.store_head.specs.declared.Patch.{Patch}
-use Rattle.value.specs.Number.{fractionDigits}
-use Rattle.value.specs.Time.{tenthsDigits}
+use Rattle.value.specs.Number.{wholeMax, fractionDigits}
+use Rattle.value.specs.Time.{tenthsDigits, timeMax}
 use Rattle.value_written.specs.Text.{integerText, numberText, levelText, fractionText, clockText, timeText, isPlain}
 use Rattle.value_written.proofs.Texts.{integer-some, integer-short, number-length, number-short, level-length, time-length, time-short, clock-seconds, clock-length-minutes, clock-length-hours, integer-plain, number-plain, level-plain, time-plain}
 use Rattle.save_lines.specs.Line.{patchText, kindText, primaryText, delayText, Lit, pairText, pairsText}
@@ -86,7 +86,7 @@ valued w m e h l = record { one = plain-one w e h; fair = fair-plain w e; short 
 integer-valued : (n : ℕ) → n < 1000 → Valued (integerText n) 3
 integer-valued n h = valued (integerText n) 3 (integer-plain n) (integer-some n) (integer-short n 2 h)
 
-number-valued : (w f : ℕ) → w ≤ 999 → Valued (numberText w f) 5
+number-valued : (w f : ℕ) → w ≤ wholeMax → Valued (numberText w f) 5
 number-valued w f h =
     let a : length (numberText w f) ≡ length (integerText w) + length (fractionText fractionDigits f) = number-length w f in
     let b : 1 ≤ length (integerText w) = integer-some w in
@@ -107,7 +107,7 @@ clock-some s =
     (λ m. let a : length (clockText s) ≡ length (integerText (s / 60)) + 3 = clock-length-minutes s l m in omega arith)
     (λ m. let a : length (clockText s) ≡ length (integerText (s / 3600)) + 6 = clock-length-hours s m in omega arith))
 
-time-valued : (t : ℕ) → t ≤ 35999999 → Valued (timeText t) 11
+time-valued : (t : ℕ) → t ≤ timeMax → Valued (timeText t) 11
 time-valued t h =
     let a : length (timeText t) ≡ length (clockText (t / 10)) + length (fractionText tenthsDigits (t % 10)) = time-length t in
     let b : 1 ≤ length (clockText (t / 10)) = clock-some (t / 10) in
@@ -175,13 +175,13 @@ patch-line page dimmer p hp hd hc =
     (omega arith)
 
 -- ---- the primaries
-primary-tail : (key : Key) → key .whole ≤ 999 → key .page < 1000
+primary-tail : (key : Key) → key .whole ≤ wholeMax → key .page < 1000
     → Tail (32 ∷ (numberText (key .whole) (key .fraction) ++ (32 ∷ integerText (key .page)))) (numberText (key .whole) (key .fraction) ∷ integerText (key .page) ∷ []) (1 + 5 + (1 + 3))
 primary-tail key hw hp =
     tail-next space-delimits space-fair (number-valued (key .whole) (key .fraction) hw)
     (tail-last space-delimits space-fair (integer-valued (key .page) hp))
 
-pub primary-line : (k : Kind) (key : Key) → key .whole ≤ 999 → key .page < 1000
+pub primary-line : (k : Kind) (key : Key) → key .whole ≤ wholeMax → key .page < 1000
     → Line (primaryText k key) (kindWord k ∷ numberText (key .whole) (key .fraction) ∷ integerText (key .page) ∷ [])
 unfolding primaryText kindText kindWord
 primary-line Cue key hw hp = line-of (kind-valued Cue) (primary-tail key hw hp) (omega arith)
@@ -192,18 +192,18 @@ primary-line Sub key hw hp = line-of (kind-valued Sub) (primary-tail key hw hp) 
 unfoldable pub delayWords : ℕ → List (List ℕ)
 delayWords delay = cond (eqb delay 0) [] (timeText delay ∷ [])
 
-delay-tail : (delay : ℕ) → delay ≤ 35999999 → Tail (delayText delay) (delayWords delay) 12
+delay-tail : (delay : ℕ) → delay ≤ timeMax → Tail (delayText delay) (delayWords delay) 12
 unfolding delayText delayWords
 delay-tail delay h =
     by-eq delay 0
     (λ e. rw (eq-eqb delay 0 e) (record { fair = span-nil isFair; short = omega arith; words = spells-nil; ends = ends-nil }))
     (λ e. rw (ne-eqb delay 0 e) (tail-last space-delimits space-fair (time-valued delay h)))
 
-time-tail : (fade delay : ℕ) → fade ≤ 35999999 → delay ≤ 35999999
+time-tail : (fade delay : ℕ) → fade ≤ timeMax → delay ≤ timeMax
     → Tail (32 ∷ (timeText fade ++ delayText delay)) (timeText fade ∷ delayWords delay) (1 + 11 + 12)
 time-tail fade delay hf hd = tail-next space-delimits space-fair (time-valued fade hf) (delay-tail delay hd)
 
-module _ (fade delay : ℕ) (hf : fade ≤ 35999999) (hd : delay ≤ 35999999) where
+module _ (fade delay : ℕ) (hf : fade ≤ timeMax) (hd : delay ≤ timeMax) where
   pub up-line : Line (bytes "UP " ++ (timeText fade ++ delayText delay)) (bytes "UP" ∷ timeText fade ∷ delayWords delay)
   up-line = line-of up-valued (time-tail fade delay hf hd) (omega arith)
 
@@ -213,7 +213,7 @@ module _ (fade delay : ℕ) (hf : fade ≤ 35999999) (hd : delay ≤ 35999999) w
   pub followon-line : Line (bytes "FOLLOWON " ++ (timeText fade ++ delayText delay)) (bytes "FOLLOWON" ∷ timeText fade ∷ delayWords delay)
   followon-line = line-of followon-valued (time-tail fade delay hf hd) (omega arith)
 
-pub link-line : (whole fraction : ℕ) → whole ≤ 999 → Line (bytes "LINK " ++ numberText whole fraction) (bytes "LINK" ∷ numberText whole fraction ∷ [])
+pub link-line : (whole fraction : ℕ) → whole ≤ wholeMax → Line (bytes "LINK " ++ numberText whole fraction) (bytes "LINK" ∷ numberText whole fraction ∷ [])
 link-line whole fraction h = line-of link-valued (tail-last space-delimits space-fair (number-valued whole fraction h)) (omega arith)
 
 -- ---- CHAN

@@ -15,7 +15,7 @@ use Rattle.value.specs.declared.Integer.the-variants.{Malformed, Value}
 use Rattle.value.specs.declared.Timed.the-variants.{Malformed as BadTime, Value as IsTime}
 use Rattle.value.specs.Integer.{cap, integerOf, AtMost}
 use Rattle.value.specs.Parts.{point, colon, cutAt, before, after, decimalsOf}
-use Rattle.value.specs.Time.{firstMax, laterMax, tenthsDigits, rangedOf, partOf, joinOf, laterOf, clockOf, timedOf, timeOf}
+use Rattle.value.specs.Time.{firstMax, laterMax, clockMax, tenthsDigits, rangedOf, partOf, joinOf, laterOf, clockOf, timedOf, timeOf}
 use Rattle.value.proofs.Digits.{at-most-of}
 
 pub at-most-up : {n m : ℕ} (i : Integer) → AtMost n i → n ≤ m → AtMost m i
@@ -89,28 +89,28 @@ unfolding clockOf
 clock-more s h = rw (lt-ltb (cutAt colon s) (length s) h)
 
 -- ---- how large
-pub middle-most : (first : Integer) (s : List ℕ) → AtMost firstMax first → AtMost 59999 (joinOf first 60 (partOf laterMax s))
+pub middle-most : (first : Integer) (s : List ℕ) → AtMost firstMax first → AtMost (firstMax * 60 + laterMax) (joinOf first 60 (partOf laterMax s))
 middle-most first s h = join-most firstMax laterMax 60 first (partOf laterMax s) h (part-most laterMax s)
 
-later-most : (first : Integer) (s : List ℕ) → AtMost firstMax first → AtMost 3599999 (laterOf first s)
+later-most : (first : Integer) (s : List ℕ) → AtMost firstMax first → AtMost clockMax (laterOf first s)
 later-most first s h =
     by-lt (cutAt colon s) (length s)
     (λ l.
     let m : Integer = joinOf first 60 (partOf laterMax (before (cutAt colon s) s)) in
     let t : List ℕ = after (cutAt colon s) s in
-    at-most-of 3599999 (later-two first s l)
-    (join-most 59999 laterMax 60 m (partOf laterMax t) (middle-most first (before (cutAt colon s) s) h)
+    at-most-of clockMax (later-two first s l)
+    (join-most (firstMax * 60 + laterMax) laterMax 60 m (partOf laterMax t) (middle-most first (before (cutAt colon s) s) h)
     (part-most laterMax t)))
     (λ l.
-    at-most-of 3599999 (later-one first s l)
+    at-most-of clockMax (later-one first s l)
     (at-most-up (joinOf first 60 (partOf laterMax s)) (middle-most first s h) (omega arith)))
 
-pub clock-most : (s : List ℕ) → AtMost 3599999 (clockOf s)
+pub clock-most : (s : List ℕ) → AtMost clockMax (clockOf s)
 clock-most s =
     let f : List ℕ = before (cutAt colon s) s in
     by-lt (cutAt colon s) (length s)
-    (λ l. at-most-of 3599999 (clock-more s l) (later-most (partOf firstMax f) (after (cutAt colon s) s) (part-most firstMax f)))
-    (λ l. at-most-of 3599999 (clock-one s l) (at-most-up (partOf firstMax f) (part-most firstMax f) (omega arith)))
+    (λ l. at-most-of clockMax (clock-more s l) (later-most (partOf firstMax f) (after (cutAt colon s) s) (part-most firstMax f)))
+    (λ l. at-most-of clockMax (clock-one s l) (at-most-up (partOf firstMax f) (part-most firstMax f) (omega arith)))
 
 -- ---- the time
 pub time-malformed : {i : Integer} → i ≡ Malformed → timedOf i ≡ BadTime

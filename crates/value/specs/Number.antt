@@ -13,11 +13,15 @@ use Rattle.value.specs.declared.Numbered.the-variants.{Malformed as BadN
 use Rattle.value.specs.Integer.{integerOf}
 use Rattle.value.specs.Parts.{point, cutAt, before, decimalsOf}
 
+-- the largest whole part, how many digits may follow the point, and the largest that so many digits write
 abbrev pub wholeMax : ℕ
 wholeMax = 999
 
 abbrev pub fractionDigits : ℕ
 fractionDigits = 1
+
+abbrev pub fractionMax : ℕ
+fractionMax = 9
 
 abbrev pub number : ℕ → ℕ → Number
 number w f = record { whole = w; fraction = f }

@@ -20,6 +20,13 @@ laterMax = 59
 abbrev pub tenthsDigits : ℕ
 tenthsDigits = 1
 
+-- the largest clock in seconds, 999:59:59, and the largest time in tenths, 999:59:59.9
+abbrev pub clockMax : ℕ
+clockMax = (firstMax * 60 + laterMax) * 60 + laterMax
+
+abbrev pub timeMax : ℕ
+timeMax = clockMax * 10 + 9
+
 -- an integer in its range
 unfoldable pub rangedOf : ℕ → Integer → Integer
 rangedOf most Malformed = Malformed

@@ -13,10 +13,12 @@ const CAP: u32 = 100_000;
 
 const DECIMAL: u32 = 10;
 
-// The largest whole part of a cue or group number, and how many digits may follow its point.
-const WHOLE_MAX: u32 = 999;
+// The largest whole part of a cue or group number, how many digits may follow its point, and the largest that so many digits write.
+pub const WHOLE_MAX: u32 = 999;
 
 pub const FRACTION_DIGITS: usize = 1;
+
+pub const FRACTION_MAX: u32 = 9;
 
 // A time: the largest first part, the largest part after a colon, and how many digits may follow the point.
 const FIRST_MAX: u32 = 999;
@@ -24,6 +26,9 @@ const FIRST_MAX: u32 = 999;
 const LATER_MAX: u32 = 59;
 
 pub const TENTHS_DIGITS: usize = 1;
+
+// The largest time in tenths, 999:59:59.9.
+pub const TIME_MAX: u32 = ((FIRST_MAX * 60 + LATER_MAX) * 60 + LATER_MAX) * 10 + 9;
 
 // A digit run: one or more digits, its value cut at CAP.
 pub enum Integer {

@@ -15,8 +15,8 @@ use Rattle.cells.proofs.Split.{by-lt, by-eq, by-or, cond-true, cond-false, and-
 use Rattle.cells.proofs.Scan.{span-nil, span-all, all-below, all-append, all-cons}
 use Rattle.cells.proofs.Put.{put-nil, put-comm, put-next, set-is-put}
 use Rattle.value.specs.Parts.{point, colon}
-use Rattle.value.specs.Number.{fractionDigits}
-use Rattle.value.specs.Time.{tenthsDigits}
+use Rattle.value.specs.Number.{wholeMax, fractionDigits}
+use Rattle.value.specs.Time.{tenthsDigits, clockMax, timeMax}
 use Rattle.value_written.specs.Text.{digitChar, digitsOn, digitsText, countFrom, countOf, integerText, fractionText, numberText, levelText, partText, clockText, timeText, isPlain}
 
 -- ---- a digit's character
@@ -214,7 +214,7 @@ pub number-length : (w f : ℕ) → length (numberText w f) ≡ length (integerT
 unfolding numberText
 number-length w f = length-append (integerText w) (fractionText fractionDigits f)
 
-pub number-short : (w f : ℕ) → w ≤ 999 → length (numberText w f) ≤ 5
+pub number-short : (w f : ℕ) → w ≤ wholeMax → length (numberText w f) ≤ 5
 number-short w f h =
     let a : length (integerText w) ≤ 3 = integer-short w 2 (let g : w < 1000 = omega arith in g) in
     let b : length (fractionText fractionDigits f) ≤ fractionDigits + 1 = fraction-short fractionDigits f in
@@ -276,7 +276,7 @@ clock-long s h =
     let e : length (clockText s) ≡ length (integerText (s / 3600)) + 6 = clock-length-hours s m in
     omega arith))
 
-pub clock-short : (s : ℕ) → s < 3600000 → length (clockText s) ≤ 9
+pub clock-short : (s : ℕ) → s ≤ clockMax → length (clockText s) ≤ 9
 clock-short s h =
     by-lt s 60
     (λ l.
@@ -294,9 +294,9 @@ clock-short s h =
     let e : length (clockText s) ≡ length (integerText (s / 3600)) + 6 = clock-length-hours s m in
     omega arith))
 
-pub time-short : (t : ℕ) → t ≤ 35999999 → length (timeText t) ≤ 11
+pub time-short : (t : ℕ) → t ≤ timeMax → length (timeText t) ≤ 11
 time-short t h =
-    let a : length (clockText (t / 10)) ≤ 9 = clock-short (t / 10) (let g : t / 10 < 3600000 = omega arith in g) in
+    let a : length (clockText (t / 10)) ≤ 9 = clock-short (t / 10) (let g : t / 10 ≤ clockMax = omega arith in g) in
     let b : length (fractionText tenthsDigits (t % 10)) ≤ tenthsDigits + 1 = fraction-short tenthsDigits (t % 10) in
     let c : length (timeText t) ≡ length (clockText (t / 10)) + length (fractionText tenthsDigits (t % 10)) = time-length t in
     omega arith

@@ -18,8 +18,8 @@ use Rattle.value.specs.declared.Paged.the-variants.{Value as IsPage}
 use Rattle.value_level.specs.declared.Leveled.the-variants.{Value as IsLevel}
 use Rattle.value.specs.Integer.{cap, digitOf, digitsFrom, runOf, integerOf}
 use Rattle.value.specs.Parts.{point, colon, isOther}
-use Rattle.value.specs.Number.{fractionDigits, number, numberOf}
-use Rattle.value.specs.Time.{firstMax, laterMax, tenthsDigits, partOf, clockOf, timeOf}
+use Rattle.value.specs.Number.{wholeMax, fractionDigits, fractionMax, number, numberOf}
+use Rattle.value.specs.Time.{firstMax, laterMax, tenthsDigits, clockMax, timeMax, partOf, clockOf, timeOf}
 use Rattle.value.specs.Field.{pageOf}
 use Rattle.value_level.specs.Level.{hexDigits, levelOf}
 use Rattle.value.proofs.Digits.{digit-decimal, digit-capital, digits-nil, digits-cons, run-start}
@@ -113,7 +113,7 @@ number-text-some : (w f : ℕ) → (f ≡ 0 → ⊥) → numberText w f ≡ inte
 unfolding numberText
 number-text-some w f e = ap (λ (z : List ℕ). integerText w ++ z) (fraction-some fractionDigits f e)
 
-pub number-read : (w f : ℕ) → w ≤ 999 → f ≤ 9 → (w + f ≡ 0 → ⊥) → numberOf (numberText w f) ≡ IsNumber (number w f)
+pub number-read : (w f : ℕ) → w ≤ wholeMax → f ≤ fractionMax → (w + f ≡ 0 → ⊥) → numberOf (numberText w f) ≡ IsNumber (number w f)
 number-read w f a b z =
     let xs : List ℕ = integerText w in
     let l : w ≤ cap = omega arith in
@@ -155,7 +155,7 @@ later-read v h =
     let g : v < 10 ^ 2 = (let m : v < 100 = omega arith in m) in
     sym (part-is laterMax (digitsText 10 2 v) refl) ∙ part-good laterMax (fixed-read 2 v (omega arith) g l) h
 
-pub clock-read : (s : ℕ) → s < 3600000 → clockOf (clockText s) ≡ Value s
+pub clock-read : (s : ℕ) → s ≤ clockMax → clockOf (clockText s) ≡ Value s
 unfolding partText
 clock-read s h =
     by-lt s 60
@@ -196,12 +196,12 @@ time-text-some : (t : ℕ) → (t % 10 ≡ 0 → ⊥) → timeText t ≡ clockTe
 unfolding timeText
 time-text-some t e = ap (λ (z : List ℕ). clockText (t / 10) ++ z) (fraction-some tenthsDigits (t % 10) e)
 
-pub time-read : (t : ℕ) → t ≤ 35999999 → timeOf (timeText t) ≡ IsTime t
+pub time-read : (t : ℕ) → t ≤ timeMax → timeOf (timeText t) ≡ IsTime t
 time-read t h =
     let u : ℕ = t / 10 in
     let v : ℕ = t % 10 in
     let xs : List ℕ = clockText u in
-    let l : t / 10 < 3600000 = omega arith in
+    let l : t / 10 ≤ clockMax = omega arith in
     let p : span (isOther point) xs ≡ length xs = clock-all (isOther point) no-point refl u in
     by-eq (t % 10) 0
     (λ e.
