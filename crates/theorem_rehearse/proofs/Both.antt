@@ -37,12 +37,14 @@ use Rattle.load.specs.declared.Reading.the-variants.{Wrong as Misread, Change}
 use Rattle.load.specs.Condition.{badPage, unsupportedOf, wrongSecondary, badPatchPage, overLongRecord}
 use Rattle.load.specs.Item.{memory, page, pairsOf, triplesOf}
 use Rattle.load.specs.Ask.{Wipe, table, dimmers, Ask, rests, skips, opens, edits, items, clears, name}
-use Rattle.load.specs.Ask.{namedBy, namedOf, namedAsk, primaryAsk, augments, timesOf, changeAsk, obeyedAsk, secondaryAsk, pageAt, pagedAsk, kindAsk, dimmersAsk}
-use Rattle.load.specs.Ask.{mostPages, allWipes, allAsk, itemAsk, triplesAsk, keywordAsk, fieldsAsk, isOverLong, askOf}
+use Rattle.load.specs.Ask.{namedBy, namedOf, namedAsk, primaryAsk, augments, timesOf, changeAsk, obeyedAsk, secondaryAsk, pageAt, pagedAsk}
+use Rattle.load.specs.Ask.{kindAsk, dimmersAsk, mostPages, allWipes, allAsk, itemAsk, triplesAsk, keywordAsk, fieldsAsk, isOverLong, askOf}
 use Rattle.load.specs.Run.{stops}
 use Rattle.theorem_rehearse.specs.Rehearse.{Larger}
 use Rattle.theorem_rehearse.specs.Frame.{changesDimmer, targetsDimmer}
-use Rattle.theorem_rehearse.proofs.Fields.{by-tests, Pages, bad-pages, beyond-page, same-page, pages, pages-at, keyed, Numerals, wrong-numbers, beyond-number, same-number, numerals, not-supported, not-within, not-page, more-pages, supports, more-most}
+use Rattle.theorem_rehearse.proofs.Fields.{by-tests, Pages, bad-pages, beyond-page, same-page, pages, pages-at, keyed}
+use Rattle.theorem_rehearse.proofs.Fields.{Numerals, wrong-numbers, beyond-number, same-number, numerals}
+use Rattle.theorem_rehearse.proofs.Fields.{not-supported, not-within, not-page, more-pages, supports, more-most}
 use Rattle.theorem_rehearse.proofs.Items.{Pairs, Triples, Each, pairs, triples}
 use Rattle.theorem_rehearse.proofs.Wipes.{Wipes, none, both, right, kindless, pageless, dimmerless, all-wipes, all-beyond}
 use Rattle.theorem_rehearse.proofs.Opens.{Opens, nothing-open, skips-nothing, skips-both, skips-other, same-open}
@@ -76,7 +78,8 @@ pub data Both (d D : Desk) (b : Name → Bool) (s S : State) : Ask → Ask → T
   opening : (k : Kind) (y : Key) → Both d D b s S (opens k y) (opens k y)
   opening-beyond : (o : Outcome) → stops o ≡ false → (k : Kind) (y : Key) → okName d (name k y) ≡ false → Both d D b s S (skips o) (opens k y)
   patching : (p : ℕ) {es ES : List Entry} → Each (Triples d D) es ES → Both d D b s S (items (page p) es) (items (page p) ES)
-  patching-beyond : (o : Outcome) → stops o ≡ false → (p : ℕ) → d .«patch_pages» < p → (es : List Entry) → Both d D b s S (rests o) (items (page p) es)
+  patching-beyond : (o : Outcome) → stops o ≡ false → (p : ℕ) → d .«patch_pages» < p → (es : List Entry)
+      → Both d D b s S (rests o) (items (page p) es)
   clearing : {xs XS : List Wipe} → Wipes d xs XS → Both d D b s S (clears xs) (clears XS)
   clearing-beyond : (o : Outcome) → stops o ≡ false → {XS : List Wipe} → Wipes d [] XS → Both d D b s S (rests o) (clears XS)
   augmenting : {a A : Ask} → Calm a → Calm A → (Opens b s S → Second d D b a A) → Both d D b s S a A

@@ -2,15 +2,15 @@
 -- seen after a CLEAR and the ranges of the names that a store in good form keeps.
 -- Assumes nothing.
 use mathlib.Core.Path.{_≡_, refl, sym, ap, _∙_}
-use mathlib.Core.Bool.{Bool, true, false, cond, false≢true}
+use mathlib.Core.Bool.{Bool, true, false, cond}
 use mathlib.Core.List.{List}
 use Prim.Native.Nat.{ℕ}
-use Rattle.cells.proofs.Split.{by-bool, cond-same}
+use Rattle.cells.proofs.Split.{by-bool, cond-same, clash}
 use Rattle.store_desk.specs.declared.Desk.{Desk}
 use Rattle.store_desk.specs.Name.{Name, okName}
-use Rattle.store.specs.View.{Kept, absent, kept, memoryOf}
+use Rattle.store.specs.View.{Kept, absent, memoryOf}
 use Rattle.store.specs.Good.{Ready}
-use Rattle.store.proofs.Start.{kept-ok, bad-absent}
+use Rattle.store.proofs.Start.{bad-absent}
 use Rattle.load.specs.Ask.{Wipe}
 use Rattle.load.specs.Step.{wiped}
 use Rattle.load.proofs.Deed.{WipesFit}
@@ -21,13 +21,12 @@ use Rattle.theorem_rehearse.proofs.Wipes.{Wipes, memories-alike}
 use Rattle.theorem_rehearse.proofs.Views.{keeps, beside-none, beside-same, beside-cond, beside-gone, beside-kept, Views}
 
 -- ---- what is kept has a name in range
-keeps-ok-by : (d : Desk) (t : List ℕ) → Ready d t → (m : Name) (k : Kept) → memoryOf d t m ≡ k → isKept k ≡ true → okName d m ≡ true
+pub absent-gone : (d : Desk) (t : List ℕ) (m : Name) → memoryOf d t m ≡ absent → keeps d t m ≡ false
 unfolding isKept
-keeps-ok-by d t r m absent e h = absurd (false≢true h)
-keeps-ok-by d t r m (kept x) e h = kept-ok d t (r .form) m x e
+absent-gone d t m e = ap isKept e
 
 pub keeps-ok : (d : Desk) (t : List ℕ) → Ready d t → (m : Name) → keeps d t m ≡ true → okName d m ≡ true
-keeps-ok d t r m h = keeps-ok-by d t r m (memoryOf d t m) refl h
+keeps-ok d t r m h = by-bool (okName d m) (λ e. e) (λ e. clash h (absent-gone d t m (bad-absent d t (r .form) m e)))
 
 -- ---- after a CLEAR
 cond-gone : (b : Bool) (k : Kept) → isKept k ≡ false → isKept (cond b absent k) ≡ false
@@ -48,9 +47,6 @@ module _ (d D : Desk) (l : Larger d D) (Lost : Name → Type 0) where
 
   module _ (t T : List ℕ) (r : Ready d t) (R : Ready D T) (v : Views d D l Lost t T)
       {xs XS : List Wipe} (w : Wipes d xs XS) (f : WipesFit d xs) (F : WipesFit D XS) where
-    seen : (m : Name) → memoryOf d (wiped d xs t) m ≡ cond (wipesMemory xs m) absent (memoryOf d t m)
-    seen = wiped-seen d xs f t r .memories
-
     -- of a name that the smaller can have
     seen-right : (m : Name) → okName d m ≡ true → memoryOf D (wiped D XS T) m ≡ cond (wipesMemory xs m) absent (memoryOf D T m)
     seen-right m o = wiped-seen D XS F T R .memories m ∙ sym (ap (λ (b : Bool). cond b absent (memoryOf D T m)) (memories-alike d w m o))
@@ -59,22 +55,24 @@ module _ (d D : Desk) (l : Larger d D) (Lost : Name → Type 0) where
     views-after m =
         by-bool (okName d m)
         (λ o.
-        beside-same d (Lost m) (seen m) (seen-right m o)
+        beside-same d (Lost m) (wiped-seen d xs f t r .memories m) (seen-right m o)
         (beside-cond d (Lost m) (wipesMemory xs m) absent (memoryOf d t m) absent (memoryOf D T m) (beside-none d (Lost m)) (v m)))
         (λ o.
         let e : memoryOf d t m ≡ absent = bad-absent d t (r .form) m o in
-        beside-same d (Lost m) (seen m ∙ ap (cond (wipesMemory xs m) absent) e ∙ cond-same (wipesMemory xs m) absent ∙ sym e) (wiped-seen D XS F T R .memories m)
+        beside-same d (Lost m)
+        (wiped-seen d xs f t r .memories m ∙ ap (cond (wipesMemory xs m) absent) e ∙ cond-same (wipesMemory xs m) absent ∙ sym e)
+        (wiped-seen D XS F T R .memories m)
         (beside-gone d (Lost m) (wipesMemory XS m) (memoryOf d t m) (memoryOf D T m) e (v m)))
 
     pub cleared : Cleared t T (wiped d xs t) (wiped D XS T)
     cleared =
         record {
           views = views-after;
-          gone = λ m h. ap isKept (seen m) ∙ cond-gone (wipesMemory xs m) (memoryOf d t m) h;
+          gone = λ m h. ap isKept (wiped-seen d xs f t r .memories m) ∙ cond-gone (wipesMemory xs m) (memoryOf d t m) h;
           alike =
               λ m h.
               ap isKept (seen-right m (keeps-ok d t r m h))
               ∙ cond-alike (wipesMemory xs m) (memoryOf d t m) (memoryOf D T m)
               (beside-kept d (Lost m) (memoryOf d t m) (memoryOf D T m) (v m) h ∙ sym h)
-              ∙ sym (ap isKept (seen m));
+              ∙ sym (ap isKept (wiped-seen d xs f t r .memories m));
         }

@@ -28,7 +28,8 @@ use Rattle.theorem_rehearse.specs.Frame.{patchesDimmer, changesDimmer, t
 use Rattle.theorem_rehearse.proofs.Items.{Triples, triple-faults, beyond-triple, same-triple, Each, none, next}
 use Rattle.theorem_rehearse.proofs.Wipes.{Wipes, dimmers-alike}
 use Rattle.theorem_rehearse.proofs.Frame.{AskFits, ask-fits, wiped-seen, ask-framed}
-use Rattle.theorem_rehearse.proofs.Both.{Both, resting, skipping, opening, opening-beyond, patching, patching-beyond, clearing, clearing-beyond, augmenting, record-both}
+use Rattle.theorem_rehearse.proofs.Both.{Both, resting, skipping, opening, opening-beyond, patching, patching-beyond}
+use Rattle.theorem_rehearse.proofs.Both.{clearing, clearing-beyond, augmenting, record-both}
 
 module _ (d D : Desk) (l : Larger d D) (same : d .channels ≡ D .channels) where
   -- every dimmer of the smaller, on its patch pages, is patched as on the larger

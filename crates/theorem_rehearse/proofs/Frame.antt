@@ -23,7 +23,8 @@ use Rattle.store.specs.Good.{Ready}
 use Rattle.store.proofs.Start.{start-view, start-patch, start-tail}
 use Rattle.store.proofs.Edits.{edit-view, edit-patch, edit-tail, in-time-fits}
 use Rattle.store.proofs.Clear.{clear-view, clear-patch, clear-tail, clear-good}
-use Rattle.store.proofs.Patches.{patch-view, patch-memory, patch-tail, patch-good, clear-patch-view, clear-patch-memory, clear-patch-tail, clear-patch-good, same-patch}
+use Rattle.store.proofs.Patches.{patch-view, patch-memory, patch-tail, patch-good, same-patch}
+use Rattle.store.proofs.Patches.{clear-patch-view, clear-patch-memory, clear-patch-tail, clear-patch-good}
 use Rattle.load.specs.declared.Entry.{Entry}
 use Rattle.load.specs.declared.Entry.the-variants.{Level, Patch, Fault}
 use Rattle.load.specs.declared.State.{State}
@@ -34,7 +35,8 @@ use Rattle.load.specs.Fits.{AllFit}
 use Rattle.load.proofs.Read.{ChangeOk}
 use Rattle.load.proofs.Deed.{WipesFit, Deed, resting, skipping, opening, editing, setting, patching, clearing, record-deed}
 use Rattle.load.proofs.Steps.{level-ready, untouched}
-use Rattle.theorem_rehearse.specs.Frame.{wipesMemory, targetsMemory, changesMemory, patchesDimmer, wipesDimmers, targetsDimmer, changesDimmer, Framed, Frame, IsOpen, Own, Quiet, Idle}
+use Rattle.theorem_rehearse.specs.Frame.{wipesMemory, targetsMemory, changesMemory, patchesDimmer, wipesDimmers, targetsDimmer, changesDimmer}
+use Rattle.theorem_rehearse.specs.Frame.{Framed, Frame, IsOpen, Own, Quiet, Idle}
 
 -- ---- what holds of an ask, by its form
 abbrev pub AskFits : Desk → State → Ask → Type 0

@@ -30,7 +30,8 @@ use Rattle.value_level.specs.Level.{percentByte, percentOf, hexWordOf, hexOf, l
 use Rattle.load.specs.Condition.{fullOf}
 use Rattle.load.specs.Item.{rangedOf, onRanged, onLevel, pairOf, tripleOf, pairsOf, triplesOf, faultsOf, done, allDone}
 use Rattle.load.specs.Run.{stops, runFrom, loadOf, allReports}
-use Rattle.load.specs.Ask.{numberedBy, numeralOf, pageAt, namedBy, namedOf, namedAsk, primaryAsk, augments, obeyedAsk, secondaryAsk, triplesAsk, keywordAsk, fieldsAsk, askOf}
+use Rattle.load.specs.Ask.{numberedBy, numeralOf, pageAt, namedBy, namedOf, namedAsk, primaryAsk}
+use Rattle.load.specs.Ask.{augments, obeyedAsk, secondaryAsk, triplesAsk, keywordAsk, fieldsAsk, askOf}
 use Rattle.load.specs.Step.{openedBy, acted, recordStep, ignoredIn, outcomeReports, conditionsOf}
 use Rattle.theorem_rehearse.specs.Rehearse.{Rehearsal, hasFull, isKept}
 use Rattle.theorem_rehearse.specs.Needs.{sized, lent, seenBy, bothSee, Fair, seen, largerFull, smallerFull, moreChannels, allHold}

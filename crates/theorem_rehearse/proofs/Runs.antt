@@ -1,5 +1,5 @@
--- Two loads of one stream go in step: the same record stops both, and a relation that each record keeps, under what it reports, holds
--- after both. By the cases of one record on two desks, and induction on the records.
+-- Two loads of one stream go in step: the same record stops both, the stores stay in good form, and a relation that each record keeps,
+-- under what it reports, holds after both. By the cases of one record on two desks, and induction on the records.
 -- Assumes nothing.
 use mathlib.Core.Path.{_≡_, refl, sym, _∙_}
 use mathlib.Core.Bool.{false}
@@ -12,13 +12,16 @@ use Rattle.store_desk.specs.declared.Key.{Key}
 use Rattle.store_desk.specs.declared.Kind.{Kind}
 use Rattle.text_records.specs.Stream.{recordsOf}
 use Rattle.store.specs.Change.{seat}
+use Rattle.store.specs.Good.{Ready}
 use Rattle.load.specs.declared.State.{State}
 use Rattle.load.specs.Ask.{Ask, rests, skips, opens, edits, items, clears, name, askOf}
 use Rattle.load.specs.Step.{nothingOpen, openedBy, acted, recordStep, conditionsOf}
 use Rattle.load.specs.Run.{Report, Run, reportsAt, stops, only, andThen, runFrom, loadOf}
+use Rattle.load.proofs.Steps.{record-ready}
 use Rattle.theorem_rehearse.specs.Rehearse.{Larger}
 use Rattle.theorem_rehearse.proofs.Fields.{by-tests}
-use Rattle.theorem_rehearse.proofs.Both.{stopping, Both, resting, skipping, opening, opening-beyond, patching, patching-beyond, clearing, clearing-beyond, augmenting, record-both}
+use Rattle.theorem_rehearse.proofs.Both.{stopping, Both, resting, skipping, opening, opening-beyond, patching, patching-beyond}
+use Rattle.theorem_rehearse.proofs.Both.{clearing, clearing-beyond, augmenting, record-both}
 
 -- ---- the same record stops both
 opened-goes : (d : Desk) (k : Kind) (y : Key) (a : Found) (t : List ℕ) → stops (openedBy d k y a t .outcome) ≡ false
@@ -62,33 +65,37 @@ Told = List Report → List Report → Type 0
 
 abbrev pub Steps : Desk → Desk → Stores → Told → Type 0
 Steps d D R P =
-    (n : ℕ) (r : List ℕ) (s : State) (t : List ℕ) (S : State) (T : List ℕ) → R s t S T
+    (n : ℕ) (r : List ℕ) (s : State) (t : List ℕ) (S : State) (T : List ℕ) → Ready d t → Ready D T → R s t S T
     → P (reportsAt n (conditionsOf r (recordStep d s r t))) (reportsAt n (conditionsOf r (recordStep D S r T)))
     → R (recordStep d s r t .state) (recordStep d s r t .store) (recordStep D S r T .state) (recordStep D S r T .store)
 
 module _ (d D : Desk) (l : Larger d D) (R : Stores) (P : Told) (apart : (a b A B : List Report) → P (a ++ b) (A ++ B) → P a A × P b B)
     (step : Steps d D R P) where
   abbrev After : Run → Run → Type 0
-  After x X = P (x .reports) (X .reports) → R (x .state) (x .store) (X .state) (X .store)
+  After x X = P (x .reports) (X .reports) → Ready d (x .store) × Ready D (X .store) × R (x .state) (x .store) (X .state) (X .store)
 
-  runs : (rs : List (List ℕ)) (n : ℕ) (s : State) (t : List ℕ) (S : State) (T : List ℕ) → R s t S T → After (runFrom d n s t rs) (runFrom D n S T rs)
+  runs : (rs : List (List ℕ)) (n : ℕ) (s : State) (t : List ℕ) (S : State) (T : List ℕ) → Ready d t → Ready D T → R s t S T
+      → After (runFrom d n s t rs) (runFrom D n S T rs)
   unfolding runFrom
-  runs [] n s t S T h = λ p. h
-  runs (r ∷ rs) n s t S T h =
+  runs [] n s t S T g G h = λ p. (g, G, h)
+  runs (r ∷ rs) n s t S T g G h =
       let x = recordStep d s r t in
       let X = recordStep D S r T in
       let e = record-stops d D l s S t T r in
-      by-tests After (stops (x .outcome)) (stops (X .outcome)) (λ g. sym e ∙ g)
+      let f = record-ready d t g s r in
+      let F = record-ready D T G S r in
+      by-tests After (stops (x .outcome)) (stops (X .outcome)) (λ y. sym e ∙ y)
       (only (n + 1) r x)
       (andThen (n + 1) r x (runFrom d (n + 1) (x .state) (x .store) rs))
       (only (n + 1) r X)
       (andThen (n + 1) r X (runFrom D (n + 1) (X .state) (X .store) rs))
-      (λ g p. step (n + 1) r s t S T h p)
-      (λ g G. clash G (sym e ∙ g))
-      (λ G p.
+      (λ y p. (f, F, step (n + 1) r s t S T g G h p))
+      (λ y Y. clash Y (sym e ∙ y))
+      (λ Y p.
       let q = apart (reportsAt (n + 1) (conditionsOf r x)) _ (reportsAt (n + 1) (conditionsOf r X)) _ p in
-      runs rs (n + 1) (x .state) (x .store) (X .state) (X .store) (step (n + 1) r s t S T h (q .0)) (q .1))
+      runs rs (n + 1) (x .state) (x .store) (X .state) (X .store) f F (step (n + 1) r s t S T g G h (q .0)) (q .1))
 
-  pub loads : (t T : List ℕ) → R nothingOpen t nothingOpen T → (stream : List ℕ) → After (loadOf d t stream) (loadOf D T stream)
+  pub loads : (t T : List ℕ) → Ready d t → Ready D T → R nothingOpen t nothingOpen T → (stream : List ℕ)
+      → After (loadOf d t stream) (loadOf D T stream)
   unfolding loadOf
-  loads t T h stream = runs (recordsOf stream) 0 nothingOpen t nothingOpen T h
+  loads t T g G h stream = runs (recordsOf stream) 0 nothingOpen t nothingOpen T g G h

@@ -11,9 +11,7 @@ use Rattle.store_desk.specs.declared.Key.{Key}
 use Rattle.store_desk.specs.declared.Kind.{Kind}
 use Rattle.store_desk.specs.declared.Kind.the-variants.{Cue, Group, Sub}
 use Rattle.store_desk.specs.Name.{Name, okName}
-use Rattle.store.specs.declared.Edit.{Edit}
-use Rattle.store.specs.declared.Edit.the-variants.{Up as SetUp, Down as SetDown, Followon as SetFollowon, Link as SetLink, Level as SetLevel}
-use Rattle.store.specs.View.{absent, memoryOf}
+use Rattle.store.specs.View.{memoryOf}
 use Rattle.store.specs.Change.{seat, edited}
 use Rattle.store.specs.Good.{Ready}
 use Rattle.store.proofs.Start.{bad-absent, sub-room, full}
@@ -24,15 +22,17 @@ use Rattle.load.specs.Condition.{fullOf}
 use Rattle.load.specs.Item.{memory, page, allDone}
 use Rattle.load.specs.Ask.{Ask, rests, items, name}
 use Rattle.load.specs.Step.{Step, noKey, settle, wiped, openedBy, acted, recordStep}
-use Rattle.load.proofs.Read.{NoLevel}
 use Rattle.theorem_rehearse.specs.Rehearse.{Larger, isFull, isKept}
 use Rattle.theorem_rehearse.specs.Frame.{changesMemory, targetsMemory, changesDimmer, targetsDimmer}
 use Rattle.theorem_rehearse.proofs.Frame.{AskFits, ask-fits, edit-framed, ask-framed}
-use Rattle.theorem_rehearse.proofs.Views.{keeps, Views, InChannels, beside-same, start-both, start-right, start-keeps, edit-both, edit-keeps, levels-both, levels-keep, skipped}
-use Rattle.theorem_rehearse.proofs.Clears.{cleared}
+use Rattle.theorem_rehearse.proofs.Views.{keeps, Views, beside-same}
+use Rattle.theorem_rehearse.proofs.Views.{start-both, start-right, start-keeps, change-agrees}
+use Rattle.theorem_rehearse.proofs.Views.{edit-both, edit-keeps, levels-both, levels-keep, skipped}
+use Rattle.theorem_rehearse.proofs.Clears.{absent-gone, cleared}
 use Rattle.theorem_rehearse.proofs.Opens.{Opens, skips-both, skips-other, same-open, opens-same, opens-clear, settled}
 use Rattle.theorem_rehearse.proofs.Both.{Second, no-change, same-change, same-levels, other-change, other-levels}
-use Rattle.theorem_rehearse.proofs.Both.{Both, resting, skipping, opening, opening-beyond, patching, patching-beyond, clearing, clearing-beyond, augmenting, record-both}
+use Rattle.theorem_rehearse.proofs.Both.{Both, resting, skipping, opening, opening-beyond, patching, patching-beyond}
+use Rattle.theorem_rehearse.proofs.Both.{clearing, clearing-beyond, augmenting, record-both}
 
 -- no room is 0021 or 0022: a submaster has a slot of its own
 full-condition : (d : Desk) (t : List ℕ) (k : Kind) (y : Key) → seat d t (name k y) ≡ nowhere → isFull (fullOf k) ≡ true
@@ -40,17 +40,6 @@ unfolding fullOf
 full-condition d t Cue y e = refl
 full-condition d t Group y e = refl
 full-condition d t Sub y e = absurd (sub-room d t (name Sub y) refl e)
-
-gone-of : (d : Desk) (t : List ℕ) (n : Name) → memoryOf d t n ≡ absent → keeps d t n ≡ false
-unfolding isKept
-gone-of d t n e = ap isKept e
-
-in-channels : (d : Desk) (e : Edit) → NoLevel e → InChannels d e
-in-channels d (SetUp fade delay) h = tt
-in-channels d (SetDown fade delay) h = tt
-in-channels d (SetFollowon time) h = tt
-in-channels d (SetLink whole fraction) h = tt
-in-channels d (SetLevel channel v) h = absurd h
 
 module _ (d D : Desk) (l : Larger d D) (Lost : Name → Type 0) (out : (n : Name) → okName d n ≡ false → Lost n) where
   abbrev pub Held : State → List ℕ → State → List ℕ → Type 0
@@ -68,8 +57,8 @@ module _ (d D : Desk) (l : Larger d D) (Lost : Name → Type 0) (out : (n : Name
 
   module _ (t T : List ℕ) (r : Ready d t) (R : Ready D T) (v : Views d D l Lost t T) where
     -- ---- primaries: the larger alone has a place, or both have one
-    seat-right : (k : Kind) (y : Key) → okName D (name k y) ≡ true → keeps d t (name k y) ≡ false → Lost (name k y) → (A : Found) → seat D T (name k y) ≡ A
-        → Roomy (openedBy D k y A T) → After (openedBy d k y nowhere t) (openedBy D k y A T)
+    seat-right : (k : Kind) (y : Key) → okName D (name k y) ≡ true → keeps d t (name k y) ≡ false → Lost (name k y)
+        → (A : Found) → seat D T (name k y) ≡ A → Roomy (openedBy D k y A T) → After (openedBy d k y nowhere t) (openedBy D k y A T)
     unfolding openedBy
     seat-right k y O g x (at I) E h = (start-right d D l Lost t T r R v (name k y) O I E g x, skips-other noKey k y g)
     seat-right k y O g x nowhere E h = absurd (h (fullOf k) refl (full-condition D T k y E))
@@ -81,7 +70,7 @@ module _ (d D : Desk) (l : Larger d D) (Lost : Name → Type 0) (out : (n : Name
         (start-both d D l Lost t T r R v (name k y) o O i I e E, same-open k y (start-keeps d t r (name k y) o i e))
     seat-both k y o O (at i) nowhere e E q h = absurd (h (fullOf k) refl (full-condition D T k y E))
     seat-both k y o O nowhere A e E q h =
-        seat-right k y O (gone-of d t (name k y) (full d t (name k y) e .0)) (q (fullOf k) refl (full-condition d t k y e) (name k y)) A E h
+        seat-right k y O (absent-gone d t (name k y) (full d t (name k y) e .0)) (q (fullOf k) refl (full-condition d t k y e) (name k y)) A E h
 
     module _ (s S : State) (h : Opens (keeps d t) s S) where
       -- ---- secondaries
@@ -90,7 +79,7 @@ module _ (d D : Desk) (l : Larger d D) (Lost : Name → Type 0) (out : (n : Name
       second-after (no-change o O) f F = (v, h)
       second-after (same-change n e) f F =
           let g = in-time-fits e (f .1 .1) in (
-            edit-both d D l Lost t T r R v n e g (in-channels d e (f .1 .2)),
+            edit-both d D l Lost t T r R v n e g (change-agrees d D l e (f .1 .2)),
             opens-same (keeps d t) (keeps d (edited d t n e)) (edit-keeps d t r n e g) h,
           )
       second-after (same-levels n {es = es} x) f F =
@@ -118,7 +107,8 @@ module _ (d D : Desk) (l : Larger d D) (Lost : Name → Type 0) (out : (n : Name
       after (skipping o O e) f F q g = (v, skips-both noKey noKey)
       after (opening k y) f F q g = seat-both k y (f (r .range)) (F (R .range)) (seat d t (name k y)) (seat D T (name k y)) refl refl q g
       after (opening-beyond o e k y n) f F q g =
-          seat-right k y (F (R .range)) (gone-of d t (name k y) (bad-absent d t (r .form) (name k y) n)) (out (name k y) n) (seat D T (name k y)) refl g
+          seat-right k y (F (R .range)) (absent-gone d t (name k y) (bad-absent d t (r .form) (name k y) n)) (out (name k y) n)
+          (seat D T (name k y)) refl g
       after (patching p {es} {ES} x) f F q g = same-after (items (page p) es) (items (page p) ES) f F (λ m. refl) (λ m. refl)
       after (patching-beyond o e p b es) f F q g = same-after (rests o) (items (page p) es) f F (λ m. refl) (λ m. refl)
       after (clearing {xs} {XS} w) f F q g =

@@ -29,6 +29,7 @@ use Rattle.load.specs.declared.Entry.{Entry}
 use Rattle.load.specs.declared.Entry.the-variants.{Level as LevelItem, Patch as PatchItem, Fault}
 use Rattle.load.specs.Item.{memory, done, allDone}
 use Rattle.load.specs.Fits.{AllFit}
+use Rattle.load.proofs.Read.{NoLevel}
 use Rattle.load.proofs.Steps.{level-ready}
 use Rattle.theorem_rehearse.specs.Rehearse.{Larger, isKept, Agrees}
 use Rattle.theorem_rehearse.specs.Frame.{Framed}
@@ -39,27 +40,26 @@ abbrev pub keeps : Desk → List ℕ → Name → Bool
 keeps d t n = isKept (memoryOf d t n)
 
 -- ---- memories that agree
--- a change whose channel, where it is a level's, is the desk's
-abbrev pub InChannels : Desk → Edit → Type 0
-InChannels d (Up fade delay) = Unit {0}
-InChannels d (Down fade delay) = Unit {0}
-InChannels d (Followon time) = Unit {0}
-InChannels d (Link whole fraction) = Unit {0}
-InChannels d (Level channel v) = Within 1 channel (d .channels)
-
 module _ (d D : Desk) (l : Larger d D) where
+  abbrev pub EditAgrees : Edit → Type 0
+  EditAgrees e = (m M : Memory) → Agrees d m M → Agrees d (editMemory d e m) (editMemory D e M)
+
   blank-agrees : (key : Key) → Agrees d (blankMemory d key) (blankMemory D key)
   unfolding blankMemory levelsLength levelWidth
   blank-agrees key =
       (refl, part-zeros (d .channels * 1) 0 (D .channels * 1) (let m = l .channels in omega arith))
 
-  edit-agrees : (e : Edit) → InChannels d e → (m M : Memory) → Agrees d m M → Agrees d (editMemory d e m) (editMemory D e M)
+  pub change-agrees : (e : Edit) → NoLevel e → EditAgrees e
   unfolding editMemory editLevels
-  edit-agrees (Up fade delay) c m M a = (ap (editHead (Up fade delay)) (a .0), a .1)
-  edit-agrees (Down fade delay) c m M a = (ap (editHead (Down fade delay)) (a .0), a .1)
-  edit-agrees (Followon time) c m M a = (ap (editHead (Followon time)) (a .0), a .1)
-  edit-agrees (Link whole fraction) c m M a = (ap (editHead (Link whole fraction)) (a .0), a .1)
-  edit-agrees (Level channel v) c m M a = (
+  change-agrees (Up fade delay) h m M a = (ap (editHead (Up fade delay)) (a .0), a .1)
+  change-agrees (Down fade delay) h m M a = (ap (editHead (Down fade delay)) (a .0), a .1)
+  change-agrees (Followon time) h m M a = (ap (editHead (Followon time)) (a .0), a .1)
+  change-agrees (Link whole fraction) h m M a = (ap (editHead (Link whole fraction)) (a .0), a .1)
+  change-agrees (Level channel v) h m M a = absurd h
+
+  level-agrees : (channel v : ℕ) → Within 1 channel (d .channels) → EditAgrees (Level channel v)
+  unfolding editMemory editLevels
+  level-agrees channel v c m M a = (
     ap (editHead (Level channel v)) (a .0),
     take-set-lt (levelsLength d) (M .levels) ((channel - 1) * levelWidth D) v inside
         ∙ ap (λ (x : List ℕ). set x ((channel - 1) * levelWidth D) v) (a .1)
@@ -208,11 +208,11 @@ module _ (d D : Desk) (l : Larger d D) (Lost : Name → Type 0) where
         views-at t (started D T n) (framed-same d t) (start-framed D T R n O I E)
         (beside-same d (Lost n) refl (start-here D T R n O I E) (beside-lost d (Lost n) (memoryOf d t n) (blankMemory D (n .key)) g x))
 
-    pub edit-both : (e : Edit) → EditFits e → InChannels d e → Views (edited d t n e) (edited D T n e)
+    pub edit-both : (e : Edit) → EditFits e → EditAgrees d D l e → Views (edited d t n e) (edited D T n e)
     edit-both e g c =
         views-at (edited d t n e) (edited D T n e) (edit-framed d t r n e g) (edit-framed D T R n e g)
         (beside-same d (Lost n) (edit-here d t r n e g) (edit-here D T R n e g)
-        (beside-map d (Lost n) (editMemory d e) (editMemory D e) (edit-agrees d D l e c) (memoryOf d t n) (memoryOf D T n) (v n)))
+        (beside-map d (Lost n) (editMemory d e) (editMemory D e) c (memoryOf d t n) (memoryOf D T n) (v n)))
 
     -- the larger alone changes a level beyond the smaller's channels
     edit-beyond : (channel w : ℕ) → d .channels < channel → Views t (edited D T n (Level channel w))
@@ -234,4 +234,4 @@ module _ (d D : Desk) (l : Larger d D) (Lost : Name → Type 0) where
       levels-both n h (f .1) t (edited D T n (Level k w)) r (level-ready D T R n k w) (edit-beyond t T r R v n k w b)
   levels-both n (next (same-level k w) h) f t T r R v =
       levels-both n h (f .1) (edited d t n (Level k w)) (edited D T n (Level k w)) (level-ready d t r n k w) (level-ready D T R n k w)
-      (edit-both t T r R v n (Level k w) tt (f .0 .0))
+      (edit-both t T r R v n (Level k w) tt (level-agrees d D l k w (f .0 .0)))

@@ -2,7 +2,7 @@
 -- a desk can have, and cases on whether each desk has the page.
 -- Assumes nothing.
 use mathlib.Core.Path.{_≡_, refl, sym, ap, _∙_, subst}
-use mathlib.Core.Bool.{Bool, true, false, _||_}
+use mathlib.Core.Bool.{Bool, true, false, cond, _||_}
 use mathlib.Core.List.{List, [], _∷_, _++_}
 use Prim.Native.Nat.{ℕ, _≤_, _<_}
 use native.Mathlib.Omega.{arith}
@@ -91,39 +91,33 @@ module _ (d : Desk) where
 
 -- ---- CLEAR ALL
 module _ (d D : Desk) (l : Larger d D) (p : ℕ) where
+  one-wipe : (w : Wipe) (limit Limit : ℕ) → limit ≤ Limit → (limit < p → Beyond d w)
+      → Wipes d (cond (leb p limit) (w ∷ []) []) (cond (leb p Limit) (w ∷ []) [])
+  one-wipe w limit Limit m b =
+      by-tests (Wipes d) (leb p limit) (leb p Limit) (λ e. let h = leb-true p limit e in le-leb p Limit (omega arith)) (w ∷ []) [] (w ∷ []) []
+      (λ e. both w none)
+      (λ e E. right w (b (leb-false p limit e)) none)
+      (λ E. none)
+
   kind-wipes : (k : Kind) → Wipes d (kindWipes d p k) (kindWipes D p k)
   unfolding kindWipes
-  kind-wipes k =
-      by-tests (Wipes d) (leb p (tablePages d k)) (leb p (tablePages D k))
-      (λ e. let a = leb-true p (tablePages d k) e in let b = more-tables d D l k in le-leb p (tablePages D k) (omega arith))
-      (table k p ∷ []) [] (table k p ∷ []) []
-      (λ e. both (table k p) none)
-      (λ e E. right (table k p) (tableless d k p (leb-false p (tablePages d k) e)) none)
-      (λ E. none)
-
-  dimmer-wipes : Wipes d (dimmerWipes d p) (dimmerWipes D p)
-  unfolding dimmerWipes
-  dimmer-wipes =
-      by-tests (Wipes d) (leb p (d .«patch_pages»)) (leb p (D .«patch_pages»))
-      (λ e. let a = leb-true p (d .«patch_pages») e in let b = l .patchPages in le-leb p (D .«patch_pages») (omega arith))
-      (dimmers p ∷ []) [] (dimmers p ∷ []) []
-      (λ e. both (dimmers p) none)
-      (λ e E. right (dimmers p) (dimmerless d p (leb-false p (d .«patch_pages») e)) none)
-      (λ E. none)
+  kind-wipes k = one-wipe (table k p) (tablePages d k) (tablePages D k) (more-tables d D l k) (tableless d k p)
 
   pub all-wipes : Wipes d (allWipes d p) (allWipes D p)
-  unfolding allWipes
-  all-wipes = joined d dimmer-wipes (joined d (kind-wipes Cue) (joined d (kind-wipes Group) (kind-wipes Sub)))
+  unfolding allWipes dimmerWipes
+  all-wipes =
+      joined d (one-wipe (dimmers p) (d .«patch_pages») (D .«patch_pages») (l .patchPages) (dimmerless d p))
+      (joined d (kind-wipes Cue) (joined d (kind-wipes Group) (kind-wipes Sub)))
 
   -- a page beyond all tables
+  none-here : (w : Wipe) (limit : ℕ) → limit ≤ mostPages d → mostPages d < p → cond (leb p limit) (w ∷ []) [] ≡ []
+  none-here w limit m h = cond-false (leb p limit) (w ∷ []) [] (lt-leb p limit (omega arith))
+
   no-kind : mostPages d < p → (k : Kind) → kindWipes d p k ≡ []
   unfolding kindWipes
-  no-kind h k = let m = table-most d k in cond-false _ _ _ (lt-leb p (tablePages d k) (omega arith))
-
-  no-dimmers : mostPages d < p → dimmerWipes d p ≡ []
-  unfolding dimmerWipes
-  no-dimmers h = let m = patch-most d in cond-false _ _ _ (lt-leb p (d .«patch_pages») (omega arith))
+  no-kind h k = none-here (table k p) (tablePages d k) (table-most d k) h
 
   pub all-beyond : mostPages d < p → Wipes d [] (allWipes D p)
-  unfolding allWipes
-  all-beyond h = rw (no-dimmers h, no-kind h Cue, no-kind h Group, no-kind h Sub) at all-wipes
+  unfolding allWipes dimmerWipes
+  all-beyond h =
+      rw (none-here (dimmers p) (d .«patch_pages») (patch-most d) h, no-kind h Cue, no-kind h Group, no-kind h Sub) at all-wipes
