@@ -26,7 +26,7 @@ use Rattle.value.specs.Field.{pagedOf, pageOf}
 use Rattle.value.specs.Integer.{digitOf, digitsFrom, runOf, integerOf}
 use Rattle.value.specs.Number.{numberedOf, numberOf}
 use Rattle.value.specs.Parts.{cutAt, decimalsOf}
-use Rattle.value_level.specs.Level.{percentByte, percentOf, hexWordOf, hexOf, levelWordOf, upperOf, levelOf}
+use Rattle.value_level.specs.Level.{percentByte, percentOf, hexByteOf, hexOf, levelOf}
 use Rattle.load.specs.Condition.{fullOf}
 use Rattle.load.specs.Item.{rangedOf, onRanged, onLevel, pairOf, tripleOf, pairsOf, triplesOf, faultsOf, done, allDone}
 use Rattle.load.specs.Run.{stops, runFrom, loadOf, allReports}
@@ -42,7 +42,7 @@ pub needs : map bothSee (largerFull ∷ smallerFull ∷ moreChannels ∷ allHold
     ∷ (seen false false 1 ∷ seen false false 5 ∷ [])
     ∷ (seen false true 3 ∷ seen false true 3 ∷ [])
     ∷ []
-unfolding put span firstFrom firstSlot slotCount pagesOf supported eqKey entryOf allOf levelWidth levelsLength slotLength subSlots slotsOf patchStart entriesOf storeLength encodeHead decodeHead encodePatch decodePatch total packed unpacked lowestUnused newSeat seat blankHead blankSlot started editSlot editAt edited patched emptied slotAt putSlot entryAt putEntry headAt levelsAt levelPlace holdsAt find onFound memoryAt memoryOf patchedTo isHigh isControl isMark keptFrom has isEnd terminated piecesIn piecesOf bare recordsOf upper sameText sameWord meaningOf keywordRows keywordOf isDelimiter wordsIn wordsOf fieldsOf pagedOf pageOf digitOf digitsFrom runOf integerOf numberedOf numberOf cutAt decimalsOf percentByte percentOf hexWordOf hexOf levelWordOf upperOf levelOf fullOf rangedOf onRanged onLevel pairOf tripleOf pairsOf triplesOf faultsOf done allDone stops runFrom loadOf allReports numberedBy numeralOf pageAt namedBy namedOf namedAsk primaryAsk augments obeyedAsk secondaryAsk triplesAsk keywordAsk fieldsAsk askOf openedBy acted recordStep ignoredIn outcomeReports conditionsOf hasFull isKept seenBy bothSee
+unfolding put span firstFrom firstSlot slotCount pagesOf supported eqKey entryOf allOf levelWidth levelsLength slotLength subSlots slotsOf patchStart entriesOf storeLength encodeHead decodeHead encodePatch decodePatch total packed unpacked lowestUnused newSeat seat blankHead blankSlot started editSlot editAt edited patched emptied slotAt putSlot entryAt putEntry headAt levelsAt levelPlace holdsAt find onFound memoryAt memoryOf patchedTo isHigh isControl isMark keptFrom has isEnd terminated piecesIn piecesOf bare recordsOf upper sameText sameWord meaningOf keywordRows keywordOf isDelimiter wordsIn wordsOf fieldsOf pagedOf pageOf digitOf digitsFrom runOf integerOf numberedOf numberOf cutAt decimalsOf percentByte percentOf hexByteOf hexOf levelOf fullOf rangedOf onRanged onLevel pairOf tripleOf pairsOf triplesOf faultsOf done allDone stops runFrom loadOf allReports numberedBy numeralOf pageAt namedBy namedOf namedAsk primaryAsk augments obeyedAsk secondaryAsk triplesAsk keywordAsk fieldsAsk askOf openedBy acted recordStep ignoredIn outcomeReports conditionsOf hasFull isKept seenBy bothSee
 needs = refl
 
 -- ---- the desks are those of a rehearsal
