@@ -4,39 +4,49 @@ use mathlib.Core.Path.{_≡_, sym, ap, _∙_}
 use mathlib.Core.List.{List}
 use Prim.Native.Nat.{ℕ, _≤_}
 use native.Mathlib.Omega.{arith}
-use lib.Dec.{ltb}
+use lib.Dec.{ltb, leb}
 use lib.ListN.{length}
 use borrow.Author.Tests.{ltb-true}
-use Rattle.cells.specs.Put.{put}
 use Rattle.cells.proofs.Split.{by-test}
-use Rattle.store_desk.specs.Size.{house}
+use Rattle.store_desk.specs.declared.Refusal.the-variants.{R5}
+use Rattle.store_desk.specs.Size.{house, inRangeOf, storeLength}
+use Rattle.store.specs.Form.{goodForm}
 use Rattle.save.specs.Lines.{streamOf}
 use Rattle.save.proofs.House.{house-short}
-use Rattle.show.specs.declared.Away.{Away}
-use Rattle.show.specs.declared.Away.the-variants.{No, R2, R3, R4}
+use Rattle.show.specs.declared.Admission.{Admission}
 use Rattle.show.specs.declared.Written.{Written}
-use Rattle.show.specs.declared.Written.the-variants.{R5, R6, Done}
-use Rattle.show.specs.Calls.{mostBytes, awayOf, WriteCall, written, putCall, writeBy, writeCall, writeNumber}
+use Rattle.show.specs.declared.Written.the-variants.{Away}
+use Rattle.show.specs.Calls.{mostBytes, admissionOf, WriteCall, written, putCall, writeBy, writeCall}
 
-put-short : (stream out : List ℕ) → length stream ≤ mostBytes → writeNumber (putCall stream out .answer) ≡ 5 → ⊥
-unfolding putCall writeNumber
+abbrev NotR5 : WriteCall → Type 0
+NotR5 x = x .answer ≡ Away R5 → ⊥
+
+put-short : (stream out : List ℕ) → length stream ≤ mostBytes → NotR5 (putCall stream out)
+unfolding putCall
 put-short stream out h =
-    by-test (λ (x : WriteCall). writeNumber (x .answer) ≡ 5 → ⊥) (ltb mostBytes (length stream)) _ _
+    by-test NotR5 (ltb mostBytes (length stream)) _ _
     (λ e q. let l = ltb-true mostBytes (length stream) e in omega arith)
     (λ e.
-    by-test (λ (x : WriteCall). writeNumber (x .answer) ≡ 5 → ⊥) (ltb (length out) (length stream)) (written (R6 (length stream)) out)
-    (written (Done (length stream)) (put out 0 stream))
-    (λ f q. omega arith)
-    (λ f q. omega arith))
+    by-test NotR5 (ltb (length out) (length stream)) _ _
+    (λ f q. let z : _≡_ {A = ℕ} 0 1 = cc in omega arith)
+    (λ f q. let z : _≡_ {A = ℕ} 0 1 = cc in omega arith))
 
-by-short : (a : Away) (s out : List ℕ) → writeNumber (writeBy a house s out .answer) ≡ 5 → ⊥
-unfolding writeBy writeNumber
-by-short No s out = put-short (streamOf house s) out (house-short s)
-by-short R2 s out = λ q. omega arith
-by-short R3 s out = λ q. omega arith
-by-short R4 s out = λ q. omega arith
+-- what is tested ahead of the writing is R2, R3 and R4
+write-short : (s out : List ℕ) → NotR5 (writeCall house s out)
+unfolding writeCall admissionOf writeBy
+write-short s out =
+    by-test By (inRangeOf house) _ _
+    (λ e.
+    by-test By (leb (storeLength house) (length s)) _ _
+    (λ f.
+    by-test By (goodForm house s) _ _
+    (λ g. put-short (streamOf house s) out (house-short s))
+    (λ g q. let z : _≡_ {A = ℕ} 0 1 = cc in omega arith))
+    (λ f q. let z : _≡_ {A = ℕ} 0 1 = cc in omega arith))
+    (λ e q. let z : _≡_ {A = ℕ} 0 1 = cc in omega arith)
+  where
+    By : Admission → Type 0
+    By a = NotR5 (writeBy a house s out)
 
-pub house-no-r5 : (s out : List ℕ) {a : Written} {o : List ℕ} → written a o ≡ writeCall house s out → a ≡ R5 → ⊥
-unfolding writeCall writeNumber
-house-no-r5 s out e f =
-    by-short (awayOf house s) s out (ap (λ (x : WriteCall). writeNumber (x .answer)) (sym e) ∙ ap writeNumber f)
+pub house-no-r5 : (s out : List ℕ) {a : Written} {o : List ℕ} → written a o ≡ writeCall house s out → a ≡ Away R5 → ⊥
+house-no-r5 s out e f = write-short s out (ap (λ (x : WriteCall). x .answer) (sym e) ∙ f)

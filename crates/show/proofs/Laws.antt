@@ -1,7 +1,7 @@
 -- The public calls' definitions case by case, in the form in which the code has its tests; by unfolding and the tests' values.
 -- Assumes nothing.
 use mathlib.Core.Path.{_≡_, refl, sym, ap, _∙_, subst}
-use mathlib.Core.Bool.{Bool, true, false, cond, not}
+use mathlib.Core.Bool.{Bool, true, false, not}
 use mathlib.Core.List.{List, []}
 use Prim.Native.Nat.{ℕ, _+_, _*_, _≤_, _<_}
 use native.Mathlib.Nat.{zero-add}
@@ -17,8 +17,7 @@ use Rattle.store_desk.specs.declared.Key.{Key}
 use Rattle.store_desk.specs.Size.{InRange, inRangeOf, storeLength, headLength, slotLength, slotsOf}
 use Rattle.store_desk.specs.Name.{Name, okName}
 use Rattle.store_desk.proofs.Size.{in-range, in-range-true}
-use Rattle.store.specs.declared.Place.{Place}
-use Rattle.store.specs.declared.Place.the-variants.{At, Nowhere}
+use Rattle.store.specs.declared.Place.the-variants.{Nowhere}
 use Rattle.store.specs.Slots.{find, placeOf, levelsAt}
 use Rattle.store.specs.Change.{emptied as emptiedStore}
 use Rattle.store.specs.Form.{goodForm}
@@ -28,16 +27,17 @@ use Rattle.store_code.specs.Fits.{Fitting}
 use Rattle.store_code.proofs.Laws.{slot-small, slot-long}
 use Rattle.store_code.specs.Answer.{LevelsOf}
 use Rattle.load.specs.declared.Totals.{Totals}
-use Rattle.load.specs.Run.{Run, loadOf, totalsOf, storedIn, allReports}
+use Rattle.load.specs.Run.{loadOf}
 use Rattle.load_run.specs.Loaded.{Loaded as Ran, loadedOf, loaded as ran}
 use Rattle.value_written.specs.Wrote.{Wrote, wrote, wroteAt}
-use Rattle.save.specs.Lines.{streamOf}
-use Rattle.show.specs.declared.Away.{Away}
-use Rattle.show.specs.declared.Away.the-variants.{No, R2, R3, R4}
-use Rattle.show.specs.declared.Loaded.the-variants.{R1, R2 as LoadR2, R3 as LoadR3, R4 as LoadR4, Done as LoadDone}
-use Rattle.show.specs.declared.Written.the-variants.{R2 as WriteR2, R3 as WriteR3, R4 as WriteR4, R5, R6, Done as WriteDone}
-use Rattle.show.specs.declared.Emptied.the-variants.{R2 as EmptyR2, R3 as EmptyR3, Done as EmptyDone}
-use Rattle.show.specs.Calls.{mostBytes, awayOf, loaded, loadDone, loadBy, loadCall, written, putCall, writeBy, writeCall, emptied, emptyCall}
+use Rattle.store_desk.specs.declared.Refusal.{Refusal}
+use Rattle.store_desk.specs.declared.Refusal.the-variants.{R1, R2, R3, R4, R5, R6}
+use Rattle.show.specs.declared.Admission.{Admission}
+use Rattle.show.specs.declared.Admission.the-variants.{Admitted, Away}
+use Rattle.show.specs.declared.Loaded.the-variants.{Away as LoadAway, Done as LoadDone}
+use Rattle.show.specs.declared.Written.the-variants.{Away as WriteAway, Done as WriteDone}
+use Rattle.show.specs.declared.Emptied.the-variants.{Away as EmptyAway, Done as EmptyDone}
+use Rattle.show.specs.Calls.{mostBytes, admissionOf, loaded, loadBy, loadCall, written, putCall, writeBy, writeCall, emptied, emptyCall}
 use Rattle.show.specs.Calls.{isKept, notKept, Look, look, cue, cueKey, lookAt, lookBy, lookCall, LookedUp}
 use Rattle.show.specs.Calls.{placedAt, findBy, findCall}
 use Rattle.show.specs.declared.Placed.the-variants.{NotKept, At as PlacedAt}
@@ -49,12 +49,12 @@ pub ranged : (d : Desk) {b : Bool} → b ≡ inRangeOf d → not b ≡ false →
 ranged d {b} e t = in-range d (sym e ∙ not-false b t)
 
 module _ (d : Desk) (s : List ℕ) where
-  pub away-range : {b : Bool} → b ≡ inRangeOf d → not b ≡ true → R2 ≡ awayOf d s
-  unfolding awayOf
+  pub away-range : {b : Bool} → b ≡ inRangeOf d → not b ≡ true → Away R2 ≡ admissionOf d s
+  unfolding admissionOf
   away-range {b} e t = let f : inRangeOf d ≡ false = sym e ∙ not-true b t in rw f
 
-  pub away-short : {n : ℕ} → InRange d → n ≡ storeLength d → length s < n → R3 ≡ awayOf d s
-  unfolding awayOf
+  pub away-short : {n : ℕ} → InRange d → n ≡ storeLength d → length s < n → Away R3 ≡ admissionOf d s
+  unfolding admissionOf
   away-short {n} h e l =
       let a : inRangeOf d ≡ true = in-range-true d h in
       let f : leb (storeLength d) (length s) ≡ false = lt-leb _ _ (subst (λ (k : ℕ). length s < k) e l) in
@@ -63,16 +63,16 @@ module _ (d : Desk) (s : List ℕ) where
   pub fitting : {n : ℕ} → InRange d → n ≡ storeLength d → n ≤ length s → Fitting d s
   fitting {n} h e l = record { range = h; long = subst (λ (k : ℕ). k ≤ length s) e l }
 
-  pub away-none : {b : Bool} → Fitting d s → b ≡ goodForm d s → b ≡ true → No ≡ awayOf d s
-  unfolding awayOf
-  away-none {b} h e t =
+  pub admitted : {b : Bool} → Fitting d s → b ≡ goodForm d s → b ≡ true → Admitted ≡ admissionOf d s
+  unfolding admissionOf
+  admitted {b} h e t =
       let a : inRangeOf d ≡ true = in-range-true d (h .range) in
       let f : leb (storeLength d) (length s) ≡ true = le-leb _ _ (h .long) in
       let g : goodForm d s ≡ true = sym e ∙ t in
       rw (a, f, g)
 
-  pub away-form : {b : Bool} → Fitting d s → b ≡ goodForm d s → b ≡ false → R4 ≡ awayOf d s
-  unfolding awayOf
+  pub away-form : {b : Bool} → Fitting d s → b ≡ goodForm d s → b ≡ false → Away R4 ≡ admissionOf d s
+  unfolding admissionOf
   away-form {b} h e t =
       let a : inRangeOf d ≡ true = in-range-true d (h .range) in
       let f : leb (storeLength d) (length s) ≡ true = le-leb _ _ (h .long) in
@@ -80,58 +80,52 @@ module _ (d : Desk) (s : List ℕ) where
       rw (a, f, g)
 
   -- a call that is not turned away has a store that fits, in good form
-  pub taken : No ≡ awayOf d s → Fitting d s × (goodForm d s ≡ true)
+  pub taken : Admitted ≡ admissionOf d s → Fitting d s × (goodForm d s ≡ true)
   taken e =
       by-bool (inRangeOf d)
       (λ a. by-bool (leb (storeLength d) (length s))
       (λ f. by-bool (goodForm d s)
       (λ g. (record { range = in-range d a; long = leb-true _ _ f }, g))
-      (λ g. absurd (form-clash (away-form (record { range = in-range d a; long = leb-true _ _ f }) refl g))))
-      (λ f. absurd (short-clash (away-short (in-range d a) refl (leb-false _ _ f)))))
-      (λ a. absurd (range-clash (away-range refl (not-of-false _ a))))
+      (λ g. absurd (away-clash (away-form (record { range = in-range d a; long = leb-true _ _ f }) refl g))))
+      (λ f. absurd (away-clash (away-short (in-range d a) refl (leb-false _ _ f)))))
+      (λ a. absurd (away-clash (away-range refl (not-of-false _ a))))
     where
-      form-clash : R4 ≡ awayOf d s → ⊥
-      form-clash q = let z : _≡_ {A = ℕ} 0 1 = cc in omega arith
-
-      short-clash : R3 ≡ awayOf d s → ⊥
-      short-clash q = let z : _≡_ {A = ℕ} 0 1 = cc in omega arith
-
-      range-clash : R2 ≡ awayOf d s → ⊥
-      range-clash q = let z : _≡_ {A = ℕ} 0 1 = cc in omega arith
+      away-clash : {r : Refusal} → Away r ≡ admissionOf d s → ⊥
+      away-clash q = let z : _≡_ {A = ℕ} 0 1 = cc in omega arith
 
 -- ---- load
 
 module _ (d : Desk) (s reps stream : List ℕ) where
-  pub load-long : mostBytes < length stream → loaded R1 s reps ≡ loadCall d s reps stream
+  pub load-long : mostBytes < length stream → loaded (LoadAway R1) s reps ≡ loadCall d s reps stream
   unfolding loadCall
   load-long h = let f : ltb mostBytes (length stream) ≡ true = lt-ltb _ _ h in rw f
 
-  pub load-by : (a : Away) → a ≡ awayOf d s → length stream ≤ mostBytes → loadBy a d s reps stream ≡ loadCall d s reps stream
+  pub load-by : (a : Admission) → a ≡ admissionOf d s → length stream ≤ mostBytes → loadBy a d s reps stream ≡ loadCall d s reps stream
   unfolding loadCall
   load-by a e h =
       let f : ltb mostBytes (length stream) ≡ false = le-ltb _ _ h in
-      rw f (ap (λ (b : Away). loadBy b d s reps stream) e)
+      rw f (ap (λ (b : Admission). loadBy b d s reps stream) e)
 
-  pub load-done : {r : Totals} {t q : List ℕ} → No ≡ awayOf d s → length stream ≤ mostBytes
+  pub load-done : {r : Totals} {t q : List ℕ} → Admitted ≡ admissionOf d s → length stream ≤ mostBytes
       → ran r t q ≡ loadedOf (loadOf d s stream) reps → loaded (LoadDone r) t q ≡ loadCall d s reps stream
   unfolding loadBy loadedOf
-  load-done e h g = ap (λ (l : Ran). loaded (LoadDone (l .totals)) (l .store) (l .reports)) g ∙ load-by No e h
+  load-done e h g = ap (λ (l : Ran). loaded (LoadDone (l .totals)) (l .store) (l .reports)) g ∙ load-by Admitted e h
 
 -- ---- write
 
 module _ (stream out : List ℕ) where
-  pub put-long : {n : ℕ} → n ≡ length stream → mostBytes < n → written R5 out ≡ putCall stream out
+  pub put-long : {n : ℕ} → n ≡ length stream → mostBytes < n → written (WriteAway R5) out ≡ putCall stream out
   unfolding putCall
   put-long {n} e h =
       let f : ltb mostBytes (length stream) ≡ true = lt-ltb _ _ (subst (λ (k : ℕ). mostBytes < k) e h) in
       rw f
 
-  pub put-short : {n : ℕ} → n ≡ length stream → n ≤ mostBytes → length out < n → written (R6 n) out ≡ putCall stream out
+  pub put-short : {n : ℕ} → n ≡ length stream → n ≤ mostBytes → length out < n → written (WriteAway (R6 n)) out ≡ putCall stream out
   unfolding putCall
   put-short {n} e h g =
       let f : ltb mostBytes (length stream) ≡ false = le-ltb _ _ (subst (λ (k : ℕ). k ≤ mostBytes) e h) in
       let k : ltb (length out) (length stream) ≡ true = lt-ltb _ _ (subst (λ (k : ℕ). length out < k) e g) in
-      rw (f, k) (ap (λ (k : ℕ). written (R6 k) out) e)
+      rw (f, k) (ap (λ (k : ℕ). written (WriteAway (R6 k)) out) e)
 
   pub put-done : {n r : ℕ} {o : List ℕ} → n ≡ length stream → n ≤ mostBytes → n ≤ length out
       → wrote r o ≡ wroteAt out 0 stream → written (WriteDone r) o ≡ putCall stream out
@@ -143,18 +137,18 @@ module _ (stream out : List ℕ) where
       (ap (λ (x : Wrote). written (WriteDone (x .next)) (x .out)) w
       ∙ ap (λ (k : ℕ). written (WriteDone k) (put out 0 stream)) (zero-add (length stream)))
 
-pub write-by : (d : Desk) (s out : List ℕ) (a : Away) → a ≡ awayOf d s → writeBy a d s out ≡ writeCall d s out
+pub write-by : (d : Desk) (s out : List ℕ) (a : Admission) → a ≡ admissionOf d s → writeBy a d s out ≡ writeCall d s out
 unfolding writeCall
-write-by d s out a e = ap (λ (b : Away). writeBy b d s out) e
+write-by d s out a e = ap (λ (b : Admission). writeBy b d s out) e
 
 -- ---- empty
 
 module _ (d : Desk) (s : List ℕ) where
-  pub empty-range : {b : Bool} → b ≡ inRangeOf d → not b ≡ true → emptied EmptyR2 s ≡ emptyCall d s
+  pub empty-range : {b : Bool} → b ≡ inRangeOf d → not b ≡ true → emptied (EmptyAway R2) s ≡ emptyCall d s
   unfolding emptyCall
   empty-range {b} e t = let f : inRangeOf d ≡ false = sym e ∙ not-true b t in rw f
 
-  pub empty-short : {n : ℕ} → InRange d → n ≡ storeLength d → length s < n → emptied EmptyR3 s ≡ emptyCall d s
+  pub empty-short : {n : ℕ} → InRange d → n ≡ storeLength d → length s < n → emptied (EmptyAway R3) s ≡ emptyCall d s
   unfolding emptyCall
   empty-short {n} h e l =
       let a : inRangeOf d ≡ true = in-range-true d h in
@@ -179,15 +173,15 @@ unnamed d s n {b} g e f = sym (ap placeOf (none (find d s n) refl))
     none (at i) q = clash (found-ok d s (good-sound d s g) n i q) (sym e ∙ f)
     none nowhere q = refl
 
-pub look-by : (d : Desk) (s : List ℕ) (page whole tenths : ℕ) (a : Away) → a ≡ awayOf d s
+pub look-by : (d : Desk) (s : List ℕ) (page whole tenths : ℕ) (a : Admission) → a ≡ admissionOf d s
     → lookBy a d s (cueKey page whole tenths) ≡ lookCall d s page whole tenths
 unfolding lookCall
-look-by d s page whole tenths a e = ap (λ (b : Away). lookBy b d s (cueKey page whole tenths)) e
+look-by d s page whole tenths a e = ap (λ (b : Admission). lookBy b d s (cueKey page whole tenths)) e
 
-pub find-by : (d : Desk) (s : List ℕ) (page whole tenths : ℕ) (a : Away) → a ≡ awayOf d s
+pub find-by : (d : Desk) (s : List ℕ) (page whole tenths : ℕ) (a : Admission) → a ≡ admissionOf d s
     → findBy a d s (cueKey page whole tenths) ≡ findCall d s page whole tenths
 unfolding findCall
-find-by d s page whole tenths a e = ap (λ (b : Away). findBy b d s (cueKey page whole tenths)) e
+find-by d s page whole tenths a e = ap (λ (b : Admission). findBy b d s (cueKey page whole tenths)) e
 
 pub place-small : (d : Desk) {i n : ℕ} → i < slotsOf d → InRange d → n ≡ slotLength d → i * n + headLength ≤ 1643264
 place-small d {i} {n} h r e =

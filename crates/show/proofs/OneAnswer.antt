@@ -2,27 +2,22 @@
 -- as it was. The record that a promise speaks of gives back what it was built from; a refusal's record is built from the lists at entry.
 -- Assumes nothing.
 use mathlib.Core.Path.{_≡_, refl, sym, ap, _∙_}
-use mathlib.Core.Bool.{Bool, true, false, cond}
 use mathlib.Core.List.{List}
-use Prim.Native.Nat.{ℕ, _+_}
-use native.Mathlib.Omega.{arith}
+use Prim.Native.Nat.{ℕ}
 use denote.Ref.{RefT, ptr, now}
 use lib.Dec.{ltb, leb}
 use lib.ListN.{length}
-use Rattle.cells.specs.Put.{put}
 use Rattle.cells.proofs.Split.{by-test}
 use Rattle.store_desk.specs.declared.Desk.{Desk}
 use Rattle.store_desk.specs.Size.{inRangeOf, storeLength}
-use Rattle.store.specs.Change.{emptied as emptiedStore}
-use Rattle.load.specs.Run.{loadOf}
 use Rattle.save.specs.Lines.{streamOf}
-use Rattle.show.specs.declared.Away.{Away}
-use Rattle.show.specs.declared.Away.the-variants.{No, R2, R3, R4}
+use Rattle.show.specs.declared.Admission.{Admission}
+use Rattle.show.specs.declared.Admission.the-variants.{Admitted, Away}
 use Rattle.show.specs.declared.Loaded.{Loaded}
 use Rattle.show.specs.declared.Written.{Written}
 use Rattle.show.specs.declared.Emptied.{Emptied}
-use Rattle.show.specs.Calls.{mostBytes, awayOf, LoadCall, loaded, loadDone, loadBy, loadCall, WriteCall, written, putCall, writeBy, writeCall}
-use Rattle.show.specs.Calls.{EmptyCall, emptied, emptyCall, Look, lookCall, LookedUp, loadNumber, writeNumber, emptyNumber}
+use Rattle.show.specs.Calls.{mostBytes, admissionOf, LoadCall, loaded, loadBy, loadCall, WriteCall, written, putCall, writeBy, writeCall}
+use Rattle.show.specs.Calls.{EmptyCall, emptied, emptyCall, Look, LookedUp, loadNumber, writeNumber, emptyNumber}
 
 -- ---- one answer
 
@@ -49,18 +44,16 @@ one-look e f =
 LoadKept : List ℕ → List ℕ → LoadCall → Type 0
 LoadKept s reps x = (loadNumber (x .answer) ≡ 0 → ⊥) → (x .store ≡ s) × (x .reports ≡ reps)
 
-load-by-kept : (a : Away) (d : Desk) (s reps stream : List ℕ) → LoadKept s reps (loadBy a d s reps stream)
+load-by-kept : (a : Admission) (d : Desk) (s reps stream : List ℕ) → LoadKept s reps (loadBy a d s reps stream)
 unfolding LoadKept loadBy loadNumber
-load-by-kept No d s reps stream h = absurd (h refl)
-load-by-kept R2 d s reps stream h = (refl, refl)
-load-by-kept R3 d s reps stream h = (refl, refl)
-load-by-kept R4 d s reps stream h = (refl, refl)
+load-by-kept Admitted d s reps stream h = absurd (h refl)
+load-by-kept (Away r) d s reps stream h = (refl, refl)
 
 load-kept : (d : Desk) (s reps stream : List ℕ) → LoadKept s reps (loadCall d s reps stream)
 unfolding LoadKept loadCall
 load-kept d s reps stream =
-    by-test (LoadKept s reps) (ltb mostBytes (length stream)) _ (loadBy (awayOf d s) d s reps stream) (λ e h. (refl, refl))
-    (λ e. load-by-kept (awayOf d s) d s reps stream)
+    by-test (LoadKept s reps) (ltb mostBytes (length stream)) _ (loadBy (admissionOf d s) d s reps stream) (λ e h. (refl, refl))
+    (λ e. load-by-kept (admissionOf d s) d s reps stream)
 
 pub untouched-load : (d : Desk) (s reps stream : List ℕ) {a : Loaded} {t q : List ℕ}
     → loaded a t q ≡ loadCall d s reps stream → (loadNumber a ≡ 0 → ⊥) → (t ≡ s) × (q ≡ reps)
@@ -78,19 +71,17 @@ put-kept stream out =
     by-test (WriteKept out) (ltb mostBytes (length stream)) _ _ (λ e h. refl)
     (λ e. by-test (WriteKept out) (ltb (length out) (length stream)) _ _ (λ f h. refl) (λ f h. absurd (h refl)))
 
-write-by-kept : (a : Away) (d : Desk) (s out : List ℕ) → WriteKept out (writeBy a d s out)
+write-by-kept : (a : Admission) (d : Desk) (s out : List ℕ) → WriteKept out (writeBy a d s out)
 unfolding WriteKept writeBy
-write-by-kept No d s out h = put-kept (streamOf d s) out h
-write-by-kept R2 d s out h = refl
-write-by-kept R3 d s out h = refl
-write-by-kept R4 d s out h = refl
+write-by-kept Admitted d s out h = put-kept (streamOf d s) out h
+write-by-kept (Away r) d s out h = refl
 
 pub untouched-write : (d : Desk) (s out : List ℕ) {a : Written} {o : List ℕ}
     → written a o ≡ writeCall d s out → (writeNumber a ≡ 0 → ⊥) → o ≡ out
 unfolding WriteKept writeCall
 untouched-write d s out e h =
     ap (λ (y : WriteCall). y .out) e
-    ∙ write-by-kept (awayOf d s) d s out (λ z. h (ap (λ (y : WriteCall). writeNumber (y .answer)) e ∙ z))
+    ∙ write-by-kept (admissionOf d s) d s out (λ z. h (ap (λ (y : WriteCall). writeNumber (y .answer)) e ∙ z))
 
 EmptyKept : List ℕ → EmptyCall → Type 0
 EmptyKept s x = (emptyNumber (x .answer) ≡ 0 → ⊥) → x .store ≡ s

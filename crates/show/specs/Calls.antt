@@ -1,7 +1,7 @@
 -- What each public call answers and what it leaves in every lent list (paper 01, "Calls turned away"). The refusals are tested in the
 -- paper's order, and each leaves all lent memory as it was.
 -- Assumes nothing.
-use mathlib.Core.Bool.{Bool, cond}
+use mathlib.Core.Bool.{cond}
 use mathlib.Core.List.{List, []}
 use Prim.Native.Nat.{ℕ, _+_, _*_}
 use lib.Dec.{ltb, leb}
@@ -11,6 +11,8 @@ use Rattle.store_desk.specs.declared.Desk.{Desk}
 use Rattle.store_desk.specs.declared.Kind.the-variants.{Cue}
 use Rattle.store_desk.specs.Size.{inRangeOf, storeLength}
 use Rattle.store_desk.specs.Name.{Name}
+use Rattle.store_desk.specs.declared.Refusal.the-variants.{R1, R2, R3, R4, R5, R6}
+use Rattle.store_desk.specs.Refusal.{refusalNumber}
 use denote.Ref.{RefT, ptr, now}
 use mathlib.Core.Path.{_≡_}
 use Rattle.cells.specs.Search.{Found, at, nowhere}
@@ -19,27 +21,26 @@ use Rattle.store_desk.specs.Size.{headLength, slotLength}
 use Rattle.store.specs.Slots.{find, levelsAt}
 use Rattle.store.specs.Change.{emptied as emptiedStore}
 use Rattle.store.specs.Form.{goodForm}
-use Rattle.load.specs.declared.Totals.{Totals}
 use Rattle.load.specs.Run.{Run, loadOf, totalsOf, storedIn, allReports}
 use Rattle.save.specs.Lines.{streamOf}
-use Rattle.show.specs.declared.Away.{Away}
-use Rattle.show.specs.declared.Away.the-variants.{No, R2, R3, R4}
+use Rattle.show.specs.declared.Admission.{Admission}
+use Rattle.show.specs.declared.Admission.the-variants.{Admitted, Away}
 use Rattle.show.specs.declared.Loaded.{Loaded}
-use Rattle.show.specs.declared.Loaded.the-variants.{R1, R2 as LoadR2, R3 as LoadR3, R4 as LoadR4, Done as LoadDone}
+use Rattle.show.specs.declared.Loaded.the-variants.{Away as LoadAway, Done as LoadDone}
 use Rattle.show.specs.declared.Written.{Written}
-use Rattle.show.specs.declared.Written.the-variants.{R2 as WriteR2, R3 as WriteR3, R4 as WriteR4, R5, R6, Done as WriteDone}
+use Rattle.show.specs.declared.Written.the-variants.{Away as WriteAway, Done as WriteDone}
 use Rattle.show.specs.declared.Placed.{Placed}
-use Rattle.show.specs.declared.Placed.the-variants.{R2 as FindR2, R3 as FindR3, R4 as FindR4, NotKept, At as PlacedAt}
+use Rattle.show.specs.declared.Placed.the-variants.{Away as FindAway, NotKept, At as PlacedAt}
 use Rattle.show.specs.declared.Emptied.{Emptied}
-use Rattle.show.specs.declared.Emptied.the-variants.{R2 as EmptyR2, R3 as EmptyR3, Done as EmptyDone}
+use Rattle.show.specs.declared.Emptied.the-variants.{Away as EmptyAway, Done as EmptyDone}
 
 -- R1, R5: the longest stream
 abbrev pub mostBytes : ℕ
 mostBytes = 262143
 
 -- R2, a limit outside its range; R3, a store shorter than the desk needs; R4, a store not in good form
-unfoldable pub awayOf : Desk → List ℕ → Away
-awayOf d s = cond (inRangeOf d) (cond (leb (storeLength d) (length s)) (cond (goodForm d s) No R4) R3) R2
+unfoldable pub admissionOf : Desk → List ℕ → Admission
+admissionOf d s = cond (inRangeOf d) (cond (leb (storeLength d) (length s)) (cond (goodForm d s) Admitted (Away R4)) (Away R3)) (Away R2)
 
 -- ---- load
 
@@ -54,16 +55,14 @@ loaded a s reps = record { answer = a; store = s; reports = reps }
 abbrev pub loadDone : Run → List ℕ → LoadCall
 loadDone x reps = loaded (LoadDone (totalsOf x)) (x .store) (storedIn reps (allReports x))
 
-unfoldable pub loadBy : Away → Desk → List ℕ → List ℕ → List ℕ → LoadCall
-loadBy No d s reps stream = loadDone (loadOf d s stream) reps
-loadBy R2 d s reps stream = loaded LoadR2 s reps
-loadBy R3 d s reps stream = loaded LoadR3 s reps
-loadBy R4 d s reps stream = loaded LoadR4 s reps
+unfoldable pub loadBy : Admission → Desk → List ℕ → List ℕ → List ℕ → LoadCall
+loadBy Admitted d s reps stream = loadDone (loadOf d s stream) reps
+loadBy (Away r) d s reps stream = loaded (LoadAway r) s reps
 
 unfoldable pub loadCall : Desk → List ℕ → List ℕ → List ℕ → LoadCall
 loadCall d s reps stream =
-    let x = loadBy (awayOf d s) d s reps stream in
-    cond (ltb mostBytes (length stream)) (loaded R1 s reps) x
+    let x = loadBy (admissionOf d s) d s reps stream in
+    cond (ltb mostBytes (length stream)) (loaded (LoadAway R1) s reps) x
 
 -- ---- write
 
@@ -77,17 +76,16 @@ written a o = record { answer = a; out = o }
 -- R5, the whole stream would exceed 262,143; R6, it exceeds the output given, with the length needed
 unfoldable pub putCall : List ℕ → List ℕ → WriteCall
 putCall stream out =
-    cond (ltb mostBytes (length stream)) (written R5 out)
-    (cond (ltb (length out) (length stream)) (written (R6 (length stream)) out) (written (WriteDone (length stream)) (put out 0 stream)))
+    cond (ltb mostBytes (length stream)) (written (WriteAway R5) out)
+    (cond (ltb (length out) (length stream)) (written (WriteAway (R6 (length stream))) out)
+    (written (WriteDone (length stream)) (put out 0 stream)))
 
-unfoldable pub writeBy : Away → Desk → List ℕ → List ℕ → WriteCall
-writeBy No d s out = putCall (streamOf d s) out
-writeBy R2 d s out = written WriteR2 out
-writeBy R3 d s out = written WriteR3 out
-writeBy R4 d s out = written WriteR4 out
+unfoldable pub writeBy : Admission → Desk → List ℕ → List ℕ → WriteCall
+writeBy Admitted d s out = putCall (streamOf d s) out
+writeBy (Away r) d s out = written (WriteAway r) out
 
 unfoldable pub writeCall : Desk → List ℕ → List ℕ → WriteCall
-writeCall d s out = writeBy (awayOf d s) d s out
+writeCall d s out = writeBy (admissionOf d s) d s out
 
 -- ---- empty
 
@@ -100,7 +98,8 @@ emptied a s = record { answer = a; store = s }
 
 unfoldable pub emptyCall : Desk → List ℕ → EmptyCall
 emptyCall d s =
-    cond (inRangeOf d) (cond (leb (storeLength d) (length s)) (emptied EmptyDone (emptiedStore d s)) (emptied EmptyR3 s)) (emptied EmptyR2 s)
+    cond (inRangeOf d) (cond (leb (storeLength d) (length s)) (emptied EmptyDone (emptiedStore d s)) (emptied (EmptyAway R3) s))
+    (emptied (EmptyAway R2) s)
 
 -- ---- look-up: the very level bytes of a kept cue
 
@@ -130,14 +129,12 @@ unfoldable pub lookAt : Desk → List ℕ → Found → Look
 lookAt d s (at i) = look isKept (i * slotLength d + headLength) (levelsAt d s i)
 lookAt d s nowhere = look notKept 0 []
 
-unfoldable pub lookBy : Away → Desk → List ℕ → Key → Look
-lookBy No d s key = lookAt d s (find d s (cue key))
-lookBy R2 d s key = look 2 0 []
-lookBy R3 d s key = look 3 0 []
-lookBy R4 d s key = look 4 0 []
+unfoldable pub lookBy : Admission → Desk → List ℕ → Key → Look
+lookBy Admitted d s key = lookAt d s (find d s (cue key))
+lookBy (Away r) d s key = look (refusalNumber r) 0 []
 
 unfoldable pub lookCall : Desk → List ℕ → ℕ → ℕ → ℕ → Look
-lookCall d s page whole tenths = lookBy (awayOf d s) d s (cueKey page whole tenths)
+lookCall d s page whole tenths = lookBy (admissionOf d s) d s (cueKey page whole tenths)
 
 -- the part r of the store s and the answer word are what a look says: the word, the bytes, and where they lie
 pub record LookedUp (s r : RefT (List ℕ)) (answer : ℕ) (x : Look) : Type 0 where
@@ -152,33 +149,28 @@ unfoldable pub placedAt : Desk → Found → Placed
 placedAt d (at i) = PlacedAt (i * slotLength d + headLength)
 placedAt d nowhere = NotKept
 
-unfoldable pub findBy : Away → Desk → List ℕ → Key → Placed
-findBy No d s key = placedAt d (find d s (cue key))
-findBy R2 d s key = FindR2
-findBy R3 d s key = FindR3
-findBy R4 d s key = FindR4
+unfoldable pub findBy : Admission → Desk → List ℕ → Key → Placed
+findBy Admitted d s key = placedAt d (find d s (cue key))
+findBy (Away r) d s key = FindAway r
 
 unfoldable pub findCall : Desk → List ℕ → ℕ → ℕ → ℕ → Placed
-findCall d s page whole tenths = findBy (awayOf d s) d s (cueKey page whole tenths)
+findCall d s page whole tenths = findBy (admissionOf d s) d s (cueKey page whole tenths)
 
--- ---- the paper's number of each answer: a refusal's, and 0 where the call was answered
+-- ---- the number of each answer: a refusal's, 0 where the call was answered, and 1 for a cue that is not kept
 
 unfoldable pub loadNumber : Loaded → ℕ
-loadNumber R1 = 1
-loadNumber LoadR2 = 2
-loadNumber LoadR3 = 3
-loadNumber LoadR4 = 4
+loadNumber (LoadAway r) = refusalNumber r
 loadNumber (LoadDone t) = 0
 
 unfoldable pub writeNumber : Written → ℕ
-writeNumber WriteR2 = 2
-writeNumber WriteR3 = 3
-writeNumber WriteR4 = 4
-writeNumber R5 = 5
-writeNumber (R6 n) = 6
+writeNumber (WriteAway r) = refusalNumber r
 writeNumber (WriteDone n) = 0
 
 unfoldable pub emptyNumber : Emptied → ℕ
-emptyNumber EmptyR2 = 2
-emptyNumber EmptyR3 = 3
+emptyNumber (EmptyAway r) = refusalNumber r
 emptyNumber EmptyDone = 0
+
+unfoldable pub findNumber : Placed → ℕ
+findNumber (FindAway r) = refusalNumber r
+findNumber NotKept = notKept
+findNumber (PlacedAt n) = isKept

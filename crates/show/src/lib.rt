@@ -5,65 +5,56 @@ use store::Place;
 use store_desk::Desk;
 use store_desk::Key;
 use store_desk::Kind;
+use store_desk::Refusal;
 ghost use mathlib.Core.Path.{_≡_};
 ghost use mathlib.Core.Bool.{true};
 ghost use Rattle.store_code.specs.Fits.{Fitting};
 ghost use Rattle.store.specs.Form.{goodForm};
 ghost use Rattle.save.specs.Lines.{streamOf};
-ghost use Rattle.show.specs.Calls.{awayOf, loadCall, loaded, putCall, writeCall, written, emptyCall, emptied, LookedUp, lookAt, lookCall, cue, placedAt, findCall};
+ghost use Rattle.show.specs.Calls.{admissionOf, loadCall, loaded, putCall, writeCall, written, emptyCall, emptied, LookedUp, lookAt, lookCall, cue, placedAt, findCall};
 ghost use Rattle.store.specs.Slots.{find as findSlot, placeOf};
 
 // The longest stream that is read or written, in bytes.
 const MOST_BYTES: usize = 262143;
 
-// Why a call on a store is turned away before it begins, or that it is not.
-pub enum Away {
-    No,
-    R2,
-    R3,
-    R4,
+// A call on a store is let in, or turned away before it begins.
+pub enum Admission {
+    Admitted,
+    Away(Refusal),
 }
 
-// What `load` answers.
+// What `load` answers: R1 to R4, or the totals.
 pub enum Loaded {
-    R1,
-    R2,
-    R3,
-    R4,
+    Away(Refusal),
     Done(Totals),
 }
 
-// What `write` answers: R6 with the length needed, or the length written.
+// What `write` answers: R2 to R6, or the length written.
 pub enum Written {
-    R2,
-    R3,
-    R4,
-    R5,
-    R6(usize),
+    Away(Refusal),
     Done(usize),
 }
 
-// What `empty` answers.
+// What `empty` answers: R2, R3, or that it is done.
 pub enum Emptied {
-    R2,
-    R3,
+    Away(Refusal),
     Done,
 }
 
 // R2, R3, R4 in that order.
-fn turned_away(desk: Desk, store: &[u8]) -> Away
-    ensures { λ r. ⌜ r ≡ awayOf desk (now (store .entry)) ⌝ }
+fn turned_away(desk: Desk, store: &[u8]) -> Admission
+    ensures { λ r. ⌜ r ≡ admissionOf desk (now (store .entry)) ⌝ }
 {
     if !desk.in_range() {
-        return Away::R2;
+        return Admission::Away(Refusal::R2);
     }
     if store.len() < desk.store_length() {
-        return Away::R3;
+        return Admission::Away(Refusal::R3);
     }
     if store_form::good_form(desk, store) {
-        return Away::No;
+        return Admission::Admitted;
     }
-    Away::R4
+    Admission::Away(Refusal::R4)
 }
 
 // Reads a stream into a store.
@@ -72,13 +63,11 @@ pub fn load(desk: Desk, store: &mut [u8], stream: &[u8], reports: &mut [u32]) ->
         ≡ loadCall desk (now (store .entry)) (now (reports .entry)) (now (stream .entry)) ⌝ }
 {
     if MOST_BYTES < stream.len() {
-        return Loaded::R1;
+        return Loaded::Away(Refusal::R1);
     }
     match turned_away(desk, &*store) {
-        Away::R2 => Loaded::R2,
-        Away::R3 => Loaded::R3,
-        Away::R4 => Loaded::R4,
-        Away::No => Loaded::Done(load_run::run(desk, store, stream, reports)),
+        Admission::Away(refusal) => Loaded::Away(refusal),
+        Admission::Admitted => Loaded::Done(load_run::run(desk, store, stream, reports)),
     }
 }
 
@@ -90,10 +79,10 @@ fn put(desk: Desk, store: &[u8], out: &mut [u8]) -> Written
 {
     let n = save::length(desk, store);
     if MOST_BYTES < n {
-        return Written::R5;
+        return Written::Away(Refusal::R5);
     }
     if out.len() < n {
-        return Written::R6(n);
+        return Written::Away(Refusal::R6(n));
     }
     Written::Done(save::stream(desk, store, out))
 }
@@ -103,10 +92,8 @@ pub fn write(desk: Desk, store: &[u8], out: &mut [u8]) -> Written
     ensures { λ r. ⌜ written r (now (out .exit)) ≡ writeCall desk (now (store .entry)) (now (out .entry)) ⌝ }
 {
     match turned_away(desk, store) {
-        Away::R2 => Written::R2,
-        Away::R3 => Written::R3,
-        Away::R4 => Written::R4,
-        Away::No => put(desk, store, out),
+        Admission::Away(refusal) => Written::Away(refusal),
+        Admission::Admitted => put(desk, store, out),
     }
 }
 
@@ -115,20 +102,18 @@ pub fn empty(desk: Desk, store: &mut [u8]) -> Emptied
     ensures { λ r. ⌜ emptied r (now (store .exit)) ≡ emptyCall desk (now (store .entry)) ⌝ }
 {
     if !desk.in_range() {
-        return Emptied::R2;
+        return Emptied::Away(Refusal::R2);
     }
     if store.len() < desk.store_length() {
-        return Emptied::R3;
+        return Emptied::Away(Refusal::R3);
     }
     store_code::empty(desk, store);
     Emptied::Done
 }
 
-// Where a cue's levels stand, as a number: for callers that take no part of a slice.
+// Where a cue's levels stand, as a number: for callers that take no part of a slice; or R2 to R4.
 pub enum Placed {
-    R2,
-    R3,
-    R4,
+    Away(Refusal),
     NotKept,
     At(usize),
 }
@@ -180,19 +165,11 @@ pub fn look_up<'a, 'b>(
     ensures { λ r. ⌜ LookedUp (store .entry) r (now (answer .exit)) (lookCall desk (now (store .entry)) page whole tenths) ⌝ }
 {
     match turned_away(desk, store) {
-        Away::R2 => {
-            *answer = 2;
+        Admission::Away(refusal) => {
+            *answer = refusal.number();
             &store[0..0]
         }
-        Away::R3 => {
-            *answer = 3;
-            &store[0..0]
-        }
-        Away::R4 => {
-            *answer = 4;
-            &store[0..0]
-        }
-        Away::No => levels_of(
+        Admission::Admitted => levels_of(
             desk,
             store,
             Key {
@@ -221,10 +198,8 @@ pub fn find(desk: Desk, store: &[u8], page: u32, whole: u32, tenths: u32) -> Pla
     ensures { λ r. ⌜ r ≡ findCall desk (now (store .entry)) page whole tenths ⌝ }
 {
     match turned_away(desk, store) {
-        Away::R2 => Placed::R2,
-        Away::R3 => Placed::R3,
-        Away::R4 => Placed::R4,
-        Away::No => levels_place(
+        Admission::Away(refusal) => Placed::Away(refusal),
+        Admission::Admitted => levels_place(
             desk,
             store,
             Key {

@@ -1,20 +1,24 @@
 -- What the calls for other programs answer and leave behind: the public calls, with numbers and lists (paper 01, "Calls turned away").
 -- Assumes nothing.
-use mathlib.Core.List.{List}
+use mathlib.Core.List.{List, [], _∷_}
 use Prim.Native.Nat.{ℕ}
 use lib.ListN.{getD, set}
 use Rattle.store_desk.specs.declared.Desk.{Desk}
 use Rattle.store_desk.specs.declared.Needed.{Needed}
-use Rattle.store_desk.specs.declared.Needed.the-variants.{BadDesk, Length}
+use Rattle.store_desk.specs.declared.Needed.the-variants.{Away, Length}
+use Rattle.store_desk.specs.declared.Refusal.{Refusal}
+use Rattle.store_desk.specs.declared.Refusal.the-variants.{R1, R2, R3, R4, R5, R6}
+use Rattle.store_desk.specs.Refusal.{refusalNumber}
 use Rattle.store_desk.specs.Size.{neededOf}
 use Rattle.load.specs.declared.Totals.{Totals}
 use Rattle.show.specs.declared.Loaded.{Loaded}
-use Rattle.show.specs.declared.Loaded.the-variants.{R1, R2, R3, R4, Done}
+use Rattle.show.specs.declared.Loaded.the-variants.{Away as LoadAway, Done as LoadDone}
 use Rattle.show.specs.declared.Written.{Written}
-use Rattle.show.specs.declared.Written.the-variants.{R2 as WriteR2, R3 as WriteR3, R4 as WriteR4, R5, R6, Done as WriteDone}
+use Rattle.show.specs.declared.Written.the-variants.{Away as WriteAway, Done as WriteDone}
 use Rattle.show.specs.declared.Placed.{Placed}
-use Rattle.show.specs.declared.Placed.the-variants.{R2 as FindR2, R3 as FindR3, R4 as FindR4, NotKept, At}
-use Rattle.show.specs.Calls.{LoadCall, loadCall, WriteCall, writeCall, EmptyCall, emptyCall, findCall, loadNumber, writeNumber, emptyNumber}
+use Rattle.show.specs.declared.Placed.the-variants.{Away as FindAway, NotKept, At}
+use Rattle.show.specs.Calls.{LoadCall, loadCall, WriteCall, writeCall, EmptyCall, emptyCall, findCall}
+use Rattle.show.specs.Calls.{loadNumber, writeNumber, emptyNumber, findNumber}
 
 -- a desk is the list of its nine limits; a limit that the list lacks is 0
 unfoldable pub deskOf : List ℕ → Desk
@@ -39,79 +43,65 @@ totalsIn l t =
 unfoldable pub lengthIn : List ℕ → ℕ → List ℕ
 lengthIn l n = set l 0 n
 
--- the answer's number, and the lent lists
-pub record Exported2 : Type 0 where
+-- what a refusal tells beside its number: R6 the length needed
+abbrev pub toldIn : Refusal → List ℕ → List ℕ
+toldIn R1 l = l
+toldIn R2 l = l
+toldIn R3 l = l
+toldIn R4 l = l
+toldIn R5 l = l
+toldIn (R6 n) l = lengthIn l n
+
+-- the answer's number, and the lists that the call may write, in the order of its parameters
+pub record Exported : Type 0 where
   pub number : ℕ
-  pub first : List ℕ
+  pub lent : List (List ℕ)
 
-abbrev pub exported2 : ℕ → List ℕ → Exported2
-exported2 n a = record { number = n; first = a }
-
-pub record Exported3 : Type 0 where
-  pub number : ℕ
-  pub first : List ℕ
-  pub second : List ℕ
-
-abbrev pub exported3 : ℕ → List ℕ → List ℕ → Exported3
-exported3 n a b = record { number = n; first = a; second = b }
-
-pub record Exported4 : Type 0 where
-  pub number : ℕ
-  pub first : List ℕ
-  pub second : List ℕ
-  pub third : List ℕ
-
-abbrev pub exported4 : ℕ → List ℕ → List ℕ → List ℕ → Exported4
-exported4 n a b c = record { number = n; first = a; second = b; third = c }
+abbrev pub exported : ℕ → List (List ℕ) → Exported
+exported n ls = record { number = n; lent = ls }
 
 -- ---- the calls
 
-unfoldable pub neededBy : Needed → List ℕ → Exported2
-neededBy BadDesk l = exported2 2 l
-neededBy (Length n) l = exported2 0 (lengthIn l n)
+unfoldable pub neededBy : Needed → List ℕ → Exported
+neededBy (Away r) l = exported (refusalNumber r) (l ∷ [])
+neededBy (Length n) l = exported 0 (lengthIn l n ∷ [])
 
-abbrev pub exportNeeded : List ℕ → List ℕ → Exported2
+abbrev pub exportNeeded : List ℕ → List ℕ → Exported
 exportNeeded limits l = neededBy (neededOf (deskOf limits)) l
 
-unfoldable pub emptyBy : EmptyCall → Exported2
-emptyBy x = exported2 (emptyNumber (x .answer)) (x .store)
+unfoldable pub emptyBy : EmptyCall → Exported
+emptyBy x = exported (emptyNumber (x .answer)) (x .store ∷ [])
 
-abbrev pub exportEmpty : List ℕ → List ℕ → Exported2
+abbrev pub exportEmpty : List ℕ → List ℕ → Exported
 exportEmpty limits s = emptyBy (emptyCall (deskOf limits) s)
 
 unfoldable pub loadTotals : Loaded → List ℕ → List ℕ
-loadTotals R1 l = l
-loadTotals R2 l = l
-loadTotals R3 l = l
-loadTotals R4 l = l
-loadTotals (Done t) l = totalsIn l t
+loadTotals (LoadAway r) l = l
+loadTotals (LoadDone t) l = totalsIn l t
 
-unfoldable pub loadedBy : LoadCall → List ℕ → Exported4
-loadedBy x l = exported4 (loadNumber (x .answer)) (x .store) (x .reports) (loadTotals (x .answer) l)
+unfoldable pub loadedBy : LoadCall → List ℕ → Exported
+loadedBy x l = exported (loadNumber (x .answer)) (x .store ∷ x .reports ∷ loadTotals (x .answer) l ∷ [])
 
-abbrev pub exportLoad : List ℕ → List ℕ → List ℕ → List ℕ → List ℕ → Exported4
+abbrev pub exportLoad : List ℕ → List ℕ → List ℕ → List ℕ → List ℕ → Exported
 exportLoad limits s stream reps l = loadedBy (loadCall (deskOf limits) s reps stream) l
 
 unfoldable pub writeLength : Written → List ℕ → List ℕ
-writeLength WriteR2 l = l
-writeLength WriteR3 l = l
-writeLength WriteR4 l = l
-writeLength R5 l = l
-writeLength (R6 n) l = lengthIn l n
+writeLength (WriteAway r) l = toldIn r l
 writeLength (WriteDone n) l = lengthIn l n
 
-unfoldable pub writtenBy : WriteCall → List ℕ → Exported3
-writtenBy x l = exported3 (writeNumber (x .answer)) (x .out) (writeLength (x .answer) l)
+unfoldable pub writtenBy : WriteCall → List ℕ → Exported
+writtenBy x l = exported (writeNumber (x .answer)) (x .out ∷ writeLength (x .answer) l ∷ [])
 
-abbrev pub exportWrite : List ℕ → List ℕ → List ℕ → List ℕ → Exported3
+abbrev pub exportWrite : List ℕ → List ℕ → List ℕ → List ℕ → Exported
 exportWrite limits s out l = writtenBy (writeCall (deskOf limits) s out) l
 
-unfoldable pub placedBy : Placed → List ℕ → Exported2
-placedBy FindR2 l = exported2 2 l
-placedBy FindR3 l = exported2 3 l
-placedBy FindR4 l = exported2 4 l
-placedBy NotKept l = exported2 1 l
-placedBy (At n) l = exported2 0 (lengthIn l n)
+unfoldable pub placeIn : Placed → List ℕ → List ℕ
+placeIn (FindAway r) l = l
+placeIn NotKept l = l
+placeIn (At n) l = lengthIn l n
 
-abbrev pub exportFind : List ℕ → List ℕ → ℕ → ℕ → ℕ → List ℕ → Exported2
+unfoldable pub placedBy : Placed → List ℕ → Exported
+placedBy x l = exported (findNumber x) (placeIn x l ∷ [])
+
+abbrev pub exportFind : List ℕ → List ℕ → ℕ → ℕ → ℕ → List ℕ → Exported
 exportFind limits s page whole tenths l = placedBy (findCall (deskOf limits) s page whole tenths) l

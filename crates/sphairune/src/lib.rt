@@ -8,9 +8,11 @@ use show::Placed;
 use show::Written;
 use store_desk::Desk;
 use store_desk::Needed;
+use store_desk::Refusal;
 ghost use mathlib.Core.Path.{_≡_};
+ghost use mathlib.Core.List.{[], _∷_};
 ghost use lib.ListN.{getD, set};
-ghost use Rattle.sphairune.specs.Calls.{deskOf, totalsIn, lengthIn, exported2, exported3, exported4, exportNeeded, exportEmpty, exportLoad, exportWrite, exportFind};
+ghost use Rattle.sphairune.specs.Calls.{deskOf, totalsIn, lengthIn, toldIn, exported, exportNeeded, exportEmpty, exportLoad, exportWrite, exportFind};
 
 fn number_at(list: &[u32], i: usize) -> u32
     ensures { λ r. ⌜ r ≡ getD (now (list .entry)) i 0 ⌝ }
@@ -51,6 +53,20 @@ fn note_length(list: &mut [usize], v: usize)
     }
 }
 
+// What a refusal tells beside its number.
+fn note_told(list: &mut [usize], refusal: Refusal)
+    ensures { λ _. ⌜ now (list .exit) ≡ toldIn refusal (now (list .entry)) ⌝ }
+{
+    match refusal {
+        Refusal::R6(n) => note_length(list, n),
+        Refusal::R1 => {}
+        Refusal::R2 => {}
+        Refusal::R3 => {}
+        Refusal::R4 => {}
+        Refusal::R5 => {}
+    }
+}
+
 fn note_tallies(list: &mut [u32], t: Totals)
     ensures { λ _. ⌜ now (list .exit) ≡ set (set (set (now (list .entry)) 1 (t .blank)) 2 (t .obeyed)) 3 (t .passed) ⌝ }
 {
@@ -71,10 +87,10 @@ fn note_totals(list: &mut [u32], t: Totals)
 // The bytes that a store of this desk needs, in `length`; or 2.
 #[no_mangle]
 pub extern "C" fn sphairune_needed(limits: &[u32], length: &mut [usize]) -> u32
-    ensures { λ r. ⌜ exported2 r (now (length .exit)) ≡ exportNeeded (now (limits .entry)) (now (length .entry)) ⌝ }
+    ensures { λ r. ⌜ exported r (now (length .exit) ∷ []) ≡ exportNeeded (now (limits .entry)) (now (length .entry)) ⌝ }
 {
     match desk_of(limits).needed() {
-        Needed::BadDesk => 2,
+        Needed::Away(refusal) => refusal.number(),
         Needed::Length(n) => {
             note_length(length, n);
             0
@@ -85,11 +101,10 @@ pub extern "C" fn sphairune_needed(limits: &[u32], length: &mut [usize]) -> u32
 // Makes a store's needed bytes zero; or 2, 3.
 #[no_mangle]
 pub extern "C" fn sphairune_empty(limits: &[u32], store: &mut [u8]) -> u32
-    ensures { λ r. ⌜ exported2 r (now (store .exit)) ≡ exportEmpty (now (limits .entry)) (now (store .entry)) ⌝ }
+    ensures { λ r. ⌜ exported r (now (store .exit) ∷ []) ≡ exportEmpty (now (limits .entry)) (now (store .entry)) ⌝ }
 {
     match show::empty(desk_of(limits), store) {
-        Emptied::R2 => 2,
-        Emptied::R3 => 3,
+        Emptied::Away(refusal) => refusal.number(),
         Emptied::Done => 0,
     }
 }
@@ -104,14 +119,11 @@ pub extern "C" fn sphairune_load(
     reports: &mut [u32],
     totals: &mut [u32],
 ) -> u32
-    ensures { λ r. ⌜ exported4 r (now (store .exit)) (now (reports .exit)) (now (totals .exit))
+    ensures { λ r. ⌜ exported r (now (store .exit) ∷ now (reports .exit) ∷ now (totals .exit) ∷ [])
         ≡ exportLoad (now (limits .entry)) (now (store .entry)) (now (stream .entry)) (now (reports .entry)) (now (totals .entry)) ⌝ }
 {
     match show::load(desk_of(limits), store, stream, reports) {
-        Loaded::R1 => 1,
-        Loaded::R2 => 2,
-        Loaded::R3 => 3,
-        Loaded::R4 => 4,
+        Loaded::Away(refusal) => refusal.number(),
         Loaded::Done(t) => {
             note_totals(totals, t);
             0
@@ -127,17 +139,13 @@ pub extern "C" fn sphairune_write(
     out: &mut [u8],
     length: &mut [usize],
 ) -> u32
-    ensures { λ r. ⌜ exported3 r (now (out .exit)) (now (length .exit))
+    ensures { λ r. ⌜ exported r (now (out .exit) ∷ now (length .exit) ∷ [])
         ≡ exportWrite (now (limits .entry)) (now (store .entry)) (now (out .entry)) (now (length .entry)) ⌝ }
 {
     match show::write(desk_of(limits), store, out) {
-        Written::R2 => 2,
-        Written::R3 => 3,
-        Written::R4 => 4,
-        Written::R5 => 5,
-        Written::R6(n) => {
-            note_length(length, n);
-            6
+        Written::Away(refusal) => {
+            note_told(length, refusal);
+            refusal.number()
         }
         Written::Done(n) => {
             note_length(length, n);
@@ -156,16 +164,14 @@ pub extern "C" fn sphairune_find(
     tenths: u32,
     place: &mut [usize],
 ) -> u32
-    ensures { λ r. ⌜ exported2 r (now (place .exit)) ≡ exportFind (now (limits .entry)) (now (store .entry)) page whole tenths (now (place .entry)) ⌝ }
+    ensures { λ r. ⌜ exported r (now (place .exit) ∷ []) ≡ exportFind (now (limits .entry)) (now (store .entry)) page whole tenths (now (place .entry)) ⌝ }
 {
     match show::find(desk_of(limits), store, page, whole, tenths) {
-        Placed::R2 => 2,
-        Placed::R3 => 3,
-        Placed::R4 => 4,
-        Placed::NotKept => 1,
+        Placed::Away(refusal) => refusal.number(),
+        Placed::NotKept => show::NOT_KEPT,
         Placed::At(at) => {
             note_length(place, at);
-            0
+            show::KEPT
         }
     }
 }

@@ -6,7 +6,8 @@ use Prim.Native.Nat.{ℕ, _+_, _*_, _≤_}
 use lib.Dec.{leb}
 use Rattle.store_desk.specs.declared.Desk.{Desk}
 use Rattle.store_desk.specs.declared.Needed.{Needed}
-use Rattle.store_desk.specs.declared.Needed.the-variants.{BadDesk, Length}
+use Rattle.store_desk.specs.declared.Needed.the-variants.{Away, Length}
+use Rattle.store_desk.specs.declared.Refusal.the-variants.{R2}
 
 -- ---- ranges ("The size of a desk")
 
@@ -130,4 +131,4 @@ storeLength d = patchStart d + entriesOf d * entryLength
 
 -- what the public call `needed` answers: R2, or the length
 unfoldable pub neededOf : Desk → Needed
-neededOf d = cond (inRangeOf d) (Length (storeLength d)) BadDesk
+neededOf d = cond (inRangeOf d) (Length (storeLength d)) (Away R2)

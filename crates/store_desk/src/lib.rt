@@ -1,7 +1,8 @@
-// The size of a desk (paper 01, "The size of a desk"), and the names of its memories.
+// The size of a desk (paper 01, "The size of a desk"), the names of its memories, and why a call is turned away.
 ghost use mathlib.Core.Path.{_≡_};
 ghost use mathlib.Core.Bool.{_&&_};
 ghost use Rattle.store_desk.specs.Size.{Within, InRange, inRangeOf, isWithin, house, levelWidth, levelsLength, slotLength, subSlots, slotsOf, patchStart, entriesOf, storeLength, neededOf};
+ghost use Rattle.store_desk.specs.Refusal.{refusalNumber};
 ghost use Rattle.store_desk.specs.Name.{firstSlot, slotCount, pagesOf, supported, okNumber, okSub, okWithin, okPage, okName, subSlot, entryOf};
 
 // The nine limits, in the order of the paper's table.
@@ -153,7 +154,7 @@ impl Desk {
         if self.in_range() {
             Needed::Length(self.store_length())
         } else {
-            Needed::BadDesk
+            Needed::Away(Refusal::R2)
         }
     }
 }
@@ -180,9 +181,35 @@ pub const HEAD_LENGTH: usize = 24;
 
 pub const ENTRY_LENGTH: usize = 3;
 
+// Why a call is turned away: paper 01's table "Calls turned away", R6 with the length needed. Every answer of a call holds it.
+pub enum Refusal {
+    R1,
+    R2,
+    R3,
+    R4,
+    R5,
+    R6(usize),
+}
+
+impl Refusal {
+    // The paper's number, for answers that are a word.
+    pub fn number(self) -> u32
+        ensures { λ r. ⌜ r ≡ refusalNumber self ⌝ }
+    {
+        match self {
+            Refusal::R1 => 1,
+            Refusal::R2 => 2,
+            Refusal::R3 => 3,
+            Refusal::R4 => 4,
+            Refusal::R5 => 5,
+            Refusal::R6(_) => 6,
+        }
+    }
+}
+
 // What a desk needs: R2, or the length of its store in bytes.
 pub enum Needed {
-    BadDesk,
+    Away(Refusal),
     Length(usize),
 }
 

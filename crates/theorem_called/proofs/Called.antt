@@ -1,18 +1,17 @@
 -- A store in good form is not turned away, so that the public calls answer what the load and the writer are proved to give.
 -- Assumes nothing.
 use mathlib.Core.Path.{_≡_, refl, sym, ap, _∙_}
-use mathlib.Core.Bool.{Bool, true, false}
+use mathlib.Core.Bool.{false}
 use mathlib.Core.List.{List, [], _∷_}
 use Prim.Native.Nat.{ℕ, _+_, _≤_}
 use native.Mathlib.Omega.{arith}
 use lib.Dec.{ltb}
-use lib.ListN.{length, take, replicate}
+use lib.ListN.{length, replicate}
 use borrow.Author.Tests.{le-ltb}
 use Rattle.cells.specs.Put.{put}
 use Rattle.cells.proofs.Put.{part-same}
 use Rattle.store_desk.specs.declared.Desk.{Desk}
 use Rattle.store_desk.specs.Size.{storeLength}
-use Rattle.store_head.specs.Pack.{Bytes}
 use Rattle.store.specs.Good.{Ready}
 use Rattle.store.specs.Form.{goodForm}
 use Rattle.store.proofs.Form.{good-complete}
@@ -20,8 +19,7 @@ use Rattle.load.specs.declared.State.{State}
 use Rattle.load.specs.Step.{recordStep, nothingOpen}
 use Rattle.load.specs.Run.{Run, loadOf, storedIn, allReports, runFrom, stops, only, andThen}
 use Rattle.text_records.specs.Stream.{recordsOf}
-use Rattle.theorem_rehearse.specs.Rehearse.{Rehearsal, loaded as rehearsed}
-use Rattle.theorem_rehearse.proofs.Ready.{record-ready}
+use Rattle.load.proofs.Steps.{record-ready}
 use Rattle.theorem_rehearse.proofs.Seen.{saw-room}
 use Rattle.theorem_rehearse.proofs.Rehearse.{rehearsed as both-loads}
 use Rattle.store.proofs.Empty.{empty-good}
@@ -30,30 +28,29 @@ use Rattle.save.specs.Lines.{linesOf, streamOf}
 use Rattle.theorem_same_show.specs.Show.{ReadBack, allObeyed}
 use Rattle.theorem_same_show.proofs.Theorem.{written-reads-back}
 use Rattle.theorem_told.specs.Edges.{smallest}
-use Rattle.show.specs.declared.Away.the-variants.{No}
+use Rattle.show.specs.declared.Admission.the-variants.{Admitted}
 use Rattle.show.specs.declared.Loaded.the-variants.{Done}
 use Rattle.show.specs.declared.Written.the-variants.{Done as WriteDone}
-use Rattle.show.specs.Calls.{mostBytes, awayOf, loaded, loadDone, loadBy, loadCall, written, putCall, writeBy, writeCall}
-use Rattle.show.proofs.Laws.{away-none, load-by, write-by}
+use Rattle.show.specs.Calls.{mostBytes, admissionOf, loaded, loadDone, loadBy, loadCall, written, putCall, writeBy, writeCall}
+use Rattle.show.proofs.Laws.{admitted, load-by, write-by}
 use Rattle.cells.specs.Search.{firstFrom, allFrom, countFrom}
 use Rattle.store_desk.specs.Size.{allOf, inRangeOf, levelWidth, levelsLength, slotLength, subSlots, slotsOf, patchStart, entriesOf, neededOf}
 use Rattle.store_desk.specs.Name.{firstSlot, slotCount, pagesOf, kindAt, supported, eqKind, eqKey, eqName, lessKey, okNumber, okSub, okWithin, okPage, okName, subSlot, entryOf}
 use Rattle.store_head.specs.Pack.{total, packed, unpacked}
 use Rattle.store_head.specs.Layout.{encodeHead, decodeHead, firstWord, secondWord, thirdWord, wordOf, quickOf, encodePatch, decodePatch}
 use Rattle.store.specs.Slots.{slotAt, putSlot, entryAt, putEntry, headAt, levelsAt, levelPlace, holdsAt, find, onFound, placeOf}
-use Rattle.store.specs.Form.{hasTimes, hasLink, isZero, linkFits, valuesFit, placeFits, slotFits, patchFits, entryFits}
-use Rattle.store.specs.First.{isAt, repeatsAt, badSlot, repeatedSlot, badEntry, isNowhere}
-use Rattle.theorem_called.specs.Called.{CallsReadBack, WriteThenLoad, EdgesCalled, GoodAfter, CallsRehearse, RehearsedCalls}
+use Rattle.store.specs.Form.{hasTimes, hasLink, isZero, linkFits, valuesFit, placeFits, shares, slotFits, patchFits, entryFits}
+use Rattle.theorem_called.specs.Called.{WriteThenLoad, EdgesCalled, GoodAfter, RehearsedCalls}
 
 -- a store in good form is not turned away
-pub not-away : (d : Desk) (s : List ℕ) → Ready d s → No ≡ awayOf d s
-not-away d s r = away-none d s (record { range = r .range; long = r .long }) refl (good-complete d s (r .form))
+pub not-away : (d : Desk) (s : List ℕ) → Ready d s → Admitted ≡ admissionOf d s
+not-away d s r = admitted d s (record { range = r .range; long = r .long }) refl (good-complete d s (r .form))
 
 -- so that a load into it answers
 pub load-answers : (d : Desk) (t reps stream : List ℕ) → Ready d t → length stream ≤ mostBytes
     → loadCall d t reps stream ≡ loadDone (loadOf d t stream) reps
 unfolding loadBy
-load-answers d t reps stream r h = sym (load-by d t reps stream No (not-away d t r) h)
+load-answers d t reps stream r h = sym (load-by d t reps stream Admitted (not-away d t r) h)
 
 -- and writing it, where the stream is short enough and the output has room
 pub write-answers : (d : Desk) (s out : List ℕ) → Ready d s → length (streamOf d s) ≤ mostBytes → length (streamOf d s) ≤ length out
@@ -62,7 +59,7 @@ unfolding writeBy putCall
 write-answers d s out r h g =
     let a : ltb mostBytes (length (streamOf d s)) ≡ false = le-ltb _ _ h in
     let b : ltb (length out) (length (streamOf d s)) ≡ false = le-ltb _ _ g in
-    sym (write-by d s out No (not-away d s r)) ∙ rw (a, b)
+    sym (write-by d s out Admitted (not-away d s r)) ∙ rw (a, b)
 
 pub write-then-load : WriteThenLoad
 write-then-load d s out t reps rs b rt h g =
@@ -78,13 +75,13 @@ write-then-load d s out t reps rs b rt h g =
     }
 
 -- the empty store of the smallest desk is not turned away, by computation
-smallest-taken : No ≡ awayOf smallest (replicate (storeLength smallest) 0)
-unfolding awayOf firstFrom allFrom countFrom put allOf inRangeOf levelWidth levelsLength slotLength subSlots slotsOf patchStart entriesOf storeLength neededOf firstSlot slotCount pagesOf kindAt supported eqKind eqKey eqName lessKey okNumber okSub okWithin okPage okName subSlot entryOf total packed unpacked encodeHead decodeHead firstWord secondWord thirdWord wordOf quickOf encodePatch decodePatch slotAt putSlot entryAt putEntry headAt levelsAt levelPlace holdsAt find onFound placeOf hasTimes hasLink isZero linkFits valuesFit placeFits slotFits isAt repeatsAt patchFits entryFits badSlot repeatedSlot badEntry isNowhere goodForm
+smallest-taken : Admitted ≡ admissionOf smallest (replicate (storeLength smallest) 0)
+unfolding admissionOf firstFrom allFrom countFrom put allOf inRangeOf levelWidth levelsLength slotLength subSlots slotsOf patchStart entriesOf storeLength neededOf firstSlot slotCount pagesOf kindAt supported eqKind eqKey eqName lessKey okNumber okSub okWithin okPage okName subSlot entryOf total packed unpacked encodeHead decodeHead firstWord secondWord thirdWord wordOf quickOf encodePatch decodePatch slotAt putSlot entryAt putEntry headAt levelsAt levelPlace holdsAt find onFound placeOf hasTimes hasLink isZero linkFits valuesFit placeFits shares slotFits patchFits entryFits goodForm
 smallest-taken = refl
 
 pub edges-called : EdgesCalled
 unfolding loadBy
-edges-called stream reps h = sym (load-by smallest (replicate (storeLength smallest) 0) reps stream No smallest-taken h)
+edges-called stream reps h = sym (load-by smallest (replicate (storeLength smallest) 0) reps stream Admitted smallest-taken h)
 
 -- ---- the store afterwards
 

@@ -20,8 +20,8 @@ use Rattle.theorem_rehearse.specs.Rehearse.{Rehearsal, loaded as rehearsed, Saw
 use Rattle.theorem_told.specs.Edges.{smallest}
 use Rattle.show.specs.declared.Loaded.the-variants.{Done}
 use Rattle.show.specs.declared.Written.the-variants.{Done as WriteDone}
-use Rattle.show.specs.declared.Away.the-variants.{No}
-use Rattle.show.specs.Calls.{mostBytes, awayOf, loaded, loadDone, loadCall, written, writeCall}
+use Rattle.show.specs.declared.Admission.the-variants.{Admitted}
+use Rattle.show.specs.Calls.{mostBytes, admissionOf, loaded, loadDone, loadCall, written, writeCall}
 
 -- Write a show, and load what was written into any store in good form of the same desk: both calls answer, the load with no report and only
 -- obeyed records, the lent list as it was, and the same show is kept
@@ -47,7 +47,7 @@ EdgesCalled =
 
 -- after a load that was answered the store is in good form, so that no later call with that desk and store is R2, R3 or R4
 abbrev pub GoodAfter : Type 0
-GoodAfter = (d : Desk) (t stream : List ℕ) → Ready d t → No ≡ awayOf d (loadOf d t stream .store)
+GoodAfter = (d : Desk) (t stream : List ℕ) → Ready d t → Admitted ≡ admissionOf d (loadOf d t stream .store)
 
 -- Demand 3, of the load call on two emptied desks as a user sees it: both calls answer; "had room" is that the count is at most the lent
 -- list's length and no stored word has condition 21 or 22

@@ -12,6 +12,9 @@ use borrow.Author.Tests.{ltb-true, ltb-false, lt-ltb, le-ltb}
 use Rattle.cells.specs.Put.{put}
 use Rattle.cells.proofs.Put.{put-front, put-back, put-part}
 use Rattle.cells.proofs.Split.{by-test, cond-true, cond-false}
+use Rattle.store_desk.specs.declared.Refusal.{Refusal}
+use Rattle.store_desk.specs.declared.Refusal.the-variants.{R6}
+use Rattle.store_desk.specs.Refusal.{refusalNumber}
 use Rattle.store_desk.specs.Size.{house}
 use Rattle.store.specs.Good.{Ready}
 use Rattle.save.specs.Lines.{streamOf}
@@ -19,9 +22,9 @@ use Rattle.save.proofs.House.{house-short}
 use Rattle.value_written.specs.Wrote.{wrote, wroteAt}
 use Rattle.value_written.proofs.Writes.{wrote-count, wrote-as}
 use Rattle.save_lines.specs.Room.{Room}
-use Rattle.show.specs.declared.Away.the-variants.{No}
+use Rattle.show.specs.declared.Admission.the-variants.{Admitted}
 use Rattle.show.specs.declared.Written.{Written}
-use Rattle.show.specs.declared.Written.the-variants.{R2, R3, R4, R5, R6, Done}
+use Rattle.show.specs.declared.Written.the-variants.{Away, Done}
 use Rattle.show.specs.Calls.{mostBytes, WriteCall, written, putCall, writeBy, writeCall}
 use Rattle.show.proofs.Laws.{write-by}
 use Rattle.theorem_called.proofs.Called.{not-away}
@@ -40,11 +43,7 @@ shown-short s h = cond-false _ _ _ (le-ltb _ _ h)
 
 -- ---- the answer by cases, and the part of the output that was lent
 unfoldable Shown : List ℕ → List ℕ → Written → List ℕ → Type 0
-Shown s part R2 ys = ⊥
-Shown s part R3 ys = ⊥
-Shown s part R4 ys = ⊥
-Shown s part R5 ys = ⊥
-Shown s part (R6 n) ys = (ys ≡ part) × (neededText n ≡ shownText s) × (n ≤ mostBytes)
+Shown s part (Away q) ys = (q ≡ R6 (length (streamOf house s))) × (ys ≡ part) × (mostShown < length (streamOf house s))
 Shown s part (Done n) ys = (ys ≡ put part 0 (shownText s)) × (length (shownText s) ≡ n) × (n ≤ mostShown)
 
 abbrev ShownCall : List ℕ → List ℕ → WriteCall → Type 0
@@ -54,10 +53,10 @@ put-shown : (s part : List ℕ) → length (streamOf house s) ≤ mostBytes → 
 unfolding Shown putCall
 put-shown s part h l =
     by-test (ShownCall s part) (ltb mostBytes (length (streamOf house s))) _ _
-    (λ e. let f : mostBytes < length (streamOf house s) = ltb-true _ _ e in omega arith)
+    (λ e. let f : mostBytes < length (streamOf house s) = ltb-true _ _ e in let z : ⊥ = omega arith in absurd z)
     (λ e.
     by-test (ShownCall s part) (ltb (length part) (length (streamOf house s))) _ _
-    (λ f. let g : length part < length (streamOf house s) = ltb-true _ _ f in (refl, sym (shown-long s (omega arith)), h))
+    (λ f. let g : length part < length (streamOf house s) = ltb-true _ _ f in (refl, refl, omega arith))
     (λ f.
     let g : length (streamOf house s) ≤ length part = ltb-false _ _ f in
     let k : length (streamOf house s) ≤ mostShown = omega arith in
@@ -87,25 +86,16 @@ module _ (s o : List ℕ) (at : ℕ) (r : Ready house s) (room : at + mostShown 
   shown : Shown s (part o at) a ys
   unfolding writeBy
   shown =
-      subst (ShownCall s (part o at)) (write-by house s (part o at) No (not-away house s r) ∙ sym e)
+      subst (ShownCall s (part o at)) (write-by house s (part o at) Admitted (not-away house s r) ∙ sym e)
       (put-shown s (part o at) (house-short s) (part-length o at room))
 
-  -- no other answer can occur
-  pub never-r2 : {X : Type 0} → a ≡ R2 → X
-  unfolding Shown
-  never-r2 f = absurd (subst (λ (x : Written). Shown s (part o at) x ys) f shown)
+  -- of the refusals R6 alone can occur, with the stream's length
+  away : {q : Refusal} → a ≡ Away q → Shown s (part o at) (Away q) ys
+  away f = subst (λ (x : Written). Shown s (part o at) x ys) f shown
 
-  pub never-r3 : {X : Type 0} → a ≡ R3 → X
+  pub never-other : {X : Type 0} {q p : Refusal} → a ≡ Away q → q ≡ p → (refusalNumber p ≡ 6 → ⊥) → X
   unfolding Shown
-  never-r3 f = absurd (subst (λ (x : Written). Shown s (part o at) x ys) f shown)
-
-  pub never-r4 : {X : Type 0} → a ≡ R4 → X
-  unfolding Shown
-  never-r4 f = absurd (subst (λ (x : Written). Shown s (part o at) x ys) f shown)
-
-  pub never-r5 : {X : Type 0} → a ≡ R5 → X
-  unfolding Shown
-  never-r5 f = absurd (subst (λ (x : Written). Shown s (part o at) x ys) f shown)
+  never-other f g h = absurd (h (ap refusalNumber (sym g ∙ away f .0)))
 
   module _ {n : ℕ} where
     pub done-most : a ≡ Done n → n ≤ mostShown
@@ -120,26 +110,28 @@ module _ (s o : List ℕ) (at : ℕ) (r : Ready house s) (room : at + mostShown 
         let m : n ≤ mostShown = h .2 in
         wrote-count o at (shownText s) n l (put-front o at (at + mostShown - at) ys (shownText s) (h .0) (omega arith) (omega arith))
 
-    pub needed-most : a ≡ R6 n → n ≤ mostBytes
+  module _ {q : Refusal} {n : ℕ} (f : a ≡ Away q) (g : q ≡ R6 n) where
+    length-is : length (streamOf house s) ≡ n
     unfolding Shown
-    needed-most f = subst (λ (x : Written). Shown s (part o at) x ys) f shown .2
+    length-is = let h : R6 n ≡ R6 (length (streamOf house s)) = sym g ∙ away f .0 in cc
+
+    pub needed-most : n ≤ mostBytes
+    needed-most = subst (λ (k : ℕ). k ≤ mostBytes) length-is (house-short s)
 
     -- the output is as it was
-    untouched : a ≡ R6 n → back o at ys ≡ o
+    untouched : back o at ys ≡ o
     unfolding Shown
-    untouched f =
-        let h : Shown s (part o at) (R6 n) ys = subst (λ (x : Written). Shown s (part o at) x ys) f shown in
-        ap (back o at) (h .0) ∙ back-same o at room
+    untouched = ap (back o at) (away f .1) ∙ back-same o at room
 
-    pub needed-room : a ≡ R6 n → Room (back o at ys) at (neededText n)
-    needed-room f =
-        let m = needed-most f in
+    pub needed-room : Room (back o at ys) at (neededText n)
+    needed-room =
+        let m = needed-most in
         let l : length (neededText n) ≤ 14 = needed-length n (omega arith) in
-        let u : length (back o at ys) ≡ length o = ap length (untouched f) in
+        let u : length (back o at ys) ≡ length o = ap length untouched in
         record { fits = omega arith }
 
-    pub needed-shown : a ≡ R6 n → {k : ℕ} {z : List ℕ} → wrote k z ≡ wroteAt (back o at ys) at (neededText n) → wrote k z ≡ wroteAt o at (shownText s)
+    pub needed-shown : {k : ℕ} {z : List ℕ} → wrote k z ≡ wroteAt (back o at ys) at (neededText n) → wrote k z ≡ wroteAt o at (shownText s)
     unfolding Shown
-    needed-shown f g =
-        let h : Shown s (part o at) (R6 n) ys = subst (λ (x : Written). Shown s (part o at) x ys) f shown in
-        wrote-as o at (h .1) (g ∙ ap (λ (l : List ℕ). wroteAt l at (neededText n)) (untouched f))
+    needed-shown h =
+        wrote-as o at (ap neededText (sym length-is) ∙ sym (shown-long s (away f .2)))
+        (h ∙ ap (λ (l : List ℕ). wroteAt l at (neededText n)) untouched)

@@ -11,6 +11,7 @@ use Rattle.cells.specs.Put.{put}
 use Rattle.cells.specs.Text.{bytes}
 use Rattle.cells.proofs.Put.{put-zero}
 use Rattle.cells.proofs.Split.{cond-true, cond-false}
+use Rattle.store_desk.specs.declared.Refusal.{Refusal}
 use Rattle.store_desk.specs.Size.{house, storeLength}
 use Rattle.store_desk.proofs.Size.{in-range, house-in-range, house-needs}
 use Rattle.store.specs.Change.{emptied}
@@ -23,7 +24,7 @@ use Rattle.value_written.proofs.Writes.{wrote-as, wrote-then, next-is, out-is}
 use Rattle.save_lines.specs.Room.{Room}
 use Rattle.save_lines.proofs.Chain.{wrote-length}
 use Rattle.show.specs.declared.Loaded.{Loaded}
-use Rattle.show.specs.declared.Loaded.the-variants.{R1, R2, R3, R4, Done}
+use Rattle.show.specs.declared.Loaded.the-variants.{Away, Done}
 use Rattle.show.specs.Calls.{LoadCall, loaded, loadDone, loadCall}
 use Rattle.theorem_called.proofs.Called.{load-answers, load-ready}
 use Rattle.tidy_printed.specs.Text.{toldText}
@@ -51,10 +52,7 @@ read-ready stream = load-ready house emptyStore stream empty-ready
 
 -- ---- what `load` answers
 unfoldable Told : Run → Loaded → Type 0
-Told x R1 = ⊥
-Told x R2 = ⊥
-Told x R3 = ⊥
-Told x R4 = ⊥
+Told x (Away r) = ⊥
 Told x (Done t) = t ≡ totalsOf x
 
 module _ (stream : List ℕ) (short : length stream ≤ mostInput) {a : Loaded} {s reps : List ℕ}
@@ -69,22 +67,10 @@ module _ (stream : List ℕ) (short : length stream ≤ mostInput) {a : Loaded} 
   unfolding Told
   told = subst (Told (readIn stream)) (sym (ap (λ (x : LoadCall). x .answer) answered)) refl
 
-  -- no other answer can occur
-  pub never-r1 : {X : Type 0} → a ≡ R1 → X
+  -- no refusal can occur
+  pub never-away : {X : Type 0} {r : Refusal} → a ≡ Away r → X
   unfolding Told
-  never-r1 f = absurd (subst (Told (readIn stream)) f told)
-
-  pub never-r2 : {X : Type 0} → a ≡ R2 → X
-  unfolding Told
-  never-r2 f = absurd (subst (Told (readIn stream)) f told)
-
-  pub never-r3 : {X : Type 0} → a ≡ R3 → X
-  unfolding Told
-  never-r3 f = absurd (subst (Told (readIn stream)) f told)
-
-  pub never-r4 : {X : Type 0} → a ≡ R4 → X
-  unfolding Told
-  never-r4 f = absurd (subst (Told (readIn stream)) f told)
+  never-away f = absurd (subst (Told (readIn stream)) f told)
 
   pub loaded-ready : Ready house s
   loaded-ready = subst (Ready house) (sym (ap (λ (x : LoadCall). x .store) answered)) (read-ready stream)

@@ -4,6 +4,7 @@ use load::Totals;
 use show::Loaded;
 use show::Written;
 use store_desk::Desk;
+use store_desk::Refusal;
 ghost use mathlib.Core.Path.{_≡_};
 ghost use mathlib.Core.List.{_++_};
 ghost use Prim.Native.Nat.{_+_, _≤_};
@@ -29,11 +30,14 @@ fn put_shown(out: &mut [u8], at: usize, store: &[u8]) -> usize
 {
     match show::write(Desk::HOUSE, store, &mut out[at..at + MOST_SHOWN]) {
         Written::Done(n) => at + n,
-        Written::R6(n) => tidy_printed::put_needed(out, at, n as u32),
-        Written::R2 => at,
-        Written::R3 => at,
-        Written::R4 => at,
-        Written::R5 => at,
+        Written::Away(refusal) => match refusal {
+            Refusal::R6(n) => tidy_printed::put_needed(out, at, n as u32),
+            Refusal::R1 => at,
+            Refusal::R2 => at,
+            Refusal::R3 => at,
+            Refusal::R4 => at,
+            Refusal::R5 => at,
+        },
     }
 }
 
@@ -59,10 +63,7 @@ fn put_load(stream: &[u8], out: &mut [u8]) -> usize
     let mut reports = [0u32; 1024];
     match show::load(Desk::HOUSE, &mut store, stream, &mut reports) {
         Loaded::Done(t) => put_answer(out, t, &reports, &store),
-        Loaded::R1 => 0,
-        Loaded::R2 => 0,
-        Loaded::R3 => 0,
-        Loaded::R4 => 0,
+        Loaded::Away(_) => 0,
     }
 }
 

@@ -1,6 +1,6 @@
--- `turned_away` meets its contract: each test that fails is the case of `awayOf` that names its refusal.
+-- `turned_away` meets its contract: each test that fails is the case of `admissionOf` that names its refusal.
 -- Assumes nothing.
-use Rattle.show.proofs.Laws.{away-range, ranged, away-short, fitting, away-none, away-form}
+use Rattle.show.proofs.Laws.{away-range, ranged, away-short, fitting, admitted, away-form}
 use Rattle.show.proofs.turned_away.Statement.{statement}
 use Rattle.show.proofs.turned_away.Tie as tie
 use borrow.Author.Needs.{needs}
@@ -21,7 +21,7 @@ good-form-requires : tie.Need-good-form-requires
 good-form-requires c κs = fitting _ _ (ranged _ (c .before .before .before .in-range .ensures) (c .before .before .if1 .left)) (c .before .store-length .ensures) (c .if2 .left)
 
 returns-3 : tie.Need-returns-3
-returns-3 c = away-none _ _ (fitting _ _ (ranged _ (c .before .before .before .before .before .in-range .ensures) (c .before .before .before .before .if1 .left)) (c .before .before .before .store-length .ensures) (c .before .before .if2 .left)) (c .before .good-form .ensures) (c .if3 .taken)
+returns-3 c = admitted _ _ (fitting _ _ (ranged _ (c .before .before .before .before .before .in-range .ensures) (c .before .before .before .before .if1 .left)) (c .before .before .before .store-length .ensures) (c .before .before .if2 .left)) (c .before .good-form .ensures) (c .if3 .taken)
 
 returns-4 : tie.Need-returns-4
 returns-4 c = away-form _ _ (fitting _ _ (ranged _ (c .before .before .before .before .before .in-range .ensures) (c .before .before .before .before .if1 .left)) (c .before .before .before .store-length .ensures) (c .before .before .if2 .left)) (c .before .good-form .ensures) (c .if3 .left)

@@ -1,11 +1,13 @@
--- `sphairune_needed` meets its contract: each case of the answer gives its number, and the length goes into the lent list.
+-- `sphairune_needed` meets its contract: a refusal gives its number, and the length goes into the lent list.
 -- Assumes nothing.
-use Rattle.store_desk.specs.declared.Needed.the-variants.{BadDesk, Length}
-use Rattle.sphairune.proofs.Laws.{needed-by}
+use Prim.Native.Nat.{ℕ}
+use Rattle.sphairune.proofs.Laws.{answered, needed-by}
 use Rattle.sphairune.proofs.sphairune_needed.Statement.{statement}
 use Rattle.sphairune.proofs.sphairune_needed.Tie as tie
-use Rattle.sphairune.specs.Calls.{neededBy, exported2}
+use Rattle.sphairune.specs.Calls.{neededBy, exported}
+use Rattle.store_desk.specs.declared.Needed.the-variants.{Away, Length}
 use borrow.Author.Needs.{needs}
+use mathlib.Core.List.{List, [], _∷_}
 use mathlib.Core.Path.{ap, _∙_}
 
 desk-of-requires : tie.Need-desk-of-requires
@@ -14,8 +16,11 @@ desk-of-requires c κs = search needs
 needed-requires : tie.Need-needed-requires
 needed-requires c κs = search needs
 
-enum-told : tie.Need-enum-told
-enum-told c = search needs
+enum-known-refusal : tie.Need-enum-known-refusal
+enum-known-refusal c = search needs
+
+number-requires : tie.Need-number-requires
+number-requires c κs = search needs
 
 enum-known-n : tie.Need-enum-known-n
 enum-known-n c = search needs
@@ -25,14 +30,14 @@ note-length-requires c κs = search needs
 
 returns : tie.Need-returns
 unfolding neededBy
-returns c = needed-by _ (c .before .before .before .desk-of .ensures) _ (c .before .before .needed .ensures) BadDesk (c .enum-told .given .1)
+returns c = answered (c .number .ensures) (needed-by _ (c .before .before .before .before .before .desk-of .ensures) _ (c .before .before .before .before .needed .ensures) (Away _) (c .before .before .refusal .given .1))
 
 same-length : tie.Need-same-length
 same-length c = search needs
 
 returns-2 : tie.Need-returns-2
 unfolding neededBy
-returns-2 c = ap (exported2 0) (c .before .before .note-length .ensures) ∙ needed-by _ (c .before .before .before .before .before .before .before .before .desk-of .ensures) _ (c .before .before .before .before .before .before .before .needed .ensures) (Length _) (c .before .before .before .before .before .n .given .1)
+returns-2 c = ap (λ (l : List ℕ). exported 0 (l ∷ [])) (c .before .before .note-length .ensures) ∙ needed-by _ (c .before .before .before .before .before .before .before .before .desk-of .ensures) _ (c .before .before .before .before .before .before .before .needed .ensures) (Length _) (c .before .before .before .before .before .n .given .1)
 
 pub sphairune-needed-spec : {M : Type 1} → statement M
 sphairune-needed-spec =
@@ -40,7 +45,8 @@ sphairune-needed-spec =
     (tie.spec
     desk-of-requires
     needed-requires
-    enum-told
+    enum-known-refusal
+    number-requires
     enum-known-n
     note-length-requires
     returns

@@ -1,10 +1,10 @@
 -- `put_load` meets its contract: the load is answered, and its text is what is told of it and the show that it leaves.
 -- Assumes nothing.
-use Rattle.value_written.proofs.Writes.{wrote-as}
-use Rattle.tidy_session.proofs.Told.{never-r1, never-r2, never-r3, never-r4, loaded-ready, answer-is}
-use borrow.Author.Needs.{needs}
+use Rattle.tidy_session.proofs.Told.{never-away, loaded-ready, answer-is}
 use Rattle.tidy_session.proofs.put_load.Statement.{statement}
 use Rattle.tidy_session.proofs.put_load.Tie as tie
+use Rattle.value_written.proofs.Writes.{wrote-as}
+use borrow.Author.Needs.{needs}
 
 slice-aggregate-load : tie.Need-slice-aggregate-load
 slice-aggregate-load c = search needs
@@ -30,15 +30,6 @@ put-answer-requires c κs = (loaded-ready _ (c .before .before .before .before .
 enum-told : tie.Need-enum-told
 enum-told c = search needs
 
-enum-told-2 : tie.Need-enum-told-2
-enum-told-2 c = search needs
-
-enum-told-3 : tie.Need-enum-told-3
-enum-told-3 c = search needs
-
-enum-told-4 : tie.Need-enum-told-4
-enum-told-4 c = search needs
-
 same-length : tie.Need-same-length
 same-length c = search needs
 
@@ -46,16 +37,7 @@ returns : tie.Need-returns
 returns c = wrote-as _ _ (answer-is _ (c .before .before .before .before .before .before .before .before .before .before .before .before .before .before .before .before .pre .0) (c .before .before .before .before .before .before .before .before .before .before .before .load .ensures) (c .before .before .before .before .before .before .before .t .given .1)) (c .before .before .put-answer .ensures)
 
 returns-2 : tie.Need-returns-2
-returns-2 c = never-r1 _ (c .before .before .before .before .before .before .before .before .before .pre .0) (c .before .before .before .before .load .ensures) (c .enum-told .given .1)
-
-returns-3 : tie.Need-returns-3
-returns-3 c = never-r2 _ (c .before .before .before .before .before .before .before .before .before .pre .0) (c .before .before .before .before .load .ensures) (c .enum-told2 .given .1)
-
-returns-4 : tie.Need-returns-4
-returns-4 c = never-r3 _ (c .before .before .before .before .before .before .before .before .before .pre .0) (c .before .before .before .before .load .ensures) (c .enum-told3 .given .1)
-
-returns-5 : tie.Need-returns-5
-returns-5 c = never-r4 _ (c .before .before .before .before .before .before .before .before .before .pre .0) (c .before .before .before .before .load .ensures) (c .enum-told4 .given .1)
+returns-2 c = never-away _ (c .before .before .before .before .before .before .before .before .before .pre .0) (c .before .before .before .before .load .ensures) (c .enum-told .given .1)
 
 pub put-load-spec : {M : Type 1} → statement M
 put-load-spec =
@@ -69,12 +51,6 @@ put-load-spec =
     slice-aggregate-put-answer-2
     put-answer-requires
     enum-told
-    enum-told-2
-    enum-told-3
-    enum-told-4
     same-length
     returns
-    returns-2
-    returns-3
-    returns-4
-    returns-5)
+    returns-2)

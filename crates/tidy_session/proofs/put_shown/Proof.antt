@@ -1,10 +1,10 @@
 -- `put_shown` meets its contract: the written stream, or the line with the length needed; `write` gives no other answer.
 -- Assumes nothing.
-use native.Mathlib.Omega.{arith}
-use Rattle.tidy_session.proofs.Shown.{done-most, done-shown, needed-most, needed-room, needed-shown, never-r2, never-r3, never-r4, never-r5}
-use borrow.Author.Needs.{needs}
+use Rattle.tidy_session.proofs.Shown.{never-other, done-most, done-shown, needed-most, needed-room, needed-shown}
 use Rattle.tidy_session.proofs.put_shown.Statement.{statement}
 use Rattle.tidy_session.proofs.put_shown.Tie as tie
+use borrow.Author.Needs.{needs}
+use native.Mathlib.Omega.{arith}
 
 add-write : tie.Need-add-write
 add-write c = search needs
@@ -27,14 +27,17 @@ enum-known-n c = search needs
 add-result : tie.Need-add-result
 add-result c = omega (arith, done-most _ _ _ (c .before .before .before .before .before .before .before .before .before .pre .0) (c .before .before .before .before .before .before .before .before .before .pre .1) (c .before .before .before .before .before .write .ensures) (c .before .n .given .1))
 
-enum-known-n-2 : tie.Need-enum-known-n-2
-enum-known-n-2 c = search needs
+enum-known-refusal : tie.Need-enum-known-refusal
+enum-known-refusal c = search needs
+
+enum-known-refusal-2 : tie.Need-enum-known-refusal-2
+enum-known-refusal-2 c = search needs
 
 cast-put-needed : tie.Need-cast-put-needed
-cast-put-needed c = omega (arith, needed-most _ _ _ (c .before .before .before .before .before .before .before .before .before .before .pre .0) (c .before .before .before .before .before .before .before .before .before .before .pre .1) (c .before .before .before .before .before .before .write .ensures) (c .before .before .n2 .given .1))
+cast-put-needed c = omega (arith, needed-most _ _ _ (c .before .before .before .before .before .before .before .before .before .before .before .before .before .pre .0) (c .before .before .before .before .before .before .before .before .before .before .before .before .before .pre .1) (c .before .before .before .before .before .before .before .before .before .write .ensures) (c .before .before .before .before .before .refusal .given .1) (c .before .before .refusal2 .given .1))
 
 put-needed-requires : tie.Need-put-needed-requires
-put-needed-requires c κs = needed-room _ _ _ (c .before .before .before .before .before .before .before .before .before .before .pre .0) (c .before .before .before .before .before .before .before .before .before .before .pre .1) (c .before .before .before .before .before .before .write .ensures) (c .before .before .n2 .given .1)
+put-needed-requires c κs = needed-room _ _ _ (c .before .before .before .before .before .before .before .before .before .before .before .before .before .pre .0) (c .before .before .before .before .before .before .before .before .before .before .before .before .before .pre .1) (c .before .before .before .before .before .before .before .before .before .write .ensures) (c .before .before .before .before .before .refusal .given .1) (c .before .before .refusal2 .given .1)
 
 enum-told : tie.Need-enum-told
 enum-told c = search needs
@@ -48,6 +51,9 @@ enum-told-3 c = search needs
 enum-told-4 : tie.Need-enum-told-4
 enum-told-4 c = search needs
 
+enum-told-5 : tie.Need-enum-told-5
+enum-told-5 c = search needs
+
 same-length : tie.Need-same-length
 same-length c = search needs
 
@@ -58,31 +64,37 @@ same-length-2 : tie.Need-same-length-2
 same-length-2 c = search needs
 
 returns-2 : tie.Need-returns-2
-returns-2 c = needed-shown _ _ _ (c .before .before .before .before .before .before .before .before .before .before .before .before .before .pre .0) (c .before .before .before .before .before .before .before .before .before .before .before .before .before .pre .1) (c .before .before .before .before .before .before .before .before .before .write .ensures) (c .before .before .before .before .before .n2 .given .1) (c .before .before .put-needed .ensures)
+returns-2 c = needed-shown _ _ _ (c .before .before .before .before .before .before .before .before .before .before .before .before .before .before .before .before .pre .0) (c .before .before .before .before .before .before .before .before .before .before .before .before .before .before .before .before .pre .1) (c .before .before .before .before .before .before .before .before .before .before .before .before .write .ensures) (c .before .before .before .before .before .before .before .before .refusal .given .1) (c .before .before .before .before .before .refusal2 .given .1) (c .before .before .put-needed .ensures)
 
 same-length-3 : tie.Need-same-length-3
 same-length-3 c = search needs
 
 returns-3 : tie.Need-returns-3
-returns-3 c = never-r2 _ _ _ (c .before .before .before .before .before .before .before .before .pre .0) (c .before .before .before .before .before .before .before .before .pre .1) (c .before .before .before .before .write .ensures) (c .enum-told .given .1)
+returns-3 c = never-other _ _ _ (c .before .before .before .before .before .before .before .before .before .before .before .pre .0) (c .before .before .before .before .before .before .before .before .before .before .before .pre .1) (c .before .before .before .before .before .before .before .write .ensures) (c .before .before .before .refusal .given .1) (c .enum-told .given .1) (λ e. omega arith)
 
 same-length-4 : tie.Need-same-length-4
 same-length-4 c = search needs
 
 returns-4 : tie.Need-returns-4
-returns-4 c = never-r3 _ _ _ (c .before .before .before .before .before .before .before .before .pre .0) (c .before .before .before .before .before .before .before .before .pre .1) (c .before .before .before .before .write .ensures) (c .enum-told2 .given .1)
+returns-4 c = never-other _ _ _ (c .before .before .before .before .before .before .before .before .before .before .before .pre .0) (c .before .before .before .before .before .before .before .before .before .before .before .pre .1) (c .before .before .before .before .before .before .before .write .ensures) (c .before .before .before .refusal .given .1) (c .enum-told2 .given .1) (λ e. omega arith)
 
 same-length-5 : tie.Need-same-length-5
 same-length-5 c = search needs
 
 returns-5 : tie.Need-returns-5
-returns-5 c = never-r4 _ _ _ (c .before .before .before .before .before .before .before .before .pre .0) (c .before .before .before .before .before .before .before .before .pre .1) (c .before .before .before .before .write .ensures) (c .enum-told3 .given .1)
+returns-5 c = never-other _ _ _ (c .before .before .before .before .before .before .before .before .before .before .before .pre .0) (c .before .before .before .before .before .before .before .before .before .before .before .pre .1) (c .before .before .before .before .before .before .before .write .ensures) (c .before .before .before .refusal .given .1) (c .enum-told3 .given .1) (λ e. omega arith)
 
 same-length-6 : tie.Need-same-length-6
 same-length-6 c = search needs
 
 returns-6 : tie.Need-returns-6
-returns-6 c = never-r5 _ _ _ (c .before .before .before .before .before .before .before .before .pre .0) (c .before .before .before .before .before .before .before .before .pre .1) (c .before .before .before .before .write .ensures) (c .enum-told4 .given .1)
+returns-6 c = never-other _ _ _ (c .before .before .before .before .before .before .before .before .before .before .before .pre .0) (c .before .before .before .before .before .before .before .before .before .before .before .pre .1) (c .before .before .before .before .before .before .before .write .ensures) (c .before .before .before .refusal .given .1) (c .enum-told4 .given .1) (λ e. omega arith)
+
+same-length-7 : tie.Need-same-length-7
+same-length-7 c = search needs
+
+returns-7 : tie.Need-returns-7
+returns-7 c = never-other _ _ _ (c .before .before .before .before .before .before .before .before .before .before .before .pre .0) (c .before .before .before .before .before .before .before .before .before .before .before .pre .1) (c .before .before .before .before .before .before .before .write .ensures) (c .before .before .before .refusal .given .1) (c .enum-told5 .given .1) (λ e. omega arith)
 
 pub put-shown-spec : {M : Type 1} → statement M
 put-shown-spec =
@@ -95,13 +107,15 @@ put-shown-spec =
     write-requires
     enum-known-n
     add-result
-    enum-known-n-2
+    enum-known-refusal
+    enum-known-refusal-2
     cast-put-needed
     put-needed-requires
     enum-told
     enum-told-2
     enum-told-3
     enum-told-4
+    enum-told-5
     same-length
     returns
     same-length-2
@@ -113,4 +127,6 @@ put-shown-spec =
     same-length-5
     returns-5
     same-length-6
-    returns-6)
+    returns-6
+    same-length-7
+    returns-7)
