@@ -1,6 +1,6 @@
 -- What a record asks for, with what holds of it: keyword by keyword, once; every law of a step is then by these seven cases.
 -- Assumes nothing.
-use mathlib.Core.Path.{_≡_, refl}
+use mathlib.Core.Path.{_≡_, refl, sym, subst}
 use mathlib.Core.Bool.{true, false}
 use mathlib.Core.List.{List, [], _∷_, _++_}
 use Prim.Native.Nat.{ℕ, _+_, _*_, _≤_, _<_}
@@ -44,11 +44,12 @@ use Rattle.load.specs.Condition.{fullOf, unsupportedOf, wrongSecondary, 
 use Rattle.load.specs.Item.{memory, page, pairsOf, triplesOf}
 use Rattle.load.specs.Ask.{Wipe, table, dimmers, Ask, rests, skips, opens, edits, items, clears, name}
 use Rattle.load.specs.Ask.{namedOf, namedAsk, primaryAsk, augments, timesOf, changeAsk, obeyedAsk, secondaryAsk, pageAt, pagedAsk, kindAsk, dimmersAsk}
-use Rattle.load.specs.Ask.{tablePages, mostPages, kindWipes, dimmerWipes, allWipes, allAsk, itemAsk, triplesAsk, isThree, identOutcome}
+use Rattle.load.specs.Ask.{tablePages, kindWipes, dimmerWipes, allWipes, itemAsk, triplesAsk, isThree, identOutcome}
 use Rattle.load.specs.Ask.{keywordAsk, fieldsAsk, isOverLong, askOf}
-use Rattle.load.specs.Fits.{AllFit}
+use Rattle.load.specs.Fits.{AllFit, highestPage}
 use Rattle.load.specs.Run.{conditionSpan, stops}
 use Rattle.load.proofs.Entries.{pairs-fit, triples-fit, pairs-few, triples-few}
+use Rattle.load.proofs.Tables.{all-ask}
 use Rattle.load.proofs.Read.{NamedOk, named-ok, PageIn, page-in, page-at-in, ChangeOk, ReadingOk, reading-ok}
 
 -- ---- what holds of it
@@ -173,8 +174,8 @@ module _ (d : Desk) (s : State) (n : ℕ) where
       (λ e. resting Obeyed tt)
 
   clear-deed : (i : Item) (ws : List Word) → Deed d s n (itemAsk d i ws)
-  unfolding itemAsk allAsk dimmersAsk
-  clear-deed All ws = at-deed (mostPages d) ws (allWipes d) (λ p h. all-wipes d p)
+  unfolding itemAsk dimmersAsk
+  clear-deed All ws = subst (Deed d s n) (sym (all-ask d ws)) (at-deed (highestPage d) ws (allWipes d) (λ p h. all-wipes d p))
   clear-deed Cues ws = kind-deed Cue ws
   clear-deed Groups ws = kind-deed Group ws
   clear-deed Patches ws = at-deed (d .«patch_pages») ws (λ p. dimmers p ∷ []) (λ p h. (h, tt))

@@ -4,7 +4,7 @@
 -- Assumes nothing.
 use mathlib.Core.Bool.{Bool, true, cond, _&&_}
 use mathlib.Core.List.{List, [], _∷_, _++_}
-use Prim.Native.Nat.{ℕ, max}
+use Prim.Native.Nat.{ℕ}
 use lib.Dec.{eqb, ltb, leb}
 use lib.ListN.{length}
 use Rattle.store_desk.specs.declared.Desk.{Desk}
@@ -30,7 +30,7 @@ use Rattle.value.specs.declared.Version.{Version}
 use Rattle.value.specs.declared.Version.the-variants.{Malformed as BadVersion, Value as IsVersion}
 use Rattle.value.specs.declared.Paged.{Paged}
 use Rattle.value.specs.declared.Paged.the-variants.{Bad, Value as IsPage}
-use Rattle.value.specs.Integer.{integerOf}
+use Rattle.value.specs.Integer.{cap, integerOf}
 use Rattle.value.specs.Number.{numberOf}
 use Rattle.value.specs.Time.{timeOf}
 use Rattle.value.specs.Field.{versionOf, pageOf}
@@ -191,9 +191,6 @@ dimmersAsk d ws = pagedAsk (pageAt everyPage (d .«patch_pages») ws) (λ p. dim
 unfoldable pub tablePages : Desk → Kind → ℕ
 tablePages d k = cond (supported d k) (pagesOf d k) 0
 
-unfoldable pub mostPages : Desk → ℕ
-mostPages d = max (max (tablePages d Cue) (tablePages d Group)) (max (tablePages d Sub) (d .«patch_pages»))
-
 -- CLEAR ALL with a page acts on each supported table that has that page
 unfoldable pub kindWipes : Desk → ℕ → Kind → List Wipe
 kindWipes d p k = cond (leb p (tablePages d k)) (table k p ∷ []) []
@@ -204,8 +201,18 @@ dimmerWipes d p = cond (leb p (d .«patch_pages»)) (dimmers p ∷ []) []
 unfoldable pub allWipes : Desk → ℕ → List Wipe
 allWipes d p = dimmerWipes d p ++ (kindWipes d p Cue ++ (kindWipes d p Group ++ kindWipes d p Sub))
 
+-- if no table has that page, it is wrong
+unfoldable pub wipesAsk : List Wipe → Ask
+wipesAsk [] = rests (Dropped badPage)
+wipesAsk (w ∷ ws) = clears (w ∷ ws)
+
+unfoldable pub tablesAsk : Desk → Paged → Ask
+tablesAsk d Bad = rests (Dropped badPage)
+tablesAsk d (IsPage p) = wipesAsk (allWipes d p)
+
+-- a page of any size: which tables have it is then asked
 unfoldable pub allAsk : Desk → List Word → Ask
-allAsk d ws = pagedAsk (pageAt everyPage (mostPages d) ws) (allWipes d)
+allAsk d ws = tablesAsk d (pageAt everyPage cap ws)
 
 unfoldable pub itemAsk : Desk → Item → List Word → Ask
 itemAsk d All ws = allAsk d ws

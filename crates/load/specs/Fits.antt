@@ -2,11 +2,13 @@
 -- condition fits a report. For laws and for private functions; no promise names these.
 -- Assumes nothing.
 use mathlib.Core.List.{List, [], _∷_}
-use Prim.Native.Nat.{ℕ, _<_}
+use Prim.Native.Nat.{ℕ, _<_, max}
 use Rattle.store_desk.specs.declared.Desk.{Desk}
+use Rattle.store_desk.specs.declared.Kind.the-variants.{Cue, Group, Sub}
 use Rattle.store_desk.specs.Size.{Within}
 use Rattle.load.specs.declared.Entry.{Entry}
 use Rattle.load.specs.declared.Entry.the-variants.{Level, Patch, Fault}
+use Rattle.load.specs.Ask.{tablePages}
 use Rattle.load.specs.Run.{conditionSpan}
 
 abbrev pub EntryFits : Desk → Entry → Type 0
@@ -22,3 +24,7 @@ AllFit d (e ∷ es) = EntryFits d e × AllFit d es
 unfoldable pub Small : List ℕ → Type 0
 Small [] = Unit {0}
 Small (c ∷ cs) = (c < conditionSpan) × Small cs
+
+-- the highest page that a table has: CLEAR ALL finds a table for a page up to it, and none beyond (law `all-ask`)
+unfoldable pub highestPage : Desk → ℕ
+highestPage d = max (max (tablePages d Cue) (tablePages d Group)) (max (tablePages d Sub) (d .«patch_pages»))

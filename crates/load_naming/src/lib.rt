@@ -9,7 +9,8 @@ ghost use Rattle.value.specs.Number.{numberOf};
 ghost use Rattle.value.specs.Time.{timeOf};
 ghost use Rattle.value.specs.Field.{versionOf};
 ghost use Rattle.load.specs.Condition.{fullOf, unsupportedOf};
-ghost use Rattle.load.specs.Ask.{numberedBy, subBy, numeralOf, pageAt, namedBy, namedOf, delayOf, linkBy, timesOf, augments as augmentsOf, tablePages, mostPages};
+ghost use Rattle.load.specs.Ask.{numberedBy, subBy, numeralOf, pageAt, namedBy, namedOf, delayOf, linkBy, timesOf, augments as augmentsOf, tablePages};
+ghost use Rattle.load.specs.Fits.{highestPage};
 ghost use Rattle.load_naming.specs.Line.{FieldIn, Line};
 ghost use Rattle.load_naming.specs.Times.{upBy, downBy, followonBy};
 use load::Named;
@@ -271,7 +272,7 @@ fn larger(a: u32, b: u32) -> u32
 // The pages of the table that has the most.
 pub fn most_pages(desk: Desk) -> u32
     requires { ⌜ InRange desk ⌝ }
-    ensures { λ r. ⌜ r ≡ mostPages desk ⌝ }
+    ensures { λ r. ⌜ r ≡ highestPage desk ⌝ }
 {
     let memories = larger(table_pages(desk, Kind::Cue), table_pages(desk, Kind::Group));
     larger(

@@ -58,7 +58,8 @@ use Rattle.load.specs.Condition.{fullOf, unsupportedOf, badChannel, badDimmer}
 use Rattle.load.specs.Item.{rangedOf, channelOf, dimmerOf, onRanged, onLevel, pairOf, tripleOf, pairsOf, triplesOf, faultsOf, Target, memory, page}
 use Rattle.load.specs.Ask.{name, numberedBy, subBy, numeralOf, pageAt, namedBy, namedOf, onTime, delayOf, fadeOf, linkBy, timesOf}
 use Rattle.load.specs.Step.{Step, ended, opened, openedBy}
-use Rattle.load.specs.Ask.{augments, mostPages, isThree}
+use Rattle.load.specs.Ask.{augments, isThree}
+use Rattle.load.specs.Fits.{highestPage}
 use Rattle.load.specs.Step.{settle}
 use Rattle.load.specs.Step.{skipping, stepOf, outcomeReports}
 use Rattle.load.specs.Run.{conditionSpan}
@@ -295,7 +296,7 @@ module _ (n : ℕ) where
 
   clear-said : (d : Desk) (s : State) (i : Item) (ws : List Word) (t : List ℕ) → Said (clearBy d s i ws t)
   unfolding clearBy clearAllOf clearPatchOf
-  clear-said d s All ws t = cleared-said d s (pageAt everyPage (mostPages d) ws) (λ p. clearTables d p t) t
+  clear-said d s All ws t = cleared-said d s (pageAt everyPage (highestPage d) ws) (λ p. clearTables d p t) t
   clear-said d s Cues ws t = kind-said d s Cue ws t
   clear-said d s Groups ws t = kind-said d s Group ws t
   clear-said d s Patches ws t = cleared-said d s (pageAt everyPage (d .«patch_pages») ws) (λ p. clearedPatch d t p) t

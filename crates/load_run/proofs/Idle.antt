@@ -33,7 +33,8 @@ use Rattle.load.specs.declared.Reading.{Reading}
 use Rattle.load.specs.declared.Reading.the-variants.{Wrong as Misread, Change}
 use Rattle.load.specs.Ask.{name, pageAt, namedOf, timesOf, augments}
 use Rattle.load.specs.Step.{Step, openedBy}
-use Rattle.load.specs.Ask.{mostPages, isThree, isOverLong}
+use Rattle.load.specs.Ask.{isThree, isOverLong}
+use Rattle.load.specs.Fits.{highestPage}
 use Rattle.load.specs.Step.{stepOf, recordStep}
 use Rattle.load.specs.Run.{obeyed, classOf}
 
@@ -88,7 +89,7 @@ module _ (t : List ℕ) where
 
   clear-idle : (d : Desk) (s : State) (i : Item) (ws : List Word) → Idle t (clearBy d s i ws t)
   unfolding clearBy clearAllOf clearPatchOf
-  clear-idle d s All ws = cleared-idle d s (pageAt everyPage (mostPages d) ws) (λ p. clearTables d p t)
+  clear-idle d s All ws = cleared-idle d s (pageAt everyPage (highestPage d) ws) (λ p. clearTables d p t)
   clear-idle d s Cues ws = kind-idle d s Cue ws
   clear-idle d s Groups ws = kind-idle d s Group ws
   clear-idle d s Patches ws = cleared-idle d s (pageAt everyPage (d .«patch_pages») ws) (λ p. clearedPatch d t p)

@@ -5,7 +5,6 @@ use mathlib.Core.Bool.{Bool, true, false}
 use mathlib.Core.List.{List, [], _∷_, _++_}
 use Prim.Native.Nat.{ℕ, _≤_, _<_}
 use native.Mathlib.Omega.{arith}
-use borrow.Author.Tests.{le-leb, lt-leb}
 use Rattle.cells.proofs.Split.{by-test, cond-true, cond-false}
 use Rattle.store_desk.specs.declared.Desk.{Desk}
 use Rattle.store_desk.specs.declared.Kind.{Kind}
@@ -23,8 +22,10 @@ use Rattle.store.specs.Change.{everyPage, cleared, clearedPatch}
 use Rattle.load.specs.declared.State.{State}
 use Rattle.load.specs.declared.Outcome.the-variants.{Dropped, Obeyed}
 use Rattle.load.specs.Condition.{badPage}
-use Rattle.load.specs.Ask.{Wipe, table, dimmers, rests, clears, pageAt, pagedAsk, kindAsk, dimmersAsk, tablePages, mostPages}
+use Rattle.load.specs.Ask.{Wipe, table, dimmers, rests, clears, pageAt, pagedAsk, kindAsk, dimmersAsk, tablePages}
+use Rattle.load.specs.Fits.{highestPage}
 use Rattle.load.specs.Ask.{kindWipes, dimmerWipes, allWipes, allAsk, itemAsk, clearAsk}
+use Rattle.load.proofs.Tables.{kind-has, kind-lacks, dimmers-have as patch-has, dimmers-lack as patch-lacks, all-ask}
 use Rattle.load.specs.Step.{ended, settle, wiped, acted}
 use Rattle.load.proofs.Wiped.{wiped-join}
 use Rattle.load_naming.specs.Line.{Line}
@@ -84,9 +85,8 @@ pub dimmers-as : (d : Desk) (ws : List Word) {x : Paged} → x ≡ pageAt everyP
 unfolding dimmersAsk
 dimmers-as d ws g = ap (λ (y : Paged). pagedAsk y onePatch) g
 
-pub all-as : (d : Desk) (ws : List Word) {limit : ℕ} {x : Paged} → limit ≡ mostPages d → x ≡ pageAt everyPage limit ws → pagedAsk x (allWipes d) ≡ allAsk d ws
-unfolding allAsk
-all-as d ws l g = ap (λ (y : Paged). pagedAsk y (allWipes d)) (g ∙ ap (λ (y : ℕ). pageAt everyPage y ws) l)
+pub all-as : (d : Desk) (ws : List Word) {limit : ℕ} {x : Paged} → limit ≡ highestPage d → x ≡ pageAt everyPage limit ws → pagedAsk x (allWipes d) ≡ allAsk d ws
+all-as d ws l g = ap (λ (y : Paged). pagedAsk y (allWipes d)) (g ∙ ap (λ (y : ℕ). pageAt everyPage y ws) l) ∙ sym (all-ask d ws)
 
 -- ---- what the store does with it
 module _ (d : Desk) (s : State) (t : List ℕ) {u : List ℕ} {r : Stepped} (z : stepping r u ≡ steppedOf d (ended (settle d s u) Obeyed u)) where
@@ -105,21 +105,21 @@ module _ (d : Desk) (s : State) (t : List ℕ) {u : List ℕ} {r : Stepped} (z :
 -- ---- a table that has the page, and one that has it not
 module _ (d : Desk) (k : Kind) (p : ℕ) (t : List ℕ) {n : ℕ} (e : n ≡ tablePages d k) where
   pub table-has : {u : List ℕ} → p ≤ n → u ≡ cleared d t k p → u ≡ wiped d (kindWipes d p k) t
-  unfolding wiped kindWipes
-  table-has h q = q ∙ sym (ap (λ (xs : List Wipe). wiped d xs t) (cond-true _ (oneTable k p) [] (le-leb p (tablePages d k) (subst (λ (m : ℕ). p ≤ m) e h))))
+  unfolding wiped
+  table-has h q = q ∙ sym (ap (λ (xs : List Wipe). wiped d xs t) (kind-has d p k (subst (λ (m : ℕ). p ≤ m) e h)))
 
   pub table-lacks : n < p → t ≡ wiped d (kindWipes d p k) t
-  unfolding wiped kindWipes
-  table-lacks h = sym (ap (λ (xs : List Wipe). wiped d xs t) (cond-false _ (oneTable k p) [] (lt-leb p (tablePages d k) (subst (λ (m : ℕ). m < p) e h))))
+  unfolding wiped
+  table-lacks h = sym (ap (λ (xs : List Wipe). wiped d xs t) (kind-lacks d p k (subst (λ (m : ℕ). m < p) e h)))
 
 module _ (d : Desk) (p : ℕ) (t : List ℕ) where
   pub dimmers-have : {u : List ℕ} → p ≤ d .«patch_pages» → u ≡ clearedPatch d t p → u ≡ wiped d (dimmerWipes d p) t
-  unfolding wiped dimmerWipes
-  dimmers-have h q = q ∙ sym (ap (λ (xs : List Wipe). wiped d xs t) (cond-true _ (onePatch p) [] (le-leb p (d .«patch_pages») h)))
+  unfolding wiped
+  dimmers-have h q = q ∙ sym (ap (λ (xs : List Wipe). wiped d xs t) (patch-has d p h))
 
   pub dimmers-lack : d .«patch_pages» < p → t ≡ wiped d (dimmerWipes d p) t
-  unfolding wiped dimmerWipes
-  dimmers-lack h = sym (ap (λ (xs : List Wipe). wiped d xs t) (cond-false _ (onePatch p) [] (lt-leb p (d .«patch_pages») h)))
+  unfolding wiped
+  dimmers-lack h = sym (ap (λ (xs : List Wipe). wiped d xs t) (patch-lacks d p h))
 
   pub tables-are : {a b c u : List ℕ} → a ≡ wiped d (dimmerWipes d p) t → b ≡ wiped d (kindWipes d p Cue) a
       → c ≡ wiped d (kindWipes d p Group) b → u ≡ wiped d (kindWipes d p Sub) c → u ≡ wiped d (allWipes d p) t

@@ -1,7 +1,7 @@
 -- One record on two desks, a smaller and a larger one: what it asks of the one has to do with what it asks of the other. Keyword by keyword,
 -- once; the views, the dimmers and the end of the load are then by these cases.
 -- Assumes nothing.
-use mathlib.Core.Path.{_≡_, refl}
+use mathlib.Core.Path.{_≡_, refl, sym, subst}
 use mathlib.Core.Bool.{Bool, true, false, cond}
 use mathlib.Core.List.{List, [], _∷_}
 use Prim.Native.Nat.{ℕ, _<_}
@@ -38,7 +38,8 @@ use Rattle.load.specs.Condition.{badPage, unsupportedOf, wrongSecondary, badPat
 use Rattle.load.specs.Item.{memory, page, pairsOf, triplesOf}
 use Rattle.load.specs.Ask.{Wipe, table, dimmers, Ask, rests, skips, opens, edits, items, clears, name}
 use Rattle.load.specs.Ask.{namedBy, namedOf, namedAsk, primaryAsk, augments, timesOf, changeAsk, obeyedAsk, secondaryAsk, pageAt, pagedAsk}
-use Rattle.load.specs.Ask.{kindAsk, dimmersAsk, mostPages, allWipes, allAsk, itemAsk, triplesAsk, keywordAsk, fieldsAsk, isOverLong, askOf}
+use Rattle.load.specs.Ask.{kindAsk, dimmersAsk, allWipes, itemAsk, triplesAsk, keywordAsk, fieldsAsk, isOverLong, askOf}
+use Rattle.load.specs.Fits.{highestPage}
 use Rattle.load.specs.Run.{stops}
 use Rattle.theorem_rehearse.specs.Rehearse.{Larger}
 use Rattle.theorem_rehearse.specs.Frame.{changesDimmer, targetsDimmer}
@@ -46,6 +47,7 @@ use Rattle.theorem_rehearse.proofs.Fields.{by-tests, Pages, bad-pages, 
 use Rattle.theorem_rehearse.proofs.Fields.{Numerals, wrong-numbers, beyond-number, same-number, numerals}
 use Rattle.theorem_rehearse.proofs.Fields.{not-supported, not-within, not-page, more-pages, supports, more-most}
 use Rattle.theorem_rehearse.proofs.Items.{Pairs, Triples, Each, pairs, triples}
+use Rattle.load.proofs.Tables.{all-ask}
 use Rattle.theorem_rehearse.proofs.Wipes.{Wipes, none, both, right, kindless, pageless, dimmerless, all-wipes, all-beyond}
 use Rattle.theorem_rehearse.proofs.Opens.{Opens, nothing-open, skips-nothing, skips-both, skips-other, same-open}
 
@@ -187,12 +189,16 @@ module _ (d D : Desk) (l : Larger d D) (b : Name → Bool) where
         (λ e E. paged-right k e (pageAt everyPage (pagesOf D k) ws))
         (λ E. resting Obeyed Obeyed refl)
 
+    both-as : {a b A B : Ask} → a ≡ b → A ≡ B → Related b B → Related a A
+    both-as {a} {b} {A} {B} e E h = subst (λ (x : Ask). Related x A) (sym e) (subst (λ (x : Ask). Related b x) (sym E) h)
+
     clear-both : (i : Item) (ws : List Word) → Related (itemAsk d i ws) (itemAsk D i ws)
-    unfolding itemAsk allAsk dimmersAsk
+    unfolding itemAsk dimmersAsk
     clear-both All ws =
-        paged-both (pages-at (mostPages d) (mostPages D) (more-most d D l) everyPage ws) (allWipes d) (allWipes D)
+        both-as (all-ask d ws) (all-ask D ws)
+        (paged-both (pages-at (highestPage d) (highestPage D) (more-most d D l) everyPage ws) (allWipes d) (allWipes D)
         (λ p h. all-beyond d D l p h)
-        (λ p. all-wipes d D l p)
+        (λ p. all-wipes d D l p))
     clear-both Cues ws = kind-both Cue ws
     clear-both Groups ws = kind-both Group ws
     clear-both Patches ws =

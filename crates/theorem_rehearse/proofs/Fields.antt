@@ -28,7 +28,8 @@ use Rattle.value.specs.Field.{pagedOf, pageOf}
 use Rattle.load.specs.declared.Numeral.{Numeral}
 use Rattle.load.specs.declared.Numeral.the-variants.{Wrong, Number}
 use Rattle.load.specs.Condition.{badSub}
-use Rattle.load.specs.Ask.{name, numberedBy, subBy, numeralOf, pageAt, tablePages, mostPages}
+use Rattle.load.specs.Ask.{name, numberedBy, subBy, numeralOf, pageAt, tablePages}
+use Rattle.load.specs.Fits.{highestPage}
 use Rattle.theorem_rehearse.specs.Rehearse.{Larger}
 
 -- ---- a test that holds on the larger desk where it holds on the smaller: on both, on the larger alone, on neither
@@ -150,17 +151,7 @@ module _ (d D : Desk) (l : Larger d D) where
   most-more : (a b A B : ℕ) → a ≤ A → b ≤ B → max a b ≤ max A B
   most-more a b A B h g = omega arith
 
-  pub more-most : mostPages d ≤ mostPages D
-  unfolding mostPages
+  pub more-most : highestPage d ≤ highestPage D
+  unfolding highestPage
   more-most =
       most-more _ _ _ _ (most-more _ _ _ _ (more-tables Cue) (more-tables Group)) (most-more _ _ _ _ (more-tables Sub) (l .patchPages))
-
-pub table-most : (d : Desk) (k : Kind) → tablePages d k ≤ mostPages d
-unfolding mostPages
-table-most d Cue = omega arith
-table-most d Group = omega arith
-table-most d Sub = omega arith
-
-pub patch-most : (d : Desk) → d .«patch_pages» ≤ mostPages d
-unfolding mostPages
-patch-most d = omega arith

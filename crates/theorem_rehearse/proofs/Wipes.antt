@@ -7,8 +7,8 @@ use mathlib.Core.List.{List, [], _∷_, _++_}
 use Prim.Native.Nat.{ℕ, _≤_, _<_}
 use native.Mathlib.Omega.{arith}
 use lib.Dec.{eqb, leb}
-use borrow.Author.Tests.{leb-true, leb-false, le-leb, lt-leb, eqb-true, ne-eqb}
-use Rattle.cells.proofs.Split.{by-bool, cond-true, cond-false, clash, and-left, and-right, by-or, or-false}
+use borrow.Author.Tests.{leb-true, leb-false, le-leb, eqb-true, ne-eqb}
+use Rattle.cells.proofs.Split.{by-bool, cond-true, clash, and-left, and-right, by-or, or-false}
 use Rattle.store_desk.specs.declared.Desk.{Desk}
 use Rattle.store_desk.specs.declared.Kind.{Kind}
 use Rattle.store_desk.specs.declared.Kind.the-variants.{Cue, Group, Sub}
@@ -16,10 +16,12 @@ use Rattle.store_desk.specs.Size.{Within}
 use Rattle.store_desk.specs.Name.{Name, eqKind, pagesOf, supported, okName}
 use Rattle.store_desk.proofs.Name.{eq-kind, ok-supported, ok-page}
 use Rattle.store.specs.Change.{everyPage, onPage, hits}
-use Rattle.load.specs.Ask.{Wipe, table, dimmers, tablePages, mostPages, kindWipes, dimmerWipes, allWipes}
+use Rattle.load.specs.Ask.{Wipe, table, dimmers, tablePages, kindWipes, dimmerWipes, allWipes}
+use Rattle.load.specs.Fits.{highestPage}
 use Rattle.theorem_rehearse.specs.Rehearse.{Larger}
 use Rattle.theorem_rehearse.specs.Frame.{wipesMemory, wipesDimmers}
-use Rattle.theorem_rehearse.proofs.Fields.{by-tests, more-tables, table-most, patch-most}
+use Rattle.load.proofs.Tables.{wipes-none}
+use Rattle.theorem_rehearse.proofs.Fields.{by-tests, more-tables}
 
 -- it removes nothing that the desk can have
 abbrev Beyond : Desk → Wipe → Type 0
@@ -110,14 +112,5 @@ module _ (d D : Desk) (l : Larger d D) (p : ℕ) where
       (joined d (kind-wipes Cue) (joined d (kind-wipes Group) (kind-wipes Sub)))
 
   -- a page beyond all tables
-  none-here : (w : Wipe) (limit : ℕ) → limit ≤ mostPages d → mostPages d < p → cond (leb p limit) (w ∷ []) [] ≡ []
-  none-here w limit m h = cond-false (leb p limit) (w ∷ []) [] (lt-leb p limit (omega arith))
-
-  no-kind : mostPages d < p → (k : Kind) → kindWipes d p k ≡ []
-  unfolding kindWipes
-  no-kind h k = none-here (table k p) (tablePages d k) (table-most d k) h
-
-  pub all-beyond : mostPages d < p → Wipes d [] (allWipes D p)
-  unfolding allWipes dimmerWipes
-  all-beyond h =
-      rw (none-here (dimmers p) (d .«patch_pages») (patch-most d) h, no-kind h Cue, no-kind h Group, no-kind h Sub) at all-wipes
+  pub all-beyond : highestPage d < p → Wipes d [] (allWipes D p)
+  all-beyond h = rw (wipes-none d p h) at all-wipes

@@ -5,8 +5,6 @@ use mathlib.Core.Bool.{true}
 use mathlib.Core.List.{List, [], _∷_, _++_}
 use Prim.Native.Nat.{ℕ, _≤_}
 use native.Mathlib.Omega.{arith}
-use lib.Dec.{leb}
-use borrow.Author.Tests.{le-leb}
 use Rattle.cells.proofs.Split.{by-bool, cond-true, cond-false, and-true}
 use Rattle.store_desk.specs.declared.Desk.{Desk}
 use Rattle.store_desk.specs.declared.Kind.{Kind}
@@ -18,8 +16,9 @@ use Rattle.store.specs.Change.{everyPage, hits, cleared, clearedPatch}
 use Rattle.store.specs.Good.{Ready}
 use Rattle.store.proofs.Clear.{clear-length, clear-patch, clear-tail, clear-view, clear-good}
 use Rattle.store.proofs.Patches.{same-patch, clear-patch-view, clear-patch-length, clear-patch-tail, clear-patch-good}
-use Rattle.load.specs.Ask.{Wipe, table, dimmers, tablePages, kindWipes, dimmerWipes, allWipes}
+use Rattle.load.specs.Ask.{Wipe, table, dimmers, kindWipes, allWipes}
 use Rattle.load.specs.Step.{wiped}
+use Rattle.load.proofs.Tables.{kind-has, dimmers-have}
 use Rattle.theorem_same_show.proofs.Changed.{Beside, beside-next}
 use Rattle.theorem_same_show.proofs.Patching.{Patching}
 
@@ -48,17 +47,11 @@ module _ (d : Desk) (t : List ℕ) (r : Ready d t) (k : Kind) where
       }
 
 -- ---- all of it
-kind-wipes : (d : Desk) (k : Kind) → kindWipes d everyPage k ≡ table k everyPage ∷ []
-unfolding kindWipes
-kind-wipes d k = cond-true (leb 0 (tablePages d k)) (table k everyPage ∷ []) [] (le-leb 0 (tablePages d k) (omega arith))
-
-dimmer-wipes : (d : Desk) → dimmerWipes d everyPage ≡ dimmers everyPage ∷ []
-unfolding dimmerWipes
-dimmer-wipes d = cond-true (leb 0 (d .«patch_pages»)) (dimmers everyPage ∷ []) [] (le-leb 0 (d .«patch_pages») (omega arith))
-
 all-wipes : (d : Desk) → allWipes d everyPage ≡ dimmers everyPage ∷ (table Cue everyPage ∷ (table Group everyPage ∷ (table Sub everyPage ∷ [])))
 unfolding allWipes
-all-wipes d = λ i. dimmer-wipes d i ++ (kind-wipes d Cue i ++ (kind-wipes d Group i ++ kind-wipes d Sub i))
+all-wipes d =
+    let kind : (k : Kind) → kindWipes d everyPage k ≡ table k everyPage ∷ [] = λ k. kind-has d everyPage k (omega arith) in
+    λ i. dimmers-have d everyPage (omega arith) i ++ (kind Cue i ++ (kind Group i ++ kind Sub i))
 
 module _ (d : Desk) (t : List ℕ) (r : Ready d t) where
   abbrev bare₀ : List ℕ

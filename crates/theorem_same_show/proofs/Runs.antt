@@ -17,7 +17,8 @@ use Rattle.value.specs.Field.{versionedOf, versionOf}
 use Rattle.load.specs.declared.State.{State}
 use Rattle.load.specs.declared.Outcome.the-variants.{Obeyed, Stopped}
 use Rattle.store.specs.Change.{everyPage}
-use Rattle.load.specs.Ask.{pageAt, pagedAsk, allWipes, allAsk, itemAsk, identOutcome, keywordAsk, fieldsAsk, askOf}
+use Rattle.load.specs.Ask.{pageAt, pagedAsk, allWipes, itemAsk, identOutcome, keywordAsk, fieldsAsk, askOf}
+use Rattle.load.proofs.Tables.{all-ask}
 use Rattle.load.specs.Step.{Step, ended, nothingOpen, acted, wiped, recordStep, settleBy, ignoredIn, conditionsOf, outcomeReports}
 use Rattle.load.specs.Run.{reportsAt, stops, Run, only, andThen, runFrom, allReports, blank, passed, dropped, obeyed, classOf, eqClass, tallyOf, lastOf, closingOf, totalsOf}
 use Rattle.theorem_same_show.proofs.Fair.{isFair, Fair, AllFair}
@@ -29,8 +30,8 @@ unfolding recordStep askOf acted fieldsAsk keywordAsk identOutcome fieldsOf word
 ident-does d s t = record { fair = refl; quiet = refl; step = refl }
 
 pub clear-does : (d : Desk) (t : List ℕ) → Does d nothingOpen t (bytes "CLEAR ALL") nothingOpen (wiped d (allWipes d everyPage) t)
-unfolding recordStep askOf acted fieldsAsk keywordAsk itemAsk allAsk pagedAsk pageAt settleBy fieldsOf wordsOf wordsIn isDelimiter span has keptFrom isHigh isControl isMark keywordOf meaningOf keywordRows sameWord sameText upper itemOf itemRows ignoredIn isFair
-clear-does d t = record { fair = refl; quiet = refl; step = refl }
+unfolding recordStep askOf acted fieldsAsk keywordAsk itemAsk pagedAsk pageAt settleBy fieldsOf wordsOf wordsIn isDelimiter span has keptFrom isHigh isControl isMark keywordOf meaningOf keywordRows sameWord sameText upper itemOf itemRows ignoredIn isFair
+clear-does d t = record { fair = refl; quiet = refl; step = ap (acted d nothingOpen t) (all-ask d []) }
 
 end-step : (d : Desk) (s : State) (t : List ℕ) → recordStep d s (bytes "ENDDATA") t ≡ ended s (Stopped 0) t
 unfolding recordStep askOf acted fieldsAsk keywordAsk fieldsOf wordsOf wordsIn isDelimiter span has keptFrom isHigh isControl isMark keywordOf meaningOf keywordRows sameWord sameText upper

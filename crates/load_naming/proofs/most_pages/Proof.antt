@@ -1,7 +1,7 @@
 -- `most_pages` meets its contract.
 -- Assumes nothing.
 use borrow.Author.Needs.{needs}
-use Rattle.load.specs.Ask.{mostPages}
+use Rattle.load.specs.Fits.{highestPage}
 use Rattle.load_naming.proofs.most_pages.Statement.{statement}
 use Rattle.load_naming.proofs.most_pages.Tie as tie
 
@@ -24,7 +24,7 @@ larger-requires-3 : tie.Need-larger-requires-3
 larger-requires-3 c κs = search needs
 
 returns : tie.Need-returns
-unfolding mostPages
+unfolding highestPage
 returns c = cc
 
 pub most-pages-spec : {M : Type 1} → statement M
