@@ -15,7 +15,7 @@ use Rattle.store_desk.specs.declared.Desk.{Desk}
 use Rattle.store_desk.specs.declared.Key.{Key}
 use Rattle.store_desk.specs.declared.Kind.{Kind}
 use Rattle.store_desk.specs.declared.Kind.the-variants.{Cue, Group, Sub}
-use Rattle.store_desk.specs.Size.{entryLength, slotLength, levelsLength, patchStart, entriesOf}
+use Rattle.store_desk.specs.Size.{headLength, entryLength, slotLength, levelsLength, patchStart, entriesOf}
 use Rattle.store_desk.specs.Name.{Name, firstSlot, slotCount, entryOf, pagesOf, supported}
 use Rattle.store_head.specs.declared.Head.{Head}
 use Rattle.store_head.specs.Pack.{Bytes}
@@ -35,7 +35,7 @@ use Rattle.value.specs.declared.Version.the-variants.{Malformed as BadVersion, 
 use Rattle.value.specs.Field.{versionOf, pageOf}
 use Rattle.store.specs.declared.Edit.{Edit}
 use Rattle.store.specs.declared.Edit.the-variants.{Up as SetUp, Down as SetDown, Followon as SetFollowon, Link as SetLink, Level as SetLevel}
-use Rattle.store.specs.Slots.{slotAt, putSlot, putEntry, levelPlace, find, onFound}
+use Rattle.store.specs.Slots.{slotAt, putSlot, putEntry, levelStart, find, onFound}
 use Rattle.store.specs.Change.{seat, blankHead, blankSlot, started, withHead, editSlot, editAt, edited, patchEntry, patched}
 use Rattle.store.specs.Change.{everyPage, hitsAt, clearFrom, cleared, patchPageLength, clearedPatch}
 use Rattle.store.proofs.Loss.{bytes-take, bytes-drop}
@@ -123,7 +123,7 @@ slot-kept d (SetUp fade delay) o f = placed 0 f (head _)
 slot-kept d (SetDown fade delay) o f = placed 0 f (head _)
 slot-kept d (SetFollowon time) o f = placed 0 f (head _)
 slot-kept d (SetLink whole fraction) o f = placed 0 f (head _)
-slot-kept d (SetLevel channel v) o {x} f = record { bytes = set-bytes x (levelPlace d channel) v (f .bytes) o }
+slot-kept d (SetLevel channel v) o {x} f = joined (front headLength f) (record { bytes = set-bytes (drop headLength x) (levelStart d channel) v (rest headLength f .bytes) o })
 
 module _ (d : Desk) {s : List ℕ} (b : Octets s) where
   start-kept : (n : Name) → Octets (started d s n)
