@@ -3,12 +3,13 @@
 use mathlib.Core.Path.{_≡_, refl, sym, ap, _∙_, subst}
 use mathlib.Core.Bool.{Bool, true, false, cond, _&&_}
 use mathlib.Core.List.{List, [], _∷_, _++_}
-use Prim.Native.Nat.{ℕ, _+_, _-_, _*_, _<_, _≤_}
+use Prim.Native.Nat.{ℕ, _+_, _-_, _<_, _≤_}
 use native.Mathlib.Omega.{arith}
 use lib.Dec.{eqb, leb}
-use lib.ListN.{length, drop, set, length-append, length-drop, length-set}
-use lib.Seq.{drop-at, take-set-le, drop-set-add}
+use lib.ListN.{length, take, drop, length-append, length-drop, length-set}
+use lib.Seq.{length-take-le, take-at, drop-at}
 use borrow.Author.Tests.{le-leb}
+use Rattle.cells.specs.Put.{put}
 use Rattle.cells.specs.Search.{Found, at, nowhere}
 use Rattle.cells.proofs.Search.{first-same}
 use Rattle.cells.proofs.Put.{put-zero}
@@ -18,7 +19,7 @@ use Rattle.store_desk.specs.declared.Desk.{Desk}
 use Rattle.store_desk.specs.declared.Key.{Key}
 use Rattle.store_desk.specs.declared.Kind.{Kind}
 use Rattle.store_desk.specs.declared.Kind.the-variants.{Cue, Group, Sub}
-use Rattle.store_desk.specs.Size.{headLength, levelWidth, slotLength, slotsOf, storeLength}
+use Rattle.store_desk.specs.Size.{headLength, slotLength, slotsOf, storeLength}
 use Rattle.store_desk.specs.Name.{Name, firstSlot, slotCount, kindAt, eqKey, eqName, okNumber}
 use Rattle.store_desk.proofs.Name.{eq-name, ok-number}
 use Rattle.store_head.specs.declared.Head.{Head}
@@ -26,20 +27,21 @@ use Rattle.store_head.specs.Layout.{HeadFits, encodeHead, decodeHead}
 use Rattle.store_head.proofs.Laws.{decode-encode, length-encode, decode-take, decode-fits}
 use Rattle.store.specs.declared.Edit.{Edit}
 use Rattle.store.specs.declared.Edit.the-variants.{Up, Down, Followon, Link, Level}
-use Rattle.store.specs.Slots.{slotAt, entryAt, headAt, levelPlace, keyOf, isUsed, holdsAt, find, onFound}
+use Rattle.store.specs.Slots.{slotAt, entryAt, headAt, levelPlace, putLevel, keyOf, isUsed, holdsAt, find, onFound}
 use Rattle.store.specs.View.{Memory, Kept, absent, kept, memoryAt, memoryOf}
 use Rattle.store.specs.Change.{editHead, withHead, editSlot, editAt, edited}
 use Rattle.store.specs.Form.{hasTimes, hasLink, timeFits, linkFits, valuesFit}
 use Rattle.store.specs.Memories.{memoryIn, editLevels, editMemory, mapKept, has, EditFits, InTime}
 use Rattle.store.specs.Good.{Ready}
 use Rattle.store.proofs.Places.{slot-length, put-length, slot-same, slot-other, slot-patch, slot-tail}
+use Rattle.store.proofs.Levels.{level-slot}
 use Rattle.store.proofs.Find.{memory-in, holds-same, Placed, put-view, put-find}
 use Rattle.store.proofs.Form.{used-values, placed-found, put-good}
 use Rattle.store.proofs.Start.{found-used, found-ok, place-found, absent-at}
 
 -- ---- a changed head: it is used as before, under the same key, and fits
 pub edit-used : (e : Edit) (h : Head) → editHead e h .used ≡ h .used
-unfolding editHead
+unfolding editHead put
 edit-used (Up f y) h = refl
 edit-used (Down f y) h = refl
 edit-used (Followon t) h = refl
@@ -47,7 +49,7 @@ edit-used (Link w f) h = refl
 edit-used (Level c v) h = refl
 
 pub edit-key : (e : Edit) (h : Head) → keyOf (editHead e h) ≡ keyOf h
-unfolding editHead
+unfolding editHead put
 edit-key (Up f y) h = refl
 edit-key (Down f y) h = refl
 edit-key (Followon t) h = refl
@@ -55,7 +57,7 @@ edit-key (Link w f) h = refl
 edit-key (Level c v) h = refl
 
 pub edit-fits : (e : Edit) (h : Head) → HeadFits h → EditFits e → HeadFits (editHead e h)
-unfolding editHead
+unfolding editHead put
 edit-fits (Up a y) h f g = omega arith
 edit-fits (Down a y) h f g = omega arith
 edit-fits (Followon t) h f g = omega arith
@@ -95,21 +97,22 @@ edit-length d (Up f y) x l = with-length (Up f y) x l
 edit-length d (Down f y) x l = with-length (Down f y) x l
 edit-length d (Followon t) x l = with-length (Followon t) x l
 edit-length d (Link w f) x l = with-length (Link w f) x l
-edit-length d (Level c v) x l = length-set x (levelPlace d c) v
+edit-length d (Level c v) x l = ap length (sym (level-slot d c v x)) ∙ length-set x (levelPlace d c) v
 
-pub edit-memory : (d : Desk) (e : Edit) (x : List ℕ) → EditFits e → memoryIn (editSlot d e x) ≡ editMemory d e (memoryIn x)
-unfolding editSlot editMemory editLevels memoryIn levelPlace editHead
-edit-memory d (Up f y) x g = with-memory (Up f y) x g
-edit-memory d (Down f y) x g = with-memory (Down f y) x g
-edit-memory d (Followon t) x g = with-memory (Followon t) x g
-edit-memory d (Link w f) x g = with-memory (Link w f) x g
-edit-memory d (Level c v) x g =
-    let k = (c - 1) * levelWidth d in
-    let l : headLength ≤ headLength + k = omega arith in
-    let h : decodeHead (set x (headLength + k) v) ≡ decodeHead x =
-    sym (decode-take (set x (headLength + k) v)) ∙ ap decodeHead (take-set-le headLength x (headLength + k) v l) ∙ decode-take x
+pub edit-memory : (d : Desk) (e : Edit) (x : List ℕ) → headLength ≤ length x → EditFits e → memoryIn (editSlot d e x) ≡ editMemory d e (memoryIn x)
+unfolding editSlot editMemory editLevels memoryIn editHead put
+edit-memory d (Up f y) x l g = with-memory (Up f y) x g
+edit-memory d (Down f y) x l g = with-memory (Down f y) x g
+edit-memory d (Followon t) x l g = with-memory (Followon t) x g
+edit-memory d (Link w f) x l g = with-memory (Link w f) x g
+edit-memory d (Level c v) x l g =
+    let h = take headLength x in
+    let ls = putLevel d (drop headLength x) c v in
+    let n : length h ≡ headLength = length-take-le headLength x l in
+    let e : decodeHead (h ++ ls) ≡ decodeHead x =
+    sym (decode-take (h ++ ls)) ∙ ap decodeHead (take-at h ls headLength n) ∙ decode-take x
     in
-    λ i. record { head = h i; levels = drop-set-add headLength x k v i }
+    λ i. record { head = e i; levels = drop-at h ls headLength n i }
 
 -- ---- changed in the store
 pub edited-at : (d : Desk) (s : List ℕ) (n : Name) (e : Edit) (i : ℕ) → find d s n ≡ at i → edited d s n e ≡ editAt d s i e
@@ -142,7 +145,7 @@ module _ (d : Desk) (s : List ℕ) (r : Ready d s) (n : Name) (e : Edit) (g : Ed
 
     head-there : decodeHead x ≡ editHead e (headAt d s i)
     unfolding x editMemory memoryIn headAt
-    head-there = ap (λ (z : Memory). z .head) (edit-memory d e (slotAt d s i) g)
+    head-there = ap (λ (z : Memory). z .head) (edit-memory d e (slotAt d s i) (slot-long i inside) g)
 
     used-there : isUsed (decodeHead x) ≡ true
     used-there = ap isUsed head-there ∙ ap (λ (z : ℕ). eqb z 1) (edit-used e (headAt d s i)) ∙ found-used d s n i f .1
@@ -159,7 +162,7 @@ module _ (d : Desk) (s : List ℕ) (r : Ready d s) (n : Name) (e : Edit) (g : Ed
   edit-at-view i f m =
       ap (λ (t : List ℕ). memoryOf d t m) (edited-at d s n e i f)
       ∙ put-view d s (r .long) n i (placed i f) (x i f) (length-there i f) (used-there i f) (key-there i f) m
-      ∙ ap (λ (z : Memory). cond (eqName m n) (kept z) (memoryOf d s m)) (edit-memory d e (slotAt d s i) g)
+      ∙ ap (λ (z : Memory). cond (eqName m n) (kept z) (memoryOf d s m)) (edit-memory d e (slotAt d s i) (slot-long i (inside i f)) g)
 
   pub edit-view : (m : Name) → memoryOf d (edited d s n e) m ≡ cond (eqName m n) (mapKept (editMemory d e) (memoryOf d s n)) (memoryOf d s m)
   edit-view m = cases (find d s n) refl
@@ -229,7 +232,7 @@ module _ (d : Desk) (s : List ℕ) (long : storeLength d ≤ length s) (i : ℕ)
   unfolding editAt headAt editMemory memoryIn
   edit-at-head =
       ap decodeHead (slot-same d s long i h (editSlot d e (slotAt d s i)) change-length)
-      ∙ ap (λ (z : Memory). z .head) (edit-memory d e (slotAt d s i) g)
+      ∙ ap (λ (z : Memory). z .head) (edit-memory d e (slotAt d s i) long-slot g)
 
   edit-at-holds : (key : Key) (j : ℕ) → holdsAt d (editAt d s i e) key j ≡ holdsAt d s key j
   unfolding holdsAt
@@ -319,7 +322,7 @@ time-set : (can : Bool) (t : ℕ) → can ≡ true → t ≤ timeMax → timeFit
 time-set can t c l = and-true can (leb t timeMax) c (le-leb t timeMax l)
 
 pub edit-values : (k : Kind) (e : Edit) (h : Head) → valuesFit k h ≡ true → has k e ≡ true → InTime e → valuesFit k (editHead e h) ≡ true
-unfolding has editHead linkFits
+unfolding has editHead put linkFits
 edit-values k (Up f y) h v c t =
     let w = values-of k h v in
     of-values k (editHead (Up f y) h)

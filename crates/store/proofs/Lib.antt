@@ -1,4 +1,5 @@
 pub mod Places
+pub mod Levels
 pub mod Find
 pub mod Form
 pub mod First

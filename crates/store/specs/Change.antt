@@ -2,24 +2,24 @@
 -- conditions", Primaries, CHAN, UP, DOWN, FOLLOWON, LINK, PATCH, CLEAR).
 -- Assumes nothing.
 use mathlib.Core.Bool.{Bool, cond, not, _&&_, _||_}
-use mathlib.Core.List.{List, _++_}
+use mathlib.Core.List.{List, [], _∷_, _++_}
 use Prim.Native.Nat.{ℕ, zero, suc, _+_, _-_, _*_}
 use lib.Dec.{eqb}
-use lib.ListN.{replicate, set}
+use lib.ListN.{take, drop, replicate}
 use Rattle.cells.specs.Put.{put}
 use Rattle.cells.specs.Search.{Found, at, firstFrom}
 use Rattle.store_desk.specs.declared.Desk.{Desk}
 use Rattle.store_desk.specs.declared.Key.{Key}
 use Rattle.store_desk.specs.declared.Kind.{Kind}
 use Rattle.store_desk.specs.declared.Kind.the-variants.{Cue, Group, Sub}
-use Rattle.store_desk.specs.Size.{entryLength, slotLength, levelsLength, patchStart, entriesOf, storeLength}
+use Rattle.store_desk.specs.Size.{headLength, entryLength, slotLength, levelsLength, patchStart, entriesOf, storeLength}
 use Rattle.store_desk.specs.Name.{Name, eqKind, firstSlot, slotCount, subSlot, entryOf}
 use Rattle.store_head.specs.declared.Head.{Head}
 use Rattle.store_head.specs.declared.Patch.{Patch}
-use Rattle.store_head.specs.Layout.{decodeHead, encodeHead, encodePatch}
+use Rattle.store_head.specs.Layout.{linkAt, upAt, downAt, followonAt, headValues, headOf, decodeHead, encodeHead, encodePatch}
 use Rattle.store.specs.declared.Edit.{Edit}
 use Rattle.store.specs.declared.Edit.the-variants.{Up, Down, Followon, Link, Level}
-use Rattle.store.specs.Slots.{slotAt, putSlot, putEntry, headAt, levelPlace, isUsed, find, onFound}
+use Rattle.store.specs.Slots.{slotAt, putSlot, putEntry, headAt, putLevel, isUsed, find, onFound}
 
 -- ---- start: a new cue or group takes the lowest unused slot, a submaster its own; a kept memory stays in its slot
 
@@ -37,25 +37,7 @@ seat d s n = onFound (find d s n) (λ i. at i) (newSeat d s (n .kind) (n .key))
 
 -- afresh: no levels, times or link
 unfoldable pub blankHead : Key → Head
-blankHead key =
-    record {
-      used = 1;
-      page = key .page;
-      whole = key .whole;
-      fraction = key .fraction;
-      link = 0;
-      «link_whole» = 0;
-      «link_fraction» = 0;
-      up = 0;
-      «up_fade» = 0;
-      «up_delay» = 0;
-      down = 0;
-      «down_fade» = 0;
-      «down_delay» = 0;
-      followon = 0;
-      «followon_time» = 0;
-      rest = 0;
-    }
+blankHead key = headOf (1 ∷ key .page ∷ key .whole ∷ key .fraction ∷ [])
 
 unfoldable pub blankSlot : Desk → Key → List ℕ
 blankSlot d key = encodeHead (blankHead key) ++ replicate (levelsLength d) 0
@@ -65,83 +47,12 @@ started d s n = onFound (seat d s n) (λ i. putSlot d s i (blankSlot d (n .key))
 
 -- ---- a change of one memory
 
+-- the fields of the head that it sets, from one on; all others stay
 unfoldable pub editHead : Edit → Head → Head
-editHead (Up fade delay) h =
-    record {
-      used = h .used;
-      page = h .page;
-      whole = h .whole;
-      fraction = h .fraction;
-      link = h .link;
-      «link_whole» = h .«link_whole»;
-      «link_fraction» = h .«link_fraction»;
-      up = 1;
-      «up_fade» = fade;
-      «up_delay» = delay;
-      down = h .down;
-      «down_fade» = h .«down_fade»;
-      «down_delay» = h .«down_delay»;
-      followon = h .followon;
-      «followon_time» = h .«followon_time»;
-      rest = h .rest;
-    }
-editHead (Down fade delay) h =
-    record {
-      used = h .used;
-      page = h .page;
-      whole = h .whole;
-      fraction = h .fraction;
-      link = h .link;
-      «link_whole» = h .«link_whole»;
-      «link_fraction» = h .«link_fraction»;
-      up = h .up;
-      «up_fade» = h .«up_fade»;
-      «up_delay» = h .«up_delay»;
-      down = 1;
-      «down_fade» = fade;
-      «down_delay» = delay;
-      followon = h .followon;
-      «followon_time» = h .«followon_time»;
-      rest = h .rest;
-    }
-editHead (Followon time) h =
-    record {
-      used = h .used;
-      page = h .page;
-      whole = h .whole;
-      fraction = h .fraction;
-      link = h .link;
-      «link_whole» = h .«link_whole»;
-      «link_fraction» = h .«link_fraction»;
-      up = h .up;
-      «up_fade» = h .«up_fade»;
-      «up_delay» = h .«up_delay»;
-      down = h .down;
-      «down_fade» = h .«down_fade»;
-      «down_delay» = h .«down_delay»;
-      followon = 1;
-      «followon_time» = time;
-      rest = h .rest;
-    }
-editHead (Link whole fraction) h =
-    record {
-      used = h .used;
-      page = h .page;
-      whole = h .whole;
-      fraction = h .fraction;
-      link = 1;
-      «link_whole» = whole;
-      «link_fraction» = fraction;
-      up = h .up;
-      «up_fade» = h .«up_fade»;
-      «up_delay» = h .«up_delay»;
-      down = h .down;
-      «down_fade» = h .«down_fade»;
-      «down_delay» = h .«down_delay»;
-      followon = h .followon;
-      «followon_time» = h .«followon_time»;
-      rest = h .rest;
-    }
+editHead (Up fade delay) h = headOf (put (headValues h) upAt (1 ∷ fade ∷ delay ∷ []))
+editHead (Down fade delay) h = headOf (put (headValues h) downAt (1 ∷ fade ∷ delay ∷ []))
+editHead (Followon time) h = headOf (put (headValues h) followonAt (1 ∷ time ∷ []))
+editHead (Link whole fraction) h = headOf (put (headValues h) linkAt (1 ∷ whole ∷ fraction ∷ []))
 editHead (Level channel v) h = h
 
 unfoldable pub withHead : Edit → List ℕ → List ℕ
@@ -153,7 +64,7 @@ editSlot d (Up fade delay) x = withHead (Up fade delay) x
 editSlot d (Down fade delay) x = withHead (Down fade delay) x
 editSlot d (Followon time) x = withHead (Followon time) x
 editSlot d (Link whole fraction) x = withHead (Link whole fraction) x
-editSlot d (Level channel v) x = set x (levelPlace d channel) v
+editSlot d (Level channel v) x = take headLength x ++ putLevel d (drop headLength x) channel v
 
 unfoldable pub editAt : Desk → List ℕ → ℕ → Edit → List ℕ
 editAt d s i e = putSlot d s i (editSlot d e (slotAt d s i))

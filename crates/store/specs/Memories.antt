@@ -3,19 +3,19 @@
 use mathlib.Core.Bool.{Bool, true, cond}
 use mathlib.Core.List.{List}
 use mathlib.Core.Path.{_≡_}
-use Prim.Native.Nat.{ℕ, _-_, _*_, _≤_, _<_}
-use lib.ListN.{drop, set, replicate}
+use Prim.Native.Nat.{ℕ, _≤_, _<_}
+use lib.ListN.{drop, replicate}
 use Rattle.cells.specs.Search.{countFrom}
 use Rattle.value.specs.Time.{timeMax}
 use Rattle.store_desk.specs.declared.Desk.{Desk}
 use Rattle.store_desk.specs.declared.Key.{Key}
 use Rattle.store_desk.specs.declared.Kind.{Kind}
-use Rattle.store_desk.specs.Size.{headLength, levelWidth, levelsLength}
+use Rattle.store_desk.specs.Size.{headLength, levelsLength}
 use Rattle.store_desk.specs.Name.{firstSlot, slotCount, okNumber}
 use Rattle.store_head.specs.Layout.{wholeSpan, fractionSpan, timeSpan, decodeHead}
 use Rattle.store.specs.declared.Edit.{Edit}
 use Rattle.store.specs.declared.Edit.the-variants.{Up, Down, Followon, Link, Level}
-use Rattle.store.specs.Slots.{headAt, isUsed}
+use Rattle.store.specs.Slots.{headAt, putLevel, isUsed}
 use Rattle.store.specs.View.{Memory, Kept, absent, kept, memoryAt}
 use Rattle.store.specs.Change.{blankHead, editHead}
 use Rattle.store.specs.Form.{hasTimes, hasLink}
@@ -38,7 +38,7 @@ editLevels d (Up fade delay) ls = ls
 editLevels d (Down fade delay) ls = ls
 editLevels d (Followon time) ls = ls
 editLevels d (Link whole fraction) ls = ls
-editLevels d (Level channel v) ls = set ls ((channel - 1) * levelWidth d) v
+editLevels d (Level channel v) ls = putLevel d ls channel v
 
 unfoldable pub editMemory : Desk → Edit → Memory → Memory
 editMemory d e m = record { head = editHead e (m .head); levels = editLevels d e (m .levels) }

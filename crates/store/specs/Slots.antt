@@ -5,7 +5,7 @@ use mathlib.Core.Bool.{Bool, _&&_}
 use mathlib.Core.List.{List}
 use Prim.Native.Nat.{ℕ, _+_, _-_, _*_}
 use lib.Dec.{eqb}
-use lib.ListN.{take, drop}
+use lib.ListN.{getD, set, take, drop}
 use Rattle.cells.specs.Put.{put}
 use Rattle.cells.specs.Search.{Found, at, nowhere, firstFrom}
 use Rattle.store_desk.specs.declared.Desk.{Desk}
@@ -38,9 +38,19 @@ headAt d s i = decodeHead (slotAt d s i)
 unfoldable pub levelsAt : Desk → List ℕ → ℕ → List ℕ
 levelsAt d s i = drop headLength (slotAt d s i)
 
--- where a channel's level stands in a slot
+-- where a channel's level stands among the levels, and in a slot
+abbrev pub levelStart : Desk → ℕ → ℕ
+levelStart d channel = (channel - 1) * levelWidth d
+
 unfoldable pub levelPlace : Desk → ℕ → ℕ
-levelPlace d channel = headLength + (channel - 1) * levelWidth d
+levelPlace d channel = headLength + levelStart d channel
+
+-- the level of a channel, and the levels with another in its place
+abbrev pub levelAt : Desk → List ℕ → ℕ → ℕ
+levelAt d ls channel = getD ls (levelStart d channel) 0
+
+abbrev pub putLevel : Desk → List ℕ → ℕ → ℕ → List ℕ
+putLevel d ls channel v = set ls (levelStart d channel) v
 
 -- a memory's key stands in its head
 abbrev pub keyOf : Head → Key

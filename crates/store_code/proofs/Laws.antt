@@ -21,7 +21,7 @@ use Rattle.store_desk.specs.declared.Key.{Key}
 use Rattle.store_desk.specs.declared.Kind.{Kind}
 use Rattle.store_desk.specs.Size.{Within, InRange, levelWidth, levelsLength, slotLength, slotsOf, patchStart, entriesOf, storeLength}
 use Rattle.store_desk.specs.Name.{slotsEnd, firstSlot, slotCount, entryOf}
-use Rattle.store_desk.proofs.Size.{width-le, slot-le, slots-le, patch-le, store-le}
+use Rattle.store_desk.proofs.Size.{slot-le, slots-le, patch-le, store-le}
 use Rattle.store_desk.proofs.Name.{kind-end, entry-inside}
 use Rattle.store_head.specs.declared.Head.{Head}
 use Rattle.store_head.specs.declared.Patch.{Patch}
@@ -34,6 +34,7 @@ use Rattle.store.specs.Change.{blankHead, blankSlot, editHead, withHead, editSl
 use Rattle.store.specs.Memories.{EditFits}
 use Rattle.store.specs.View.{patchedTo}
 use Rattle.store.proofs.Places.{slots-end, slot-end, entry-end, slot-length, entry-length}
+use Rattle.store.proofs.Levels.{level-inside, level-slot}
 use Rattle.store.proofs.Edits.{edit-fits}
 use Rattle.store_code.specs.Fits.{Fitting, OnPatch}
 
@@ -91,14 +92,7 @@ pub slot-head : (d : Desk) (s : List ℕ) (i : ℕ) {x : List ℕ} → Fitting d
 slot-head d s i f h e = let l = ap length e ∙ slot-length d s (f .long) i h in let g = slot-long d in omega arith
 
 -- ---- levels
-pub level-inside : (d : Desk) (c : ℕ) → Within 1 c (d .channels) → levelPlace d c < slotLength d
-unfolding levelPlace slotLength levelsLength
-level-inside d c h =
-    let l : (c - 1) * levelWidth d + levelWidth d ≤ d .channels * levelWidth d = apart (levelWidth d) (let m : c - 1 < d .channels = omega arith in m) in
-    let w = width-le d in
-    omega arith
-
--- the same as the code computes it
+-- where one stands, as the code computes it
 module _ (d : Desk) {c n w : ℕ} (h : Within 1 c (d .channels)) (en : n ≡ c) (ew : w ≡ levelWidth d) where
   level-is : 24 + (n - 1) * w ≡ levelPlace d c
   unfolding levelPlace
@@ -111,8 +105,7 @@ module _ (d : Desk) {c n w : ℕ} (h : Within 1 c (d .channels)) (en : n ≡ c) 
   level-small r = level-room (slot-le d r)
 
   pub level-set : (x y : List ℕ) (v : ℕ) → y ≡ set x (24 + (n - 1) * w) v → y ≡ editSlot d (Level c v) x
-  unfolding editSlot
-  level-set x y v e = e ∙ ap (λ (k : ℕ). set x k v) level-is
+  level-set x y v e = e ∙ ap (λ (k : ℕ). set x k v) level-is ∙ level-slot d c v x
 
 pub levels-is : (d : Desk) (s : List ℕ) (i : ℕ) {a e : ℕ} → a ≡ i * slotLength d → e ≡ i * slotLength d + slotLength d
     → take (e - (a + 24)) (drop (a + 24) s) ≡ levelsAt d s i

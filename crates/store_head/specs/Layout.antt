@@ -54,6 +54,19 @@ headWidths =
     ∷ restBits
     ∷ []
 
+-- where the fields of LINK, UP, DOWN and FOLLOWON begin in it, each with whether it is present
+abbrev pub linkAt : ℕ
+linkAt = 4
+
+abbrev pub upAt : ℕ
+upAt = 7
+
+abbrev pub downAt : ℕ
+downAt = 10
+
+abbrev pub followonAt : ℕ
+followonAt = 13
+
 -- how many values the bits of each hold
 abbrev pub flagSpan : ℕ
 flagSpan = 2 ^ flagBits

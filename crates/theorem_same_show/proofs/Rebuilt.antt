@@ -4,12 +4,13 @@
 use mathlib.Core.Path.{_≡_, refl, sym, ap, _∙_, subst}
 use mathlib.Core.Bool.{Bool, true, cond, _&&_}
 use mathlib.Core.List.{List, [], _∷_, _++_}
-use Prim.Native.Nat.{ℕ, suc, _+_, _-_, _*_, _≤_, _<_}
+use Prim.Native.Nat.{ℕ, suc, _+_, _-_, _≤_, _<_}
 use native.Mathlib.Omega.{arith}
 use lib.Dec.{eqb, leb}
-use lib.ListN.{length, set, replicate, length-append}
-use lib.Seq.{append-snoc, set-at}
+use lib.ListN.{length, replicate, length-append}
+use lib.Seq.{append-snoc}
 use borrow.Author.Tests.{eqb-true, eq-eqb, ne-eqb, leb-true}
+use Rattle.cells.specs.Put.{put}
 use Rattle.cells.proofs.Split.{by-bool, by-eq, cond-true, cond-false, and-left, and-right}
 use Rattle.value.specs.Time.{timeMax}
 use Rattle.store_desk.specs.declared.Desk.{Desk}
@@ -26,6 +27,7 @@ use Rattle.store.specs.View.{Memory}
 use Rattle.store.specs.Change.{blankHead, editHead}
 use Rattle.store.specs.Form.{hasTimes, hasLink, timeFits, linkFits}
 use Rattle.store.specs.Memories.{blankMemory, editLevels, editMemory, has, InTime}
+use Rattle.store.proofs.Levels.{level-next}
 use Rattle.store.proofs.Edits.{Values}
 use Rattle.save_lines.specs.Line.{Lit, litFrom}
 use Rattle.theorem_same_show.proofs.Worded.{AllLit}
@@ -139,7 +141,7 @@ module _ (d : Desk) (k : Kind) (h : Head) (v : Values k h) (f : HeadFits h) (ls 
 
   up-part : editAll d (ifPresent (h .up) (Up (h .«up_fade») (h .«up_delay»))) (shaped 0 0 0 0 0 0 0 0 0 0 0)
       ≡ shaped (h .up) (h .«up_fade») (h .«up_delay») 0 0 0 0 0 0 0 0
-  unfolding editAll editMemory editHead editLevels
+  unfolding editAll editMemory editHead put editLevels
   up-part =
       by-eq (h .up) 0
       (λ z.
@@ -153,7 +155,7 @@ module _ (d : Desk) (k : Kind) (h : Head) (v : Values k h) (f : HeadFits h) (ls 
 
   down-part : editAll d (ifPresent (h .down) (Down (h .«down_fade») (h .«down_delay»))) (shaped (h .up) (h .«up_fade») (h .«up_delay») 0 0 0 0 0 0 0 0)
       ≡ shaped (h .up) (h .«up_fade») (h .«up_delay») (h .down) (h .«down_fade») (h .«down_delay») 0 0 0 0 0
-  unfolding editAll editMemory editHead editLevels
+  unfolding editAll editMemory editHead put editLevels
   down-part =
       by-eq (h .down) 0
       (λ z.
@@ -168,7 +170,7 @@ module _ (d : Desk) (k : Kind) (h : Head) (v : Values k h) (f : HeadFits h) (ls 
   followon-part : editAll d (ifPresent (h .followon) (Followon (h .«followon_time»)))
       (shaped (h .up) (h .«up_fade») (h .«up_delay») (h .down) (h .«down_fade») (h .«down_delay») 0 0 0 0 0)
       ≡ shaped (h .up) (h .«up_fade») (h .«up_delay») (h .down) (h .«down_fade») (h .«down_delay») (h .followon) (h .«followon_time») 0 0 0
-  unfolding editAll editMemory editHead editLevels
+  unfolding editAll editMemory editHead put editLevels
   followon-part =
       by-eq (h .followon) 0
       (λ z.
@@ -182,7 +184,7 @@ module _ (d : Desk) (k : Kind) (h : Head) (v : Values k h) (f : HeadFits h) (ls 
   link-part : editAll d (ifPresent (h .link) (Link (h .«link_whole») (h .«link_fraction»)))
       (shaped (h .up) (h .«up_fade») (h .«up_delay») (h .down) (h .«down_fade») (h .«down_delay») (h .followon) (h .«followon_time») 0 0 0)
       ≡ shaped (h .up) (h .«up_fade») (h .«up_delay») (h .down) (h .«down_fade») (h .«down_delay») (h .followon) (h .«followon_time») (h .link) (h .«link_whole») (h .«link_fraction»)
-  unfolding editAll editMemory editHead editLevels
+  unfolding editAll editMemory editHead put editLevels
   link-part =
       by-eq (h .link) 0
       (λ z.
@@ -274,13 +276,9 @@ lit-have k [] = tt
 lit-have k (p ∷ ps) = (refl, tt, lit-have k ps)
 
 -- ---- the levels: those before a channel are as they should be, those from it on are still zero
-place-of : (d : Desk) (c n : ℕ) → c ≡ n + 1 → (c - 1) * levelWidth d ≡ n
-unfolding levelWidth
-place-of d c n e = let z : (c - 1) * 1 ≡ n = omega arith in z
-
 levels-from : (d : Desk) (h : Head) (vs p : List ℕ) (c : ℕ) → c ≡ length p + 1
     → editAll d (litEdits (litFrom c vs)) (record { head = h; levels = p ++ replicate (length vs) 0 }) ≡ record { head = h; levels = p ++ vs }
-unfolding litFrom litEdits editAll editMemory editHead editLevels
+unfolding litFrom litEdits editAll editMemory editHead put editLevels
 levels-from d h [] p c e = refl
 levels-from d h (v ∷ vs) p c e =
     let r = litFrom (c + 1) vs in
@@ -304,8 +302,7 @@ levels-from d h (v ∷ vs) p c e =
     ap (λ (ps : List Lit). editAll d (litEdits ps) (record { head = h; levels = p ++ (0 ∷ replicate n 0) }))
     (cond-false (eqb v 0) r (record { channel = c; level = v } ∷ r) (ne-eqb v 0 ne))
     ∙ ap (λ (ls : List ℕ). editAll d (litEdits r) (record { head = h; levels = ls }))
-    (ap (λ (i : ℕ). set (p ++ (0 ∷ replicate n 0)) i v) (place-of d c (length p) e)
-    ∙ set-at p 0 (replicate n 0) v (length p) refl)
+    (level-next d p 0 (replicate n 0) c v e)
     ∙ to)
 
 levels-rebuilt : (d : Desk) (h : Head) (ls : List ℕ) → length ls ≡ levelsLength d

@@ -1,6 +1,7 @@
 -- `changed` meets its contract, edit by edit.
 -- Assumes nothing.
 use mathlib.Core.Path.{refl}
+use Rattle.cells.specs.Put.{put}
 use Rattle.store.specs.Change.{editHead}
 use borrow.Author.Needs.{needs}
 use Rattle.store_code.proofs.changed.Statement.{statement}
@@ -22,23 +23,23 @@ enum-told : tie.Need-enum-told
 enum-told c = search needs
 
 returns : tie.Need-returns
-unfolding editHead
+unfolding editHead put
 returns c = rw (c .before .e .given .1) refl
 
 returns-2 : tie.Need-returns-2
-unfolding editHead
+unfolding editHead put
 returns-2 c = rw (c .before .e2 .given .1) refl
 
 returns-3 : tie.Need-returns-3
-unfolding editHead
+unfolding editHead put
 returns-3 c = rw (c .before .e3 .given .1) refl
 
 returns-4 : tie.Need-returns-4
-unfolding editHead
+unfolding editHead put
 returns-4 c = rw (c .before .e4 .given .1) refl
 
 returns-5 : tie.Need-returns-5
-unfolding editHead
+unfolding editHead put
 returns-5 c = rw (c .enum-told .given .1) refl
 
 pub changed-spec : {M : Type 1} → statement M
