@@ -12,7 +12,7 @@ use Rattle.cells.proofs.Split.{by-test}
 use Rattle.store_desk.specs.declared.Desk.{Desk}
 use Rattle.store_desk.specs.declared.Key.{Key}
 use Rattle.store_desk.specs.declared.Kind.{Kind}
-use Rattle.store_desk.specs.Size.{entryLength, slotLength, levelsLength, patchStart, entriesOf}
+use Rattle.store_desk.specs.Size.{headLength, entryLength, slotLength, levelsLength, patchStart, entriesOf}
 use Rattle.store_desk.specs.Name.{Name, firstSlot, slotCount, entryOf}
 use Rattle.store_head.specs.declared.Head.{Head}
 use Rattle.store_head.specs.Pack.{Bytes}
@@ -21,7 +21,7 @@ use Rattle.store_head.proofs.Laws.{encode-bytes, encode-patch-bytes}
 use Rattle.text_records.specs.Stream.{recordsOf}
 use Rattle.store.specs.declared.Edit.{Edit}
 use Rattle.store.specs.declared.Edit.the-variants.{Up as SetUp, Down as SetDown, Followon as SetFollowon, Link as SetLink, Level as SetLevel}
-use Rattle.store.specs.Slots.{slotAt, putSlot, putEntry, levelPlace, find, onFound}
+use Rattle.store.specs.Slots.{slotAt, putSlot, putEntry, levelStart, find, onFound}
 use Rattle.store.specs.Change.{seat, blankHead, blankSlot, started, withHead, editSlot, editAt, edited, patchEntry, patched}
 use Rattle.store.specs.Change.{everyPage, hitsAt, clearFrom, cleared, patchPageLength, clearedPatch}
 use Rattle.store.proofs.Loss.{bytes-take, bytes-drop}
@@ -96,7 +96,8 @@ head-kept d (SetLevel channel v) o x f = absurd o
 
 level-kept : (d : Desk) (channel v : ℕ) → v < 256 → Keeps d (SetLevel channel v)
 unfolding editSlot
-level-kept d channel v h x f = record { bytes = set-bytes x (levelPlace d channel) v (f .bytes) h }
+level-kept d channel v h x f =
+    joined (front headLength f) (record { bytes = set-bytes (drop headLength x) (levelStart d channel) v (rest headLength f .bytes) h })
 
 module _ (d : Desk) {s : List ℕ} (b : Octets s) where
   start-kept : (n : Name) → Octets (started d s n)
