@@ -6,33 +6,33 @@ use mathlib.Core.Bool.{Bool, true, false}
 use mathlib.Core.List.{List, [], _∷_, _++_}
 use Prim.Native.Nat.{ℕ, _+_, _-_, _≤_, _<_}
 use native.Mathlib.Omega.{arith}
-use lib.ListN.{length, take, drop, length-append, length-drop}
-use lib.Seq.{length-take-le}
+use lib.ListN.{length, take, drop, length-append}
 use Rattle.cells.proofs.Pad.{take-padded}
 use Rattle.store_desk.specs.declared.Desk.{Desk}
 use Rattle.text_records.specs.declared.Record.{Record}
 use Rattle.text_records.specs.declared.Cleaned.{Cleaned}
 use Rattle.text_records.specs.Received.{longest, recordOf, overLong, textOf}
-use Rattle.text_records.specs.Cleaning.{has, keptOf, cleanedOf}
-use Rattle.text_records.proofs.Received.{received-count, received-long, received-short}
+use Rattle.text_records.specs.Cleaning.{keptOf, cleanedOf}
+use Rattle.text_records.proofs.Received.{part-length, received-count, received-long, received-short}
 use Rattle.text_records.proofs.Cleaning.{kept-length, cleaned-received, cleaned-count, cleaned-high, cleaned-control, cleaned-fits}
 use Rattle.text_fields.specs.Words.{wordsOf, fieldsOf}
 use Rattle.text_fields.proofs.Words.{fields-cleaned}
+use Rattle.text_fields.proofs.Counts.{words-few}
 use Rattle.load.specs.declared.State.{State}
 use Rattle.load.specs.declared.Outcome.the-variants.{Stopped}
 use Rattle.load.specs.Condition.{overLongRecord}
 use Rattle.load_items.specs.Done.{faultsHeld}
-use Rattle.load.specs.Ask.{isOverLong}
-use Rattle.load.specs.Step.{Step, stepOf, recordStep, ignoredIn, outcomeReports, conditionsOf}
+use Rattle.load.specs.Ask.{isOverLong, askOf}
+use Rattle.load.specs.Step.{Step, acted, stepOf, recordStep, ignoredIn, outcomeReports, conditionsOf}
 use Rattle.load.specs.Run.{stops}
+use Rattle.load.proofs.Steps.{Modest, step-said}
+use Rattle.load.proofs.Counts.{ignored-small, small-join}
 use Rattle.load_step.specs.declared.Stepped.{Stepped}
 use Rattle.load_step.specs.Held.{heldOf, Ready, stepping, steppedOf}
 use Rattle.load_run.specs.declared.Count.{Count}
 use Rattle.load_run.specs.declared.Progress.{Progress}
 use Rattle.load_run.specs.Count.{tallied, told, toldOne, toldAll, ignoredBy, conditionsIn, mostRecords, Tellable, Countable}
 use Rattle.load_run.specs.Take.{taken, takenBy, cleanedTaken, recordTaken, Taking}
-use Rattle.load_run.proofs.Conditions.{Modest, step-said}
-use Rattle.load_run.proofs.Few.{words-few, ignored-small, small-join}
 use Rattle.load_run.proofs.Telling.{told-single}
 
 -- ---- what the step ensures, part by part
@@ -108,9 +108,6 @@ module _ (xs : List ℕ) {q : Record} {b : Bool} (e : q ≡ recordOf xs) (f : b 
     pub short-cleaned : {c : Cleaned} → c ≡ cleanedOf (textOf q) → c ≡ cleanedOf xs
     short-cleaned k = cleaned-received xs e short-length k
 
-pub part-length : (s : List ℕ) (at n : ℕ) → at + n ≤ length s → length (take n (drop at s)) ≡ n
-part-length s at n h = let l : length (drop at s) ≡ length s - at = length-drop at s in length-take-le n (drop at s) (omega arith)
-
 pub part-taking : (d : Desk) (p : Progress) (s t : List ℕ) (at end : ℕ) → at ≤ end → end ≤ length s → Taking d p (end - at) t
     → Taking d p (length (take (end - at) (drop at s))) t
 part-taking d p s t at end h g k =
@@ -128,7 +125,7 @@ text-said d s text at t size h =
 
 pub cleaned-taken : (d : Desk) (p : Progress) (r t l : List ℕ) {c : Cleaned} → isOverLong r ≡ false → c ≡ cleanedOf r
     → cleanedTaken d p c t l ≡ recordTaken d p r t l
-unfolding recordStep conditionsOf ignoredIn
+unfolding recordStep askOf conditionsOf ignoredIn
 cleaned-taken d p r t l {c} o e =
     let w : wordsOf (take (c .count) (c .text)) (take (c .count) (c .columns)) ≡ fieldsOf r = fields-cleaned r e in
     rw o (λ i.
@@ -147,7 +144,7 @@ cleaned-room d p r t {c} h e k =
 pub long-taken : (d : Desk) (p : Progress) (r t l : List ℕ) {n : Count} {k : List ℕ} → isOverLong r ≡ true → Ready d t (p .held)
     → told n k ≡ toldOne (told (tallied (p .count) (Stopped overLongRecord)) l) overLongRecord
     → taken (record { held = p .held; count = n; stopped = true }) t k ≡ recordTaken d p r t l
-unfolding recordStep conditionsOf outcomeReports takenBy stops
+unfolding recordStep askOf acted conditionsOf outcomeReports takenBy stops
 long-taken d p r t l {n} {k} o h e =
     let q : told n k ≡ toldAll (told (tallied (p .count) (Stopped overLongRecord)) l) (overLongRecord ∷ []) = e ∙ told-single _ overLongRecord in
     rw o (λ i. taken (record { held = h .same i; count = q i .count; stopped = true }) t (q i .list))

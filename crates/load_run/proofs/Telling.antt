@@ -13,8 +13,9 @@ use Rattle.load.specs.declared.Outcome.{Outcome}
 use Rattle.load.specs.Condition.{overLongRecord}
 use Rattle.load.specs.Run.{reportWord, conditionSpan}
 use Rattle.load.specs.Step.{oneIf}
+use Rattle.load.specs.Fits.{Small}
 use Rattle.load_run.specs.declared.Count.{Count}
-use Rattle.load_run.specs.Count.{counted, tallied, Told, told, toldOne, toldAll, Small, Tellable, Countable, mostRecords, mostReports}
+use Rattle.load_run.specs.Count.{counted, tallied, Told, told, toldOne, toldAll, Tellable, Countable, mostRecords, mostReports}
 use Rattle.load_run.proofs.Counting.{told-join}
 
 -- ---- one

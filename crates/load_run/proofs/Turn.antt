@@ -9,6 +9,7 @@ use native.Mathlib.Omega.{arith}
 use lib.ListN.{length, take, drop, length-append, length-map}
 use Rattle.store_desk.specs.declared.Desk.{Desk}
 use Rattle.text_records.specs.Stream.{recordsOf, recordEnd, nextStart}
+use Rattle.text_records.proofs.Received.{part-length}
 use Rattle.text_records.proofs.Stream.{records-at, records-end, start-forward, start-within, end-within}
 use Rattle.store_code.specs.Fits.{Fitting}
 use Rattle.store_code.proofs.Laws.{fitting-kept}
@@ -18,16 +19,16 @@ use Rattle.load.specs.declared.Totals.{Totals}
 use Rattle.load.specs.Condition.{noEnddata}
 use Rattle.load.specs.Step.{Step, recordStep, conditionsOf}
 use Rattle.load.specs.Run.{Report, Run, stops, reportsAt, runFrom, loadOf, allReports, storedIn, totalsOf, closingOf, blank, obeyed, passed, dropped}
+use Rattle.load.specs.Fits.{Small}
+use Rattle.load.proofs.Counts.{record-said, tally-few}
 use Rattle.load_step.specs.declared.Held.{Held}
 use Rattle.load_step.specs.Held.{heldOf, Ready}
 use Rattle.load_run.specs.declared.Count.{Count}
 use Rattle.load_run.specs.declared.Progress.{Progress}
-use Rattle.load_run.specs.Count.{countOf, closingBy, totalsBy, tallied, Told, told, toldOne, toldAll, Small, Tellable, Countable, mostRecords}
+use Rattle.load_run.specs.Count.{countOf, closingBy, totalsBy, tallied, Told, told, toldOne, toldAll, Tellable, Countable, mostRecords}
 use Rattle.load_run.specs.Take.{Taken, taken, takenBy, recordTaken, Taking}
 use Rattle.load_run.specs.Loaded.{Loaded, loaded, loadedOf, begunOf}
 use Rattle.load_run.proofs.Counting.{count-record, after, told-one, told-all, stored-none}
-use Rattle.load_run.proofs.Few.{record-said, tally-few}
-use Rattle.load_run.proofs.Taking.{part-length}
 use Rattle.load_run.proofs.Kept.{ready-begun, ready-record}
 
 -- ---- a run after the outcomes and reports before it

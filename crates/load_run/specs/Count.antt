@@ -11,7 +11,8 @@ use Rattle.load.specs.declared.Totals.{Totals}
 use Rattle.load_items.specs.declared.Faults.{Faults}
 use Rattle.load.specs.Condition.{isError, ignoredHigh, ignoredControl}
 use Rattle.load.specs.Step.{oneIf, outcomeReports}
-use Rattle.load.specs.Run.{Report, Class, blank, passed, dropped, obeyed, classOf, eqClass, tallyOf, lastOf, conditionSpan, reportWord}
+use Rattle.load.specs.Run.{Report, Class, blank, passed, dropped, obeyed, classOf, eqClass, tallyOf, lastOf, reportWord}
+use Rattle.load.specs.Fits.{Small}
 use Rattle.load_run.specs.declared.Count.{Count}
 
 -- ---- what the counters are after the outcomes and the reports so far
@@ -112,10 +113,6 @@ mostRecords = 262143
 -- far above what a stream of that many bytes can give
 abbrev pub mostReports : ℕ
 mostReports = 1048576
-
-unfoldable pub Small : List ℕ → Type 0
-Small [] = Unit {0}
-Small (c ∷ cs) = (c < conditionSpan) × Small cs
 
 -- counters that can take these conditions
 pub record Tellable (n : Count) (cs : List ℕ) : Type 0 where

@@ -84,7 +84,8 @@ pub dimmers-as : (d : Desk) (ws : List Word) {x : Paged} → x ≡ pageAt everyP
 unfolding dimmersAsk
 dimmers-as d ws g = ap (λ (y : Paged). pagedAsk y onePatch) g
 
-pub all-as : (d : Desk) (ws : List Word) {limit : ℕ} {x : Paged} → limit ≡ mostPages d → x ≡ pageAt everyPage limit ws → pagedAsk x (allWipes d) ≡ allAsk d ws
+pub all-as : (d : Desk) (ws : List Word) {limit : ℕ} {x : Paged} → limit ≡ mostPages d → x ≡ pageAt everyPage limit ws
+    → pagedAsk x (allWipes d) ≡ allAsk d ws
 unfolding allAsk
 all-as d ws l g = ap (λ (y : Paged). pagedAsk y (allWipes d)) (g ∙ ap (λ (y : ℕ). pageAt everyPage y ws) l)
 
@@ -106,11 +107,15 @@ module _ (d : Desk) (s : State) (t : List ℕ) {u : List ℕ} {r : Stepped} (z :
 module _ (d : Desk) (k : Kind) (p : ℕ) (t : List ℕ) {n : ℕ} (e : n ≡ tablePages d k) where
   pub table-has : {u : List ℕ} → p ≤ n → u ≡ cleared d t k p → u ≡ wiped d (kindWipes d p k) t
   unfolding wiped kindWipes
-  table-has h q = q ∙ sym (ap (λ (xs : List Wipe). wiped d xs t) (cond-true _ (oneTable k p) [] (le-leb p (tablePages d k) (subst (λ (m : ℕ). p ≤ m) e h))))
+  table-has h q =
+      let l : p ≤ tablePages d k = subst (λ (m : ℕ). p ≤ m) e h in
+      q ∙ sym (ap (λ (xs : List Wipe). wiped d xs t) (cond-true _ (oneTable k p) [] (le-leb p (tablePages d k) l)))
 
   pub table-lacks : n < p → t ≡ wiped d (kindWipes d p k) t
   unfolding wiped kindWipes
-  table-lacks h = sym (ap (λ (xs : List Wipe). wiped d xs t) (cond-false _ (oneTable k p) [] (lt-leb p (tablePages d k) (subst (λ (m : ℕ). m < p) e h))))
+  table-lacks h =
+      let l : tablePages d k < p = subst (λ (m : ℕ). m < p) e h in
+      sym (ap (λ (xs : List Wipe). wiped d xs t) (cond-false _ (oneTable k p) [] (lt-leb p (tablePages d k) l)))
 
 module _ (d : Desk) (p : ℕ) (t : List ℕ) where
   pub dimmers-have : {u : List ℕ} → p ≤ d .«patch_pages» → u ≡ clearedPatch d t p → u ≡ wiped d (dimmerWipes d p) t
