@@ -1,5 +1,3 @@
-pub mod Counting
-pub mod Telling
 pub mod Taking
 pub mod Kept
 pub mod Turn
