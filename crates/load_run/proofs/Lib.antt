@@ -1,10 +1,3 @@
-pub mod Counting
-pub mod Conditions
-pub mod Few
-pub mod Telling
 pub mod Taking
 pub mod Kept
 pub mod Turn
-pub mod Join
-pub mod Answer
-pub mod Idle

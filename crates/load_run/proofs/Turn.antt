@@ -9,6 +9,7 @@ use native.Mathlib.Omega.{arith}
 use lib.ListN.{length, take, drop, length-append, length-map}
 use Rattle.store_desk.specs.declared.Desk.{Desk}
 use Rattle.text_records.specs.Stream.{recordsOf, recordEnd, nextStart}
+use Rattle.text_records.proofs.Received.{part-length}
 use Rattle.text_records.proofs.Stream.{records-at, records-end, start-forward, start-within, end-within}
 use Rattle.store_code.specs.Fits.{Fitting}
 use Rattle.store_code.proofs.Laws.{fitting-kept}
@@ -17,17 +18,17 @@ use Rattle.load.specs.declared.Outcome.{Outcome}
 use Rattle.load.specs.declared.Totals.{Totals}
 use Rattle.load.specs.Condition.{noEnddata}
 use Rattle.load.specs.Step.{Step, recordStep, conditionsOf}
-use Rattle.load.specs.Run.{Report, Run, stops, reportsAt, runFrom, loadOf, allReports, storedIn, totalsOf, closingOf, blank, obeyed, passed, dropped}
+use Rattle.load.specs.Run.{Report, Run, stops, reportsAt, runFrom, loadOf, allReports, storedIn}
+use Rattle.load.specs.Fits.{Small}
+use Rattle.load.proofs.Counts.{record-said}
 use Rattle.load_step.specs.declared.Held.{Held}
 use Rattle.load_step.specs.Held.{heldOf, Ready}
-use Rattle.load_run.specs.declared.Count.{Count}
+use Rattle.load_tell.specs.declared.Count.{Count}
 use Rattle.load_run.specs.declared.Progress.{Progress}
-use Rattle.load_run.specs.Count.{countOf, closingBy, totalsBy, tallied, Told, told, toldOne, toldAll, Small, Tellable, Countable, mostRecords}
+use Rattle.load_tell.specs.Count.{countOf, totalsBy, tallied, Told, told, toldOne, toldAll, Tellable, Countable, mostRecords}
 use Rattle.load_run.specs.Take.{Taken, taken, takenBy, recordTaken, Taking}
 use Rattle.load_run.specs.Loaded.{Loaded, loaded, loadedOf, begunOf}
-use Rattle.load_run.proofs.Counting.{count-record, after, told-one, told-all, stored-none}
-use Rattle.load_run.proofs.Few.{record-said, tally-few}
-use Rattle.load_run.proofs.Taking.{part-length}
+use Rattle.load_tell.proofs.Counting.{count-record, after, told-one, told-all, stored-none, totals-same, count-countable, count-tellable}
 use Rattle.load_run.proofs.Kept.{ready-begun, ready-record}
 
 -- ---- a run after the outcomes and reports before it
@@ -69,10 +70,6 @@ unfolding runFrom
 run-end d n s t os rs = λ i. runSo s t false (append-nil os i) (append-nil rs i)
 
 -- ---- what a run is told as, from the counters
-totals-same : (x : Run) → totalsBy (countOf (x .outcomes) (allReports x)) ≡ totalsOf x
-unfolding totalsBy countOf closingBy totalsOf closingOf
-totals-same x = refl
-
 told-loaded : (x : Run) (reps : List ℕ) {n : Count} {l t : List ℕ} → told n l ≡ after (x .outcomes) reps (allReports x) → t ≡ x .store
     → loaded (totalsBy n) t l ≡ loadedOf x reps
 unfolding loadedOf
@@ -130,6 +127,10 @@ module _ {d : Desk} {t₀ reps₀ stream : List ℕ} {p : Progress} {at : ℕ} {
   abbrev step : Step
   step = recordStep d (p .held .state) chars t
 
+  -- the run of some records, behind what is read so far
+  abbrev onward : List (List ℕ) → Run
+  onward rs = runAfter (w .outcomes) (w .reports) (runFrom d (length (w .outcomes)) (p .held .state) t rs)
+
   pub end-in : (at ≤ end) × (end ≤ length stream)
   end-in =
       let a : recordEnd stream at ≤ length stream = end-within stream at (w .within) in
@@ -140,25 +141,22 @@ module _ {d : Desk} {t₀ reps₀ stream : List ℕ} {p : Progress} {at : ℕ} {
       let i : (at ≤ end) × (end ≤ length stream) = end-in in
       part-length stream at (end - at) (omega arith)
 
-  count-length : (p .count .records ≡ length (w .outcomes)) × (p .count .reports ≡ length (w .reports))
+  reports-counted : p .count .reports ≡ length (w .reports)
   unfolding countOf
-  count-length = (ap (λ (n : Count). n .records) (w .count), ap (λ (n : Count). n .reports) (w .count))
+  reports-counted = ap (λ (n : Count). n .reports) (w .count)
 
   pub loop-room : Taking d p (end - at) t
-  unfolding countOf
   loop-room =
-      let os = w .outcomes in
       let i : (at ≤ end) × (end ≤ length stream) = end-in in
-      let k : length os ≤ at = w .records-few in
+      let k : length (w .outcomes) ≤ at = w .records-few in
       let l : length (w .reports) ≤ at = w .reports-few in
       let g : length stream ≤ mostRecords = w .long in
+      let m : p .count .reports ≡ length (w .reports) = reports-counted in
       record {
         fitting = w .fitting;
         ready = w .ready;
-        countable =
-            subst Countable (sym (w .count))
-            (record { below = omega arith; blanks = tally-few blank os; obeys = tally-few obeyed os; passes = tally-few passed os; drops = tally-few dropped os });
-        room = (let m = count-length in omega arith);
+        countable = subst Countable (sym (w .count)) (count-countable (w .outcomes) (w .reports) (omega arith));
+        room = omega arith;
       }
 
   -- what the record leaves
@@ -202,8 +200,12 @@ module _ {d : Desk} {t₀ reps₀ stream : List ℕ} {p : Progress} {at : ℕ} {
         ∙ ap (λ (k : ℕ). after outcomes' reps₀ (rs ++ reportsAt k cs)) outcomes-length
 
     module _ {next : ℕ} (g : next ≡ nextStart stream end) where
-      run-here : loadOf d t₀ stream ≡ runAfter (w .outcomes) (w .reports) (runFrom d (length (w .outcomes)) (p .held .state) t (chars ∷ recordsOf (drop next stream)))
-      run-here = w .same ∙ ap (λ (z : List (List ℕ)). runAfter (w .outcomes) (w .reports) (runFrom d (length (w .outcomes)) (p .held .state) t z)) (records-at stream h e g)
+      left : List (List ℕ)
+      left = recordsOf (drop next stream)
+
+      run-here : loadOf d t₀ stream ≡ onward (chars ∷ left)
+      unfolding left
+      run-here = w .same ∙ ap onward (records-at stream h e g)
 
       next-in : (at < next) × (next ≤ length stream)
       next-in =
@@ -229,7 +231,7 @@ module _ {d : Desk} {t₀ reps₀ stream : List ℕ} {p : Progress} {at : ℕ} {
 
       -- the load goes on after it
       pub loop-turn : q .stopped ≡ false → length u ≡ length t → length l ≡ length reps → SoFar d t₀ reps₀ stream q next u l
-      unfolding outcomes' reports'
+      unfolding outcomes' reports' left
       loop-turn z y v =
           let i : (at < next) × (next ≤ length stream) = next-in in
           let k : length (w .outcomes) ≤ at = w .records-few in
@@ -242,8 +244,8 @@ module _ {d : Desk} {t₀ reps₀ stream : List ℕ} {p : Progress} {at : ℕ} {
             within = i .1;
             same =
                 run-here
-                ∙ run-turn d (length (w .outcomes)) (p .held .state) t chars (recordsOf (drop next stream)) (w .outcomes) (w .reports) (sym left-stopped ∙ z)
-                ∙ (λ j. runAfter outcomes' reports' (runFrom d (sym outcomes-length j) (sym left-state j) (sym left-store j) (recordsOf (drop next stream))));
+                ∙ run-turn d (length (w .outcomes)) (p .held .state) t chars left (w .outcomes) (w .reports) (sym left-stopped ∙ z)
+                ∙ (λ j. runAfter outcomes' reports' (runFrom d (sym outcomes-length j) (sym left-state j) (sym left-store j) left));
             count = ap (λ (x : Told). x .count) left-told;
             list = ap (λ (x : Told). x .list) left-told;
             records-few = omega arith;
@@ -251,31 +253,33 @@ module _ {d : Desk} {t₀ reps₀ stream : List ℕ} {p : Progress} {at : ℕ} {
             fitting = fitting-kept d t u y (w .fitting);
             ready =
                 subst (λ (x : Held). Ready d u x) (sym left-held)
-                (subst (λ (x : List ℕ). Ready d x (heldOf d (step .store) (step .state))) (sym left-store) (ready-record d (p .held) chars t (w .fitting) (w .ready)));
+                (subst (λ (x : List ℕ). Ready d x (heldOf d (step .store) (step .state))) (sym left-store)
+                (ready-record d (p .held) chars t (w .fitting) (w .ready)));
             store-length = long-store;
             list-length = v ∙ w .list-length;
           }
 
     -- the record stops it
     pub loop-stop : q .stopped ≡ true → loaded (totalsBy (q .count)) u l ≡ loadedOf (loadOf d t₀ stream) reps₀
-    unfolding outcomes' reports' allReports
+    unfolding outcomes' reports' left allReports
     loop-stop z =
         let x = runSo (step .state) (step .store) true outcomes' reports' in
         let s : loadOf d t₀ stream ≡ x =
         run-here refl
-        ∙ run-stop d (length (w .outcomes)) (p .held .state) t chars (recordsOf (drop (nextStart stream end) stream)) (w .outcomes) (w .reports) (sym left-stopped ∙ z) in
+        ∙ run-stop d (length (w .outcomes)) (p .held .state) t chars (left refl) (w .outcomes) (w .reports) (sym left-stopped ∙ z) in
         told-loaded x reps₀ left-told left-store ∙ ap (λ (y : Run). loadedOf y reps₀) (sym s)
 
 -- ---- the end of the stream
 module _ {d : Desk} {t₀ reps₀ stream : List ℕ} {p : Progress} {at : ℕ} {t reps : List ℕ} (w : SoFar d t₀ reps₀ stream p at t reps) where
   pub end-room : Tellable (p .count) (noEnddata ∷ [])
-  unfolding countOf Small
+  unfolding Small
   end-room =
       let k : length (w .outcomes) ≤ at = w .records-few in
       let l : length (w .reports) ≤ at = w .reports-few in
       let i : at ≤ length stream = w .within in
       let g : length stream ≤ mostRecords = w .long in
-      subst (λ (n : Count). Tellable n (noEnddata ∷ [])) (sym (w .count)) (record { numbered = omega arith; room = omega arith; small = (omega arith, tt) })
+      subst (λ (n : Count). Tellable n (noEnddata ∷ [])) (sym (w .count))
+      (count-tellable (w .outcomes) (w .reports) (noEnddata ∷ []) (omega arith) (omega arith) (omega arith, tt))
 
   pub loop-end : length stream ≤ at → {n : Count} {l : List ℕ} → told n l ≡ toldOne (told (p .count) reps) noEnddata
       → loaded (totalsBy n) t l ≡ loadedOf (loadOf d t₀ stream) reps₀

@@ -7,7 +7,7 @@ use Rattle.load.specs.declared.Totals.{Totals}
 use Rattle.load.specs.Step.{nothingOpen}
 use Rattle.load.specs.Run.{Run, allReports, storedIn, totalsOf}
 use Rattle.load_run.specs.declared.Progress.{Progress}
-use Rattle.load_run.specs.Count.{countOf}
+use Rattle.load_tell.specs.Count.{countOf}
 
 pub record Loaded : Type 0 where
   pub totals : Totals

@@ -10,9 +10,9 @@ use Rattle.store_code.specs.Fits.{Fitting}
 use Rattle.load.specs.Step.{Step, stepOf, recordStep, outcomeReports, conditionsOf}
 use Rattle.load.specs.Run.{stops}
 use Rattle.load_step.specs.Held.{heldOf, Ready}
-use Rattle.load_run.specs.declared.Count.{Count}
+use Rattle.load_tell.specs.declared.Count.{Count}
 use Rattle.load_run.specs.declared.Progress.{Progress}
-use Rattle.load_run.specs.Count.{told, toldAll, tallied, ignoredBy, mostRecords, Countable}
+use Rattle.load_tell.specs.Count.{told, toldAll, tallied, ignoredBy, mostRecords, Countable}
 
 -- how far a load is, the store and the lent list
 pub record Taken : Type 0 where

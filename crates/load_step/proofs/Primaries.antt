@@ -109,5 +109,6 @@ module _ (d : Desk) (s : State) (t : List ℕ) (k : Kind) where
   primary-anew ws =
       by-test Anew (supported d k) (namedAsk k (namedOf d k ws)) (skips (Dropped (unsupportedOf k))) (λ e. named-anew (namedOf d k ws)) (λ e. refl)
 
-  pub primary-as : (ws : List Word) {q : Res} → q ≡ steppedOf d (acted d nothingOpen t (primaryAsk d k ws)) → q ≡ steppedOf d (acted d s t (primaryAsk d k ws))
+  pub primary-as : (ws : List Word) {q : Res} → q ≡ steppedOf d (acted d nothingOpen t (primaryAsk d k ws))
+      → q ≡ steppedOf d (acted d s t (primaryAsk d k ws))
   primary-as ws z = z ∙ ap (λ (x : Step). steppedOf d x) (primary-anew ws)

@@ -44,7 +44,7 @@ text-short r h =
     omega arith
 
 -- ---- the first i characters of a part are in the array
-part-length : (s : List ℕ) (at n : ℕ) → at + n ≤ length s → length (take n (drop at s)) ≡ n
+pub part-length : (s : List ℕ) (at n : ℕ) → at + n ≤ length s → length (take n (drop at s)) ≡ n
 part-length s at n h =
     let e : length (drop at s) ≡ length s - at = length-drop at s in
     length-take-le n (drop at s) (omega arith)

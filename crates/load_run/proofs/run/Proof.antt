@@ -1,4 +1,4 @@
--- `run::run` meets its contract: what is read so far stands in front of the run of what is left of the stream.
+-- `run` meets its contract: what is read so far stands in front of the run of what is left of the stream.
 -- Assumes nothing.
 use Rattle.load_run.proofs.Turn as turn
 use Rattle.load_run.proofs.Turn.{SoFar, answered, loop-start, end-in, loop-room, loop-turn, loop-stop, loop-end, end-room}

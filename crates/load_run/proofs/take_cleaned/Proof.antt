@@ -1,7 +1,7 @@
--- `run::take_cleaned` meets its contract: from what the step and the telling ensure; the lent parts are as long as the text.
+-- `take_cleaned` meets its contract: from what the step and the telling ensure; the lent parts are as long as the text.
 -- Assumes nothing.
 use Rattle.load_run.proofs.Taking.{step-room, text-said, step-taken}
-use Rattle.load_run.specs.Count.{ignoredBy}
+use Rattle.load_tell.specs.Count.{ignoredBy}
 use lib.Seq.{length-take-le}
 use lib.ListN.{length, take, length-map}
 use native.Mathlib.Omega.{arith}

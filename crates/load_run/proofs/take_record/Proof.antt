@@ -1,4 +1,4 @@
--- `run::take_record` meets its contract: an over-long record by its length, any other by its cleaned text.
+-- `take_record` meets its contract: an over-long record by its length, any other by its cleaned text.
 -- Assumes nothing.
 use Rattle.load_run.proofs.Taking.{is-long, short-length, short-count, short-cleaned, part-taking, cleaned-taken, cleaned-room, long-taken}
 use mathlib.Core.Path.{_∙_}

@@ -1,0 +1,156 @@
+-- The counters and the lent list after one more record and after more reports; what they are told as; that there is room in them. By
+-- induction on the lists so far.
+-- Assumes nothing.
+use mathlib.Core.Path.{_≡_, refl, sym, ap, _∙_}
+use mathlib.Core.Bool.{Bool, true, false, cond, not}
+use mathlib.Core.List.{List, [], _∷_, _++_, map, map-append, append-nil, append-assoc}
+use Prim.Native.Nat.{ℕ, suc, _+_, _≤_, _<_, min}
+use native.Mathlib.Omega.{arith}
+use lib.ListN.{length, set, take, length-append, length-map, length-take}
+use lib.Seq.{take-all, take-nil, take-append-le, set-out}
+use Rattle.cells.specs.Put.{put}
+use Rattle.cells.proofs.Put.{length-put, put-nil, put-push}
+use Rattle.cells.proofs.Split.{by-lt}
+use Rattle.load.specs.declared.Outcome.{Outcome}
+use Rattle.load.specs.Condition.{isError}
+use Rattle.load.specs.Run.{Report, Run, Class, blank, passed, dropped, obeyed, classOf, eqClass, tallyOf, lastOf, reportsAt, reportWord, storedIn}
+use Rattle.load.specs.Run.{allReports, closingOf, totalsOf}
+use Rattle.load.specs.Fits.{Small}
+use Rattle.load.proofs.Counts.{tally-few}
+use Rattle.load_tell.specs.Count.{countOf, closingBy, totalsBy, withOne, tallied, counted, Told, told, toldOne, toldAll}
+use Rattle.load_tell.specs.Count.{mostRecords, mostReports, Tellable, Countable}
+
+-- ---- one more record
+both-orders : (a b : Bool) (n : ℕ) → cond a (suc (cond b (n + 1) n)) (cond b (n + 1) n) ≡ cond b (cond a (suc n) n + 1) (cond a (suc n) n)
+both-orders true true n = let e : suc (n + 1) ≡ suc n + 1 = omega arith in e
+both-orders true false n = refl
+both-orders false true n = refl
+both-orders false false n = refl
+
+tally-snoc : (k : Class) (os : List Outcome) (o : Outcome) → tallyOf k (os ++ (o ∷ [])) ≡ withOne k o (tallyOf k os)
+unfolding tallyOf
+tally-snoc k [] o = refl
+tally-snoc k (p ∷ os) o =
+    ap (λ (n : ℕ). cond (eqClass k (classOf p)) (suc n) n) (tally-snoc k os o)
+    ∙ both-orders (eqClass k (classOf p)) (eqClass k (classOf o)) (tallyOf k os)
+
+pub count-record : (os : List Outcome) (rs : List Report) (o : Outcome) → tallied (countOf os rs) o ≡ countOf (os ++ (o ∷ [])) rs
+unfolding countOf tallied
+count-record os rs o =
+    let l : length (os ++ (o ∷ [])) ≡ length os + 1 = length-append os (o ∷ []) in
+    λ i.
+    record {
+      records = sym l i;
+      reports = length rs;
+      blank = sym (tally-snoc blank os o) i;
+      obeyed = sym (tally-snoc obeyed os o) i;
+      passed = sym (tally-snoc passed os o) i;
+      dropped = sym (tally-snoc dropped os o) i;
+      error = lastOf isError 0 rs;
+      warning = lastOf (λ c. not (isError c)) 0 rs;
+    }
+
+-- ---- one more report
+last-snoc : (p : ℕ → Bool) (c : ℕ) (rs : List Report) (r : Report)
+    → lastOf p c (rs ++ (r ∷ [])) ≡ cond (p (r .condition)) (r .condition) (lastOf p c rs)
+unfolding lastOf
+last-snoc p c [] r = refl
+last-snoc p c (q ∷ rs) r = last-snoc p (cond (p (q .condition)) (q .condition) c) rs r
+
+count-report : (os : List Outcome) (rs : List Report) (r : Report) → counted (countOf os rs) (r .condition) ≡ countOf os (rs ++ (r ∷ []))
+unfolding countOf counted
+count-report os rs r =
+    let l : length (rs ++ (r ∷ [])) ≡ length rs + 1 = length-append rs (r ∷ []) in
+    λ i.
+    record {
+      records = length os;
+      reports = sym l i;
+      blank = tallyOf blank os;
+      obeyed = tallyOf obeyed os;
+      passed = tallyOf passed os;
+      dropped = tallyOf dropped os;
+      error = sym (last-snoc isError 0 rs r) i;
+      warning = sym (last-snoc (λ c. not (isError c)) 0 rs r) i;
+    }
+
+-- the words that are stored, and one more where there is room
+module _ (reps : List ℕ) (rs : List Report) (r : Report) where
+  stored-room : length rs < length reps → set (storedIn reps rs) (length rs) (reportWord r) ≡ storedIn reps (rs ++ (r ∷ []))
+  unfolding storedIn
+  stored-room h =
+      let ws : List ℕ = map reportWord rs in
+      let v : ℕ = reportWord r in
+      let m : map reportWord (rs ++ (r ∷ [])) ≡ ws ++ (v ∷ []) = map-append reportWord rs (r ∷ []) in
+      let l : length ws ≡ length rs = length-map rs reportWord in
+      let l' : length (ws ++ (v ∷ [])) ≡ length ws + 1 = length-append ws (v ∷ []) in
+      let k : length ws ≤ length reps = omega arith in
+      let k' : length (ws ++ (v ∷ [])) ≤ length reps = omega arith in
+      let e : length rs ≡ 0 + length ws = omega arith in
+      ap (λ (z : List ℕ). set (put reps 0 z) (length rs) v) (take-all (length reps) ws k)
+      ∙ put-push reps 0 ws (length rs) v e h
+      ∙ ap (λ (z : List ℕ). put reps 0 z) (sym (take-all (length reps) (ws ++ (v ∷ [])) k'))
+      ∙ ap (λ (z : List ℕ). put reps 0 (take (length reps) z)) (sym m)
+
+  stored-full : length reps ≤ length rs → set (storedIn reps rs) (length rs) (reportWord r) ≡ storedIn reps (rs ++ (r ∷ []))
+  unfolding storedIn
+  stored-full h =
+      let ws : List ℕ = map reportWord rs in
+      let v : ℕ = reportWord r in
+      let m : map reportWord (rs ++ (r ∷ [])) ≡ ws ++ (v ∷ []) = map-append reportWord rs (r ∷ []) in
+      let l : length ws ≡ length rs = length-map rs reportWord in
+      let k : length reps ≤ length ws = omega arith in
+      let t : length (take (length reps) ws) ≡ min (length reps) (length ws) = length-take (length reps) ws in
+      let q : 0 + length (take (length reps) ws) ≤ length reps = omega arith in
+      let p : length (put reps 0 (take (length reps) ws)) ≡ length reps = length-put reps 0 (take (length reps) ws) q in
+      set-out (put reps 0 (take (length reps) ws)) (length rs) v (omega arith)
+      ∙ ap (λ (z : List ℕ). put reps 0 z) (sym (take-append-le (length reps) ws (v ∷ []) k))
+      ∙ ap (λ (z : List ℕ). put reps 0 (take (length reps) z)) (sym m)
+
+  stored-more : set (storedIn reps rs) (length rs) (reportWord r) ≡ storedIn reps (rs ++ (r ∷ []))
+  stored-more = by-lt (length rs) (length reps) stored-room stored-full
+
+pub stored-none : (reps : List ℕ) → storedIn reps [] ≡ reps
+unfolding storedIn
+stored-none reps = ap (λ (z : List ℕ). put reps 0 z) (take-nil (length reps)) ∙ put-nil reps 0
+
+-- ---- the counters and the list together
+module _ (os : List Outcome) (reps : List ℕ) where
+  abbrev pub after : List Report → Told
+  after rs = told (countOf os rs) (storedIn reps rs)
+
+  pub told-one : (rs : List Report) (c : ℕ) → toldOne (after rs) c ≡ after (rs ++ (record { number = length os; condition = c } ∷ []))
+  unfolding toldOne countOf
+  told-one rs c =
+      let r : Report = record { number = length os; condition = c } in
+      λ i. told (count-report os rs r i) (stored-more reps rs r i)
+
+  pub told-all : (rs : List Report) (cs : List ℕ) → toldAll (after rs) cs ≡ after (rs ++ reportsAt (length os) cs)
+  unfolding toldAll
+  told-all rs [] = ap after (sym (append-nil rs))
+  told-all rs (c ∷ cs) =
+      let r : Report = record { number = length os; condition = c } in
+      ap (λ (x : Told). toldAll x cs) (told-one rs c)
+      ∙ told-all (rs ++ (r ∷ [])) cs
+      ∙ ap after (append-assoc rs (r ∷ []) (reportsAt (length os) cs))
+
+-- ---- what they are told as
+pub totals-same : (x : Run) → totalsBy (countOf (x .outcomes) (allReports x)) ≡ totalsOf x
+unfolding totalsBy countOf closingBy totalsOf closingOf
+totals-same x = refl
+
+-- ---- room for one more record, and for more reports
+pub count-countable : (os : List Outcome) (rs : List Report) → length os < mostRecords → Countable (countOf os rs)
+unfolding countOf
+count-countable os rs h =
+    record { below = h; blanks = tally-few blank os; obeys = tally-few obeyed os; passes = tally-few passed os; drops = tally-few dropped os }
+
+pub count-tellable : (os : List Outcome) (rs : List Report) (cs : List ℕ) → length os ≤ mostRecords → length rs + length cs ≤ mostReports → Small cs
+    → Tellable (countOf os rs) cs
+unfolding countOf
+count-tellable os rs cs h g s = record { numbered = h; room = g; small = s }
+
+-- ---- conditions told in two parts
+pub told-join : (x : Told) (cs bs : List ℕ) → toldAll x (cs ++ bs) ≡ toldAll (toldAll x cs) bs
+unfolding toldAll
+told-join x [] bs = refl
+told-join x (c ∷ cs) bs = told-join (toldOne x c) cs bs
