@@ -1,6 +1,6 @@
-// The small pieces that everything above is made of: a byte at a place, widening, filling and copying.
+// The small pieces that everything above is made of: a byte at a place, widening, the smaller of two, filling and copying.
 ghost use mathlib.Core.Path.{_≡_};
-ghost use Prim.Native.Nat.{_≤_};
+ghost use Prim.Native.Nat.{_≤_, min};
 ghost use lib.ListN.{length, getD, replicate};
 ghost use Rattle.cells.specs.Put.{put};
 
@@ -30,6 +30,13 @@ pub fn place(x: u32) -> usize
     ensures { λ r. ⌜ r ≡ x ⌝ }
 {
     x as usize
+}
+
+// The smaller of the two.
+pub fn at_most(n: usize, limit: usize) -> usize
+    ensures { λ r. ⌜ r ≡ min n limit ⌝ }
+{
+    if n < limit { n } else { limit }
 }
 
 // Every byte of s becomes v.

@@ -10,10 +10,10 @@ use Rattle.store_desk.specs.Size.{InRange, Within}
 use Rattle.store_head.specs.declared.Patch.{Patch}
 use Rattle.store.specs.View.{patchedTo}
 use Rattle.store_code.specs.Fits.{OnPatch}
-use Rattle.value_written.specs.Wrote.{wrote, wroteAt}
+use Rattle.text_room.specs.Wrote.{wrote, wroteAt}
 use Rattle.save_lines.specs.Line.{joined, patchLine}
-use Rattle.save_lines.specs.Room.{Room}
-use Rattle.save_lines.proofs.Chain.{Writing, writing-start, writing-room, writing-more, writing-none}
+use Rattle.text_room.specs.Room.{Room}
+use Rattle.text_room.proofs.Chain.{Writing, writing-start, writing-room, writing-more, writing-none}
 use Rattle.save_lines.proofs.Parts.{joined-nil, joined-append}
 use Rattle.save.specs.Lines.{dimmerLines, pageLines, patchLines}
 use Rattle.save.proofs.Rules.{patched-fits, dimmers-long, pages-long}

@@ -9,7 +9,7 @@ use Rattle.cells.specs.Text.{bytes}
 use Rattle.store_desk.specs.declared.Desk.{Desk}
 use Rattle.store_desk.specs.declared.Kind.the-variants.{Cue, Group, Sub}
 use Rattle.save_lines.specs.Line.{joined}
-use Rattle.save_lines.specs.Room.{Room}
+use Rattle.text_room.specs.Room.{Room}
 use Rattle.save_lines.proofs.Parts.{joined-append}
 use Rattle.save.specs.Lines.{patchLines, kindLines, linesOf, streamOf}
 use Rattle.save.specs.Part.{allLines}

@@ -16,10 +16,10 @@ use Rattle.cells.specs.Text.{bytes}
 use Rattle.cells.specs.Scan.{span}
 use Rattle.cells.proofs.Scan.{span-hit, span-miss}
 use Rattle.cells.proofs.Split.{by-bool, by-eq, cond-true, cond-false}
-use Rattle.value_written.specs.Text.{integerText, levelText}
+use Rattle.value_written.specs.Text.{integerText, levelText, markedText}
 use Rattle.value_written.proofs.Texts.{integer-ten, level-length}
 use Rattle.save_lines.specs.Line.{crlf, joined, Lit, litFrom, pairText, pairsText, mostPairs, chanLinesIn, chanLines}
-use Rattle.save_lines.specs.Room.{markedText, atLevelText}
+use Rattle.save_lines.specs.Part.{atLevelText}
 use Rattle.save_lines.proofs.Lengths.{pair-length}
 use Rattle.save_chans.specs.Chan.{lit, leadText, channelText, pairsWith, pairsAfter, endText, channelsText, isDark}
 

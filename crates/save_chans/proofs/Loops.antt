@@ -8,10 +8,10 @@ use lib.ListN.{length, getD, drop}
 use lib.Seq.{drop-drop}
 use Rattle.cells.specs.Scan.{span}
 use Rattle.cells.proofs.Scan.{span-more, span-within}
-use Rattle.value_written.specs.Wrote.{wrote, wroteAt}
+use Rattle.text_room.specs.Wrote.{wrote, wroteAt}
 use Rattle.save_lines.specs.Line.{joined, litFrom, chanLines}
-use Rattle.save_lines.specs.Room.{Room}
-use Rattle.save_lines.proofs.Chain.{Writing, writing-start, writing-room, writing-more, writing-end}
+use Rattle.text_room.specs.Room.{Room}
+use Rattle.text_room.proofs.Chain.{Writing, writing-start, writing-room, writing-more, writing-end}
 use Rattle.save_chans.specs.Chan.{channelText, pairsWith, endText, channelsText, isDark}
 use Rattle.save_chans.proofs.Channels.{channels-are, channels-dark, channels-turn, channels-end, channels-long, after-some, with-most, total-turn}
 use Rattle.save_chans.proofs.Dark.{dark-of}

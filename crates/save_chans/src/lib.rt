@@ -3,9 +3,9 @@ ghost use mathlib.Core.Path.{_≡_};
 ghost use Prim.Native.Nat.{_+_, _≤_, _<_};
 ghost use lib.ListN.{length, getD, take, drop};
 ghost use Rattle.cells.specs.Scan.{span};
-ghost use Rattle.value_written.specs.Wrote.{wrote, wroteAt};
+ghost use Rattle.text_room.specs.Wrote.{wrote, wroteAt};
 ghost use Rattle.save_lines.specs.Line.{joined, litFrom, pairText, chanLines};
-ghost use Rattle.save_lines.specs.Room.{Room};
+ghost use Rattle.text_room.specs.Room.{Room};
 ghost use Rattle.save_chans.specs.Chan.{lit, leadText, channelText, pairsWith, endText, isDark, weighed};
 
 // Up to so many pairs stand in a CHAN record.
@@ -99,7 +99,7 @@ fn put_pair(out: &mut [u8], at: usize, channel: u32, level: u8) -> usize
     requires { ⌜ Room (now out) at (pairText (lit channel level)) ⌝ }
     ensures { λ r. ⌜ wrote r (now (out .exit)) ≡ wroteAt (now (out .entry)) at (pairText (lit channel level)) ⌝ }
 {
-    let mark = save_lines::put_marked(out, at, b" ", channel);
+    let mark = value_written::put_marked(out, at, b" ", channel);
     save_lines::put_at_level(out, mark, level)
 }
 
@@ -109,10 +109,10 @@ fn put_lead(out: &mut [u8], at: usize, pairs: usize) -> usize
     ensures { λ r. ⌜ wrote r (now (out .exit)) ≡ wroteAt (now (out .entry)) at (leadText pairs) ⌝ }
 {
     if pairs == 0 {
-        return save_lines::put_text(out, at, b"CHAN");
+        return text_room::put_text(out, at, b"CHAN");
     }
     if pairs == MOST_PAIRS {
-        return save_lines::put_text(out, at, b"\r\nCHAN");
+        return text_room::put_text(out, at, b"\r\nCHAN");
     }
     at
 }

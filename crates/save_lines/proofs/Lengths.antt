@@ -14,10 +14,9 @@ use Rattle.store_head.specs.declared.Head.{Head}
 use Rattle.store_head.specs.declared.Patch.{Patch}
 use Rattle.value.specs.Number.{fractionDigits}
 use Rattle.value.specs.Time.{tenthsDigits}
-use Rattle.value_written.specs.Text.{integerText, fractionText, numberText, levelText, timeText}
+use Rattle.value_written.specs.Text.{integerText, fractionText, numberText, levelText, timeText, markedText}
 use Rattle.value_written.proofs.Texts.{integer-ten, number-length, fraction-short, level-length, time-length, clock-long}
 use Rattle.save_lines.specs.Line.{crlf, joined, patchText, patchLine, kindText, primaryText, delayText, timeLine, linkLine, headLines, Lit, pairText}
-use Rattle.save_lines.specs.Room.{markedText}
 use Rattle.save_lines.proofs.Parts.{patch-none, patch-some, primary-parts, delay-none, delay-some, time-none, time-some, link-none, link-some, head-parts}
 
 -- ---- values of 32 bits

@@ -1,4 +1,3 @@
-pub mod Chain
 pub mod Parts
 pub mod Lengths
 pub mod Rules

@@ -11,9 +11,9 @@ use Rattle.store_desk.specs.declared.Key.{Key}
 use Rattle.store_desk.specs.declared.Kind.{Kind}
 use Rattle.store_head.specs.declared.Head.{Head}
 use Rattle.store_head.specs.declared.Patch.{Patch}
-use Rattle.value_written.specs.Text.{integerText, numberText, levelText, timeText}
+use Rattle.value_written.specs.Text.{integerText, numberText, levelText, timeText, markedText}
 use Rattle.save_lines.specs.Line.{crlf, joined, patchText, patchLine, kindText, primaryText, delayText, timeLine, linkLine, headLines}
-use Rattle.save_lines.specs.Room.{markedText, atLevelText}
+use Rattle.save_lines.specs.Part.{atLevelText}
 
 -- ---- lines with their ends
 pub joined-nil : joined [] ≡ []
@@ -34,11 +34,7 @@ joined-append [] b = refl
 joined-append (l ∷ a) b =
     ap (λ (z : List ℕ). l ++ (crlf ++ z)) (joined-append a b) ∙ sym (append-assoc l (crlf ++ joined a) (joined b))
 
--- ---- an integer behind a mark, and a level
-pub marked-is : (mark : List ℕ) (n : ℕ) → mark ++ integerText n ≡ markedText mark n
-unfolding markedText
-marked-is mark n = refl
-
+-- ---- a level
 pub at-level-is : (level : ℕ) → bytes "@" ++ levelText level ≡ atLevelText level
 unfolding atLevelText
 at-level-is level = refl

@@ -1,3 +1,3 @@
 pub mod Line
-pub mod Room
+pub mod Part
 pub mod Ruled

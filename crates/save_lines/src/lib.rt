@@ -3,42 +3,27 @@ use store_desk::Key;
 use store_desk::Kind;
 use store_head::Head;
 use store_head::Patch;
+use text_room::put_text;
 use value::Number;
+use value_written::put_marked;
 ghost use mathlib.Core.Path.{_≡_};
 ghost use mathlib.Core.List.{[], _∷_};
 ghost use Prim.Native.Nat.{_≤_, _<_};
 ghost use lib.ListN.{length};
-ghost use Rattle.value_written.specs.Wrote.{wrote, wroteAt};
+ghost use Rattle.text_room.specs.Wrote.{wrote, wroteAt};
 ghost use Rattle.save_lines.specs.Line.{crlf, joined, patchText, patchLine, kindText, primaryText, delayText, timeLine, linkLine, headLines};
-ghost use Rattle.save_lines.specs.Room.{Room, markedText, atLevelText};
+ghost use Rattle.text_room.specs.Room.{Room};
+ghost use Rattle.save_lines.specs.Part.{atLevelText};
 
 // CR and LF.
 const END: usize = 2;
 
 // Every `put` writes its text at a place and answers the place after it.
-pub fn put_text(out: &mut [u8], at: usize, text: &[u8]) -> usize
-    requires { ⌜ Room (now out) at (now text) ⌝ }
-    ensures { λ r. ⌜ wrote r (now (out .exit)) ≡ wroteAt (now (out .entry)) at (now (text .entry)) ⌝ }
-{
-    let end = at + text.len();
-    cells::copy(&mut out[at..end], text);
-    end
-}
-
 pub fn put_end(out: &mut [u8], at: usize) -> usize
     requires { ⌜ Room (now out) at crlf ⌝ }
     ensures { λ r. ⌜ wrote r (now (out .exit)) ≡ wroteAt (now (out .entry)) at crlf ⌝ }
 {
     put_text(out, at, b"\r\n")
-}
-
-// An integer behind a mark.
-pub fn put_marked(out: &mut [u8], at: usize, mark: &[u8], n: u32) -> usize
-    requires { ⌜ Room (now out) at (markedText (now mark) n) ⌝ }
-    ensures { λ r. ⌜ wrote r (now (out .exit)) ≡ wroteAt (now (out .entry)) at (markedText (now (mark .entry)) n) ⌝ }
-{
-    let digits = put_text(out, at, mark);
-    value_written::put_integer(out, digits, n)
 }
 
 pub fn put_at_level(out: &mut [u8], at: usize, level: u8) -> usize

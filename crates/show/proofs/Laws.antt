@@ -29,7 +29,7 @@ use Rattle.store_code.specs.Answer.{LevelsOf}
 use Rattle.load.specs.declared.Totals.{Totals}
 use Rattle.load.specs.Run.{loadOf}
 use Rattle.load_run.specs.Loaded.{Loaded as Ran, loadedOf, loaded as ran}
-use Rattle.value_written.specs.Wrote.{Wrote, wrote, wroteAt}
+use Rattle.text_room.specs.Wrote.{Wrote, wrote, wroteAt}
 use Rattle.store_desk.specs.declared.Refusal.{Refusal}
 use Rattle.store_desk.specs.declared.Refusal.the-variants.{R1, R2, R3, R4, R5, R6}
 use Rattle.show.specs.declared.Admission.{Admission}

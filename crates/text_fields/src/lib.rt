@@ -9,8 +9,8 @@ ghost use Rattle.text_fields.specs.Tables.{classOf, ofClass};
 ghost use Rattle.text_fields.specs.Keywords.{keywordOf, itemOf};
 ghost use Rattle.text_fields.specs.Tables.{keywordAt, itemAt};
 ghost use Rattle.text_fields.specs.Tables.{capitalOf, keyOf, rowAt};
+use cells::at_most;
 use cells::byte;
-use text_records::at_most;
 
 // A field: its place in the text, and the column of its first character in the record as received. A missing field is empty, at
 // the end of the text and in column 0.

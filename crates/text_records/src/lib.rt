@@ -3,12 +3,13 @@
 
 ghost use mathlib.Core.Path.{_≡_};
 ghost use mathlib.Core.Bool.{true};
-ghost use Prim.Native.Nat.{_+_, _-_, _≤_, _<_, min};
+ghost use Prim.Native.Nat.{_+_, _-_, _≤_, _<_};
 ghost use lib.ListN.{length, take, drop};
 ghost use Rattle.text_records.specs.Stream.{isEnd, terminated, recordEnd, nextStart};
 ghost use Rattle.text_records.specs.Received.{recordOf, overLong, textOf};
 ghost use Rattle.text_records.specs.Cleaning.{cleanedOf};
 ghost use Rattle.text_records.specs.Kinds.{kindOf, isOther, allPlain, seenFrom};
+use cells::at_most;
 use cells::byte;
 
 // How many characters a record may have.
@@ -98,13 +99,6 @@ pub fn next_start(stream: &[u8], end: usize) -> usize
     ensures { λ r. ⌜ r ≡ nextStart (now (stream .entry)) end ⌝ }
 {
     end + terminator(byte(stream, end), byte(stream, end + 1))
-}
-
-// The smaller of the two.
-pub fn at_most(n: usize, limit: usize) -> usize
-    ensures { λ r. ⌜ r ≡ min n limit ⌝ }
-{
-    if n < limit { n } else { limit }
 }
 
 // The record from `at` to `end`, by value.

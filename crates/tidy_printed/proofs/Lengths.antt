@@ -1,14 +1,14 @@
 -- How long the lines are, so that a caller knows what room is enough: from the lengths of the parts.
 -- Assumes nothing.
-use mathlib.Core.Path.{_≡_, refl, sym, ap, _∙_}
+use mathlib.Core.Path.{_≡_, refl, ap, _∙_}
 use mathlib.Core.List.{List, [], _∷_, _++_}
-use Prim.Native.Nat.{ℕ, suc, _+_, _*_, _/_, _%_, _≤_, _<_}
+use Prim.Native.Nat.{ℕ, _+_, _*_, _/_, _%_, _≤_, _<_}
 use native.Mathlib.Omega.{arith}
 use lib.ListN.{length, take, length-append, length-take}
 use Rattle.cells.specs.Text.{bytes}
 use Rattle.value_written.specs.Text.{digitsText, integerText}
 use Rattle.value_written.proofs.Texts.{text-length, integer-ten}
-use Rattle.save_lines.specs.Room.{Room}
+use Rattle.text_room.specs.Room.{Room}
 use Rattle.load.specs.declared.Totals.{Totals}
 use Rattle.load.specs.Run.{conditionSpan}
 use Rattle.tidy_printed.specs.Text.{lf, reportText, reportsText, endText, toldText, neededText}

@@ -1,13 +1,13 @@
 -- The loop over the reports: what is written, with the lines of the reports that are left, is all their lines. By the turns of the reports' text.
 -- Assumes nothing.
-use mathlib.Core.Path.{_≡_, refl, sym, ap, _∙_}
-use mathlib.Core.List.{List, [], _∷_, _++_}
+use mathlib.Core.Path.{_≡_, refl}
+use mathlib.Core.List.{List}
 use Prim.Native.Nat.{ℕ, _+_, _≤_, _<_}
 use native.Mathlib.Omega.{arith}
 use lib.ListN.{length, getD, drop}
-use Rattle.value_written.specs.Wrote.{wrote, wroteAt}
-use Rattle.save_lines.specs.Room.{Room}
-use Rattle.save_lines.proofs.Chain.{Writing, writing-start, writing-room, writing-more, writing-none}
+use Rattle.text_room.specs.Wrote.{wrote, wroteAt}
+use Rattle.text_room.specs.Room.{Room}
+use Rattle.text_room.proofs.Chain.{Writing, writing-start, writing-room, writing-more, writing-none}
 use Rattle.tidy_printed.specs.Text.{reportText, reportsText}
 use Rattle.tidy_printed.proofs.Parts.{reports-turn, reports-end}
 

@@ -2,15 +2,14 @@
 -- Assumes nothing.
 use mathlib.Core.Path.{_≡_, refl, sym, ap, _∙_}
 use mathlib.Core.List.{List, [], _∷_, _++_, append-assoc}
-use Prim.Native.Nat.{ℕ, suc, _+_, _/_, _%_, _≤_, _<_, min}
+use Prim.Native.Nat.{ℕ, _+_, _/_, _%_, _≤_, _<_, min}
 use native.Mathlib.Numerals.{add-one}
 use native.Mathlib.Omega.{arith}
 use lib.ListN.{length, take, drop, getD, drop-of-length-le}
 use lib.Seq.{drop-cons, take-all, take-length, length-take-le}
 use Rattle.cells.specs.Text.{bytes}
 use Rattle.cells.proofs.Split.{by-lt}
-use Rattle.value_written.specs.Text.{digitsText, integerText}
-use Rattle.save_lines.specs.Room.{markedText}
+use Rattle.value_written.specs.Text.{digitsText, markedText}
 use Rattle.load.specs.declared.Totals.{Totals}
 use Rattle.load.specs.Run.{conditionSpan}
 use Rattle.tidy_printed.specs.Text.{lf, reportText, reportsText, endText, toldText, neededText}

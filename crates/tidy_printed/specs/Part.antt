@@ -3,8 +3,7 @@
 use mathlib.Core.List.{List, _++_}
 use Prim.Native.Nat.{ℕ}
 use Rattle.cells.specs.Text.{bytes}
-use Rattle.value_written.specs.Text.{digitsText}
-use Rattle.save_lines.specs.Room.{markedText}
+use Rattle.value_written.specs.Text.{digitsText, markedText}
 use Rattle.load.specs.declared.Totals.{Totals}
 
 -- so many digits of a number behind a mark

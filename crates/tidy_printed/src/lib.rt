@@ -2,8 +2,8 @@
 use load::Totals;
 ghost use mathlib.Core.Path.{_≡_};
 ghost use Prim.Native.Nat.{min};
-ghost use Rattle.value_written.specs.Wrote.{wrote, wroteAt};
-ghost use Rattle.save_lines.specs.Room.{Room};
+ghost use Rattle.text_room.specs.Wrote.{wrote, wroteAt};
+ghost use Rattle.text_room.specs.Room.{Room};
 ghost use Rattle.tidy_printed.specs.Text.{reportText, reportsText, endText, toldText, neededText};
 ghost use Rattle.tidy_printed.specs.Part.{fixedText, talliesText};
 
@@ -21,7 +21,7 @@ fn put_fixed(out: &mut [u8], at: usize, mark: &[u8], n: u32, count: usize) -> us
     requires { ⌜ Room (now out) at (fixedText (now mark) count n) ⌝ }
     ensures { λ r. ⌜ wrote r (now (out .exit)) ≡ wroteAt (now (out .entry)) at (fixedText (now (mark .entry)) count n) ⌝ }
 {
-    let digits = save_lines::put_text(out, at, mark);
+    let digits = text_room::put_text(out, at, mark);
     value_written::put_digits(out, digits, n, count, DECIMAL)
 }
 
@@ -37,7 +37,7 @@ pub fn put_report(out: &mut [u8], at: usize, word: u32) -> usize
         word % CONDITION_SPAN,
         CONDITION_DIGITS,
     );
-    save_lines::put_text(out, end, b"\n")
+    text_room::put_text(out, end, b"\n")
 }
 
 pub fn put_reports(out: &mut [u8], at: usize, reports: &[u32]) -> usize
@@ -58,10 +58,10 @@ fn put_tallies(out: &mut [u8], at: usize, t: Totals) -> usize
     requires { ⌜ Room (now out) at (talliesText t) ⌝ }
     ensures { λ r. ⌜ wrote r (now (out .exit)) ≡ wroteAt (now (out .entry)) at (talliesText t) ⌝ }
 {
-    let obeyed = save_lines::put_marked(out, at, b" blank ", t.blank);
-    let passed = save_lines::put_marked(out, obeyed, b" obeyed ", t.obeyed);
-    let dropped = save_lines::put_marked(out, passed, b" passed ", t.passed);
-    save_lines::put_marked(out, dropped, b" dropped ", t.dropped)
+    let obeyed = value_written::put_marked(out, at, b" blank ", t.blank);
+    let passed = value_written::put_marked(out, obeyed, b" obeyed ", t.obeyed);
+    let dropped = value_written::put_marked(out, passed, b" passed ", t.passed);
+    value_written::put_marked(out, dropped, b" dropped ", t.dropped)
 }
 
 pub fn put_end_line(out: &mut [u8], at: usize, t: Totals) -> usize
@@ -70,18 +70,14 @@ pub fn put_end_line(out: &mut [u8], at: usize, t: Totals) -> usize
 {
     let tallies = put_fixed(out, at, b"END ", t.closing, CONDITION_DIGITS);
     let end = put_tallies(out, tallies, t);
-    save_lines::put_text(out, end, b"\n")
+    text_room::put_text(out, end, b"\n")
 }
 
 // How many of `count` reports a list of `room` words keeps.
 fn stored(count: u32, room: usize) -> usize
     ensures { λ r. ⌜ r ≡ min count room ⌝ }
 {
-    let all = cells::place(count);
-    if all < room {
-        return all;
-    }
-    room
+    cells::at_most(cells::place(count), room)
 }
 
 // What a load is told as: its stored reports, and the END line.
@@ -98,6 +94,6 @@ pub fn put_needed(out: &mut [u8], at: usize, n: u32) -> usize
     requires { ⌜ Room (now out) at (neededText n) ⌝ }
     ensures { λ r. ⌜ wrote r (now (out .exit)) ≡ wroteAt (now (out .entry)) at (neededText n) ⌝ }
 {
-    let end = save_lines::put_marked(out, at, b"R6 ", n);
-    save_lines::put_text(out, end, b"\n")
+    let end = value_written::put_marked(out, at, b"R6 ", n);
+    text_room::put_text(out, end, b"\n")
 }

@@ -19,9 +19,9 @@ use Rattle.store_desk.specs.Size.{house}
 use Rattle.store.specs.Good.{Ready}
 use Rattle.save.specs.Lines.{streamOf}
 use Rattle.save.proofs.House.{house-short}
-use Rattle.value_written.specs.Wrote.{wrote, wroteAt}
-use Rattle.value_written.proofs.Writes.{wrote-count, wrote-as}
-use Rattle.save_lines.specs.Room.{Room}
+use Rattle.text_room.specs.Wrote.{wrote, wroteAt}
+use Rattle.text_room.proofs.Writes.{wrote-count, wrote-as}
+use Rattle.text_room.specs.Room.{Room}
 use Rattle.show.specs.declared.Admission.the-variants.{Admitted}
 use Rattle.show.specs.declared.Written.{Written}
 use Rattle.show.specs.declared.Written.the-variants.{Away, Done}

@@ -19,10 +19,10 @@ use Rattle.store.specs.Good.{Ready}
 use Rattle.store.proofs.Empty.{empty-good}
 use Rattle.load.specs.declared.Totals.{Totals}
 use Rattle.load.specs.Run.{Run, totalsOf, storedIn, allReports}
-use Rattle.value_written.specs.Wrote.{wrote, wroteAt}
-use Rattle.value_written.proofs.Writes.{wrote-as, wrote-then, next-is, out-is}
-use Rattle.save_lines.specs.Room.{Room}
-use Rattle.save_lines.proofs.Chain.{wrote-length}
+use Rattle.text_room.specs.Wrote.{wrote, wroteAt}
+use Rattle.text_room.proofs.Writes.{wrote-as, wrote-then, next-is, out-is}
+use Rattle.text_room.specs.Room.{Room}
+use Rattle.text_room.proofs.Chain.{wrote-length}
 use Rattle.show.specs.declared.Loaded.{Loaded}
 use Rattle.show.specs.declared.Loaded.the-variants.{Away, Done}
 use Rattle.show.specs.Calls.{LoadCall, loaded, loadDone, loadCall}

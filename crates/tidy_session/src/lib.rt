@@ -11,7 +11,7 @@ ghost use Prim.Native.Nat.{_+_, _≤_};
 ghost use lib.ListN.{length, replicate};
 ghost use Rattle.store_desk.specs.Size.{house};
 ghost use Rattle.store.specs.Good.{Ready};
-ghost use Rattle.value_written.specs.Wrote.{wrote, wroteAt};
+ghost use Rattle.text_room.specs.Wrote.{wrote, wroteAt};
 ghost use Rattle.tidy_printed.specs.Text.{toldText};
 ghost use Rattle.tidy_session.specs.Session.{shownText, readIn, answerText, tidyText};
 
@@ -82,7 +82,7 @@ pub fn tidy(input: &[u8], out: &mut [u8]) -> usize
     ensures { λ r. ⌜ wrote r (now (out .exit)) ≡ wroteAt (now (out .entry)) 0 (tidyText (now (input .entry))) ⌝ }
 {
     if MOST_INPUT < input.len() {
-        return save_lines::put_text(out, 0, b"input too long\n");
+        return text_room::put_text(out, 0, b"input too long\n");
     }
     put_load(input, out)
 }

@@ -41,8 +41,8 @@ fn case_at(input: &[u8], at: usize) -> Case
     ensures { λ r. ⌜ r ≡ caseAt (now (input .entry)) at ⌝ }
 {
     let line = text_records::record_end(input, at);
-    let body = text_records::at_most(line + 1, input.len());
-    let count = text_records::at_most(length_in(&input[at..line]), input.len() - body);
+    let body = cells::at_most(line + 1, input.len());
+    let count = cells::at_most(length_in(&input[at..line]), input.len() - body);
     Case {
         line,
         body,

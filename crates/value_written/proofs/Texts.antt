@@ -17,7 +17,7 @@ use Rattle.cells.proofs.Put.{put-nil, put-comm, put-next, set-is-put}
 use Rattle.value.specs.Parts.{point, colon}
 use Rattle.value.specs.Number.{wholeMax, fractionDigits}
 use Rattle.value.specs.Time.{tenthsDigits, clockMax, timeMax}
-use Rattle.value_written.specs.Text.{digitChar, digitsOn, digitsText, countFrom, countOf, integerText, fractionText, numberText, levelText, partText, clockText, timeText, isPlain}
+use Rattle.value_written.specs.Text.{digitChar, digitsOn, digitsText, countFrom, countOf, integerText, fractionText, numberText, levelText, partText, clockText, timeText, markedText, isPlain}
 
 -- ---- a digit's character
 pub char-decimal : (d : ℕ) → d < 10 → digitChar d ≡ 48 + d
@@ -415,3 +415,16 @@ time-plain t =
     all-append isPlain (clockText (t / 10)) (fractionText tenthsDigits (t % 10))
     (clock-all isPlain plain-digit (plain-low colon (omega arith) (omega arith)) (t / 10))
     (fraction-all isPlain plain-digit plain-point tenthsDigits (t % 10))
+
+-- ---- the pieces that the code writes one behind the other
+pub marked-pieces : (mark : List ℕ) (n : ℕ) → mark ++ integerText n ≡ markedText mark n
+unfolding markedText
+marked-pieces mark n = refl
+
+pub number-pieces : (w f : ℕ) → integerText w ++ fractionText fractionDigits f ≡ numberText w f
+unfolding numberText
+number-pieces w f = refl
+
+pub time-pieces : (t : ℕ) → clockText (t / 10) ++ fractionText tenthsDigits (t % 10) ≡ timeText t
+unfolding timeText
+time-pieces t = refl

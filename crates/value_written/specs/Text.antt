@@ -62,6 +62,10 @@ clockText s =
 unfoldable pub timeText : ℕ → List ℕ
 timeText t = clockText (t / 10) ++ fractionText tenthsDigits (t % 10)
 
+-- an integer behind a mark
+unfoldable pub markedText : List ℕ → ℕ → List ℕ
+markedText mark n = mark ++ integerText n
+
 -- ---- the characters of a written value: digits, `.`, `:`, and A to H. No delimiter, no `!`, no control character is among them.
 unfoldable pub isPlain : ℕ → Bool
 isPlain c = eqb c 46 || ((leb 48 c && leb c 58) || (leb 65 c && leb c 72))

@@ -1,12 +1,14 @@
 // Values written (paper 01, "The written stream"): integers, numbers, levels, times, each with its length, into a part of a lent output.
+use text_room::put_text;
 use value::FRACTION_DIGITS;
 use value::Number;
 use value::TENTHS_DIGITS;
 ghost use mathlib.Core.Path.{_≡_};
 ghost use Prim.Native.Nat.{_+_, _<_, _≤_};
 ghost use lib.ListN.{length};
-ghost use Rattle.value_written.specs.Text.{digitChar, digitsText, integerText, fractionText, numberText, levelText, partText, clockText, timeText};
-ghost use Rattle.value_written.specs.Wrote.{wrote, wroteAt};
+ghost use Rattle.value_written.specs.Text.{digitChar, digitsText, integerText, fractionText, numberText, levelText, partText, clockText, timeText, markedText};
+ghost use Rattle.text_room.specs.Room.{Room};
+ghost use Rattle.text_room.specs.Wrote.{wrote, wroteAt};
 
 const DECIMAL: u32 = 10;
 
@@ -58,11 +60,20 @@ pub fn integer_length(n: u32) -> usize
 }
 
 pub fn put_integer(out: &mut [u8], at: usize, n: u32) -> usize
-    requires { ⌜ at + length (integerText n) ≤ length (now out) ⌝ }
+    requires { ⌜ Room (now out) at (integerText n) ⌝ }
     ensures { λ r. ⌜ wrote r (now (out .exit)) ≡ wroteAt (now (out .entry)) at (integerText n) ⌝ }
 {
     let count = integer_length(n);
     put_digits(out, at, n, count, DECIMAL)
+}
+
+// An integer behind a mark.
+pub fn put_marked(out: &mut [u8], at: usize, mark: &[u8], n: u32) -> usize
+    requires { ⌜ Room (now out) at (markedText (now mark) n) ⌝ }
+    ensures { λ r. ⌜ wrote r (now (out .exit)) ≡ wroteAt (now (out .entry)) at (markedText (now (mark .entry)) n) ⌝ }
+{
+    let digits = put_text(out, at, mark);
+    put_integer(out, digits, n)
 }
 
 // A point and `digits` digits, or nothing where they are zero.
@@ -77,7 +88,7 @@ fn fraction_length(f: u32, digits: usize) -> usize
 }
 
 fn put_fraction(out: &mut [u8], at: usize, f: u32, digits: usize) -> usize
-    requires { ⌜ at + length (fractionText digits f) ≤ length (now out) ⌝ }
+    requires { ⌜ Room (now out) at (fractionText digits f) ⌝ }
     ensures { λ r. ⌜ wrote r (now (out .exit)) ≡ wroteAt (now (out .entry)) at (fractionText digits f) ⌝ }
 {
     if f == 0 {
@@ -94,7 +105,7 @@ pub fn number_length(x: Number) -> usize
 }
 
 pub fn put_number(out: &mut [u8], at: usize, x: Number) -> usize
-    requires { ⌜ at + length (numberText (x .whole) (x .fraction)) ≤ length (now out) ⌝ }
+    requires { ⌜ Room (now out) at (numberText (x .whole) (x .fraction)) ⌝ }
     ensures { λ r. ⌜ wrote r (now (out .exit)) ≡ wroteAt (now (out .entry)) at (numberText (x .whole) (x .fraction)) ⌝ }
 {
     let point = put_integer(out, at, x.whole);
@@ -108,7 +119,7 @@ pub fn level_length(level: u8) -> usize
 }
 
 pub fn put_level(out: &mut [u8], at: usize, level: u8) -> usize
-    requires { ⌜ at + length (levelText level) ≤ length (now out) ⌝ }
+    requires { ⌜ Room (now out) at (levelText level) ⌝ }
     ensures { λ r. ⌜ wrote r (now (out .exit)) ≡ wroteAt (now (out .entry)) at (levelText level) ⌝ }
 {
     out[at] = b'H';
@@ -117,7 +128,7 @@ pub fn put_level(out: &mut [u8], at: usize, level: u8) -> usize
 
 // A part of a time after a colon, in two digits.
 fn put_part(out: &mut [u8], at: usize, v: u32) -> usize
-    requires { ⌜ at + length (partText v) ≤ length (now out) ⌝ }
+    requires { ⌜ Room (now out) at (partText v) ⌝ }
     ensures { λ r. ⌜ wrote r (now (out .exit)) ≡ wroteAt (now (out .entry)) at (partText v) ⌝ }
 {
     out[at] = b':';
@@ -138,7 +149,7 @@ fn clock_length(seconds: u32) -> usize
 
 // Seconds alone below a minute, minutes and seconds below an hour, else all three.
 fn put_clock(out: &mut [u8], at: usize, seconds: u32) -> usize
-    requires { ⌜ at + length (clockText seconds) ≤ length (now out) ⌝ }
+    requires { ⌜ Room (now out) at (clockText seconds) ⌝ }
     ensures { λ r. ⌜ wrote r (now (out .exit)) ≡ wroteAt (now (out .entry)) at (clockText seconds) ⌝ }
 {
     if seconds < 60 {
@@ -160,7 +171,7 @@ pub fn time_length(tenths: u32) -> usize
 }
 
 pub fn put_time(out: &mut [u8], at: usize, tenths: u32) -> usize
-    requires { ⌜ at + length (timeText tenths) ≤ length (now out) ⌝ }
+    requires { ⌜ Room (now out) at (timeText tenths) ⌝ }
     ensures { λ r. ⌜ wrote r (now (out .exit)) ≡ wroteAt (now (out .entry)) at (timeText tenths) ⌝ }
 {
     let point = put_clock(out, at, tenths / 10);

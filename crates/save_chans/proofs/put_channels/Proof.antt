@@ -5,7 +5,7 @@ use mathlib.Core.Path.{_∙_}
 use native.Mathlib.Omega.{arith}
 use lib.ListN.{length}
 use Prim.Native.Nat.{_-_}
-use Rattle.save_lines.proofs.Chain.{writing-length}
+use Rattle.text_room.proofs.Chain.{writing-length}
 use Rattle.save_chans.proofs.Loops.{Putting, putting-start, putting-room, putting-turn, putting-dark, putting-last, putting-end}
 use borrow.Author.Needs.{needs}
 use Rattle.save_chans.proofs.put_channels.Statement.{statement}

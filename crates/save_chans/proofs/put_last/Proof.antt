@@ -1,9 +1,9 @@
 -- `put_last` meets its contract: a record that is begun ends.
 -- Assumes nothing.
-use Rattle.value_written.proofs.Writes.{wrote-as}
+use Rattle.text_room.proofs.Writes.{wrote-as}
 use mathlib.Core.Path.{sym}
 use Rattle.save_chans.proofs.Channels.{end-none, end-some}
-use Rattle.save_lines.proofs.Chain.{room-is, wrote-nothing}
+use Rattle.text_room.proofs.Chain.{room-is, wrote-nothing}
 use borrow.Author.Needs.{needs}
 use Rattle.save_chans.proofs.put_last.Statement.{statement}
 use Rattle.save_chans.proofs.put_last.Tie as tie

@@ -1,9 +1,9 @@
 -- `put_lead` meets its contract: by how many pairs the record has.
 -- Assumes nothing.
-use Rattle.value_written.proofs.Writes.{wrote-as}
+use Rattle.text_room.proofs.Writes.{wrote-as}
 use mathlib.Core.Path.{sym}
 use Rattle.save_chans.proofs.Channels.{lead-first, lead-full, lead-within}
-use Rattle.save_lines.proofs.Chain.{room-is, wrote-nothing}
+use Rattle.text_room.proofs.Chain.{room-is, wrote-nothing}
 use borrow.Author.Needs.{needs}
 use Rattle.save_chans.proofs.put_lead.Statement.{statement}
 use Rattle.save_chans.proofs.put_lead.Tie as tie

@@ -1,9 +1,9 @@
 -- `put_at_level` meets its contract: one text behind the other.
 -- Assumes nothing.
-use Rattle.value_written.proofs.Writes.{wrote-as}
+use Rattle.text_room.proofs.Writes.{wrote-as}
 use mathlib.Core.Path.{sym}
 use Rattle.save_lines.proofs.Parts.{at-level-is}
-use Rattle.save_lines.proofs.Chain.{room-is, first-room, then-room, both}
+use Rattle.text_room.proofs.Chain.{room-is, first-room, then-room, both}
 use borrow.Author.Needs.{needs}
 use Rattle.save_lines.proofs.put_at_level.Statement.{statement}
 use Rattle.save_lines.proofs.put_at_level.Tie as tie
@@ -15,7 +15,7 @@ put-text-requires : tie.Need-put-text-requires
 put-text-requires c κs = first-room _ (room-is (sym (at-level-is _)) (c .before .before .before .pre))
 
 put-level-requires : tie.Need-put-level-requires
-put-level-requires c κs = then-room _ (room-is (sym (at-level-is _)) (c .before .before .before .before .before .before .before .pre)) (c .before .before .before .put-text .ensures) .fits
+put-level-requires c κs = then-room _ (room-is (sym (at-level-is _)) (c .before .before .before .before .before .before .before .pre)) (c .before .before .before .put-text .ensures)
 
 same-length : tie.Need-same-length
 same-length c = search needs

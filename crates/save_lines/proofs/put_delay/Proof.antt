@@ -1,10 +1,10 @@
 -- `put_delay` meets its contract: nothing for zero, else a space and the time.
 -- Assumes nothing.
-use Rattle.value_written.proofs.Writes.{wrote-as}
+use Rattle.text_room.proofs.Writes.{wrote-as}
 use mathlib.Core.Path.{sym}
-use Rattle.save_lines.proofs.Chain.{wrote-nothing}
+use Rattle.text_room.proofs.Chain.{wrote-nothing}
 use Rattle.save_lines.proofs.Parts.{delay-none, delay-some}
-use Rattle.save_lines.proofs.Chain.{room-is, first-room, then-room, both}
+use Rattle.text_room.proofs.Chain.{room-is, first-room, then-room, both}
 use borrow.Author.Needs.{needs}
 use Rattle.save_lines.proofs.put_delay.Statement.{statement}
 use Rattle.save_lines.proofs.put_delay.Tie as tie
@@ -19,7 +19,7 @@ put-text-requires : tie.Need-put-text-requires
 put-text-requires c κs = first-room _ (room-is (sym (delay-some _ (c .before .before .if1 .left))) (c .before .before .before .before .pre))
 
 put-time-requires : tie.Need-put-time-requires
-put-time-requires c κs = (then-room _ (room-is (sym (delay-some _ (c .before .before .before .before .before .before .if1 .left))) (c .before .before .before .before .before .before .before .before .pre)) (c .before .before .before .put-text .ensures)) .fits
+put-time-requires c κs = then-room _ (room-is (sym (delay-some _ (c .before .before .before .before .before .before .if1 .left))) (c .before .before .before .before .before .before .before .before .pre)) (c .before .before .before .put-text .ensures)
 
 same-length : tie.Need-same-length
 same-length c = search needs

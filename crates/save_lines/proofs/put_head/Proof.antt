@@ -1,9 +1,9 @@
 -- `put_head` meets its contract: the four lines, one behind the other.
 -- Assumes nothing.
-use Rattle.value_written.proofs.Writes.{wrote-as}
+use Rattle.text_room.proofs.Writes.{wrote-as}
 use mathlib.Core.Path.{sym}
 use Rattle.save_lines.proofs.Parts.{head-parts}
-use Rattle.save_lines.proofs.Chain.{room-is, first-room, then-room, both}
+use Rattle.text_room.proofs.Chain.{room-is, first-room, then-room, both}
 use borrow.Author.Needs.{needs}
 use Rattle.save_lines.proofs.put_head.Statement.{statement}
 use Rattle.save_lines.proofs.put_head.Tie as tie

@@ -1,9 +1,9 @@
 -- `put_kind` meets its contract, kind by kind.
 -- Assumes nothing.
-use Rattle.value_written.proofs.Writes.{wrote-as}
+use Rattle.text_room.proofs.Writes.{wrote-as}
 use mathlib.Core.Path.{ap, sym}
 use Rattle.save_lines.specs.Line.{kindText}
-use Rattle.save_lines.proofs.Chain.{room-is}
+use Rattle.text_room.proofs.Chain.{room-is}
 use borrow.Author.Needs.{needs}
 use Rattle.save_lines.proofs.put_kind.Statement.{statement}
 use Rattle.save_lines.proofs.put_kind.Tie as tie

@@ -1,11 +1,11 @@
 -- `put_link` meets its contract: nothing where there is no link, else its parts, one behind the other.
 -- Assumes nothing.
 use Rattle.value_written.specs.Text.{numberText}
-use Rattle.value_written.proofs.Writes.{wrote-as}
+use Rattle.text_room.proofs.Writes.{wrote-as}
 use mathlib.Core.Path.{sym}
-use Rattle.save_lines.proofs.Chain.{wrote-nothing}
+use Rattle.text_room.proofs.Chain.{wrote-nothing}
 use Rattle.save_lines.proofs.Parts.{link-none, link-some}
-use Rattle.save_lines.proofs.Chain.{room-is, first-room, then-room, both}
+use Rattle.text_room.proofs.Chain.{room-is, first-room, then-room, both}
 use borrow.Author.Needs.{needs}
 use Rattle.save_lines.proofs.put_link.Statement.{statement}
 use Rattle.save_lines.proofs.put_link.Tie as tie
@@ -20,7 +20,7 @@ put-text-requires : tie.Need-put-text-requires
 put-text-requires c κs = first-room _ (room-is (sym (link-some _ (c .before .before .if1 .left))) (c .before .before .before .before .before .pre))
 
 put-number-requires : tie.Need-put-number-requires
-put-number-requires c κs = (first-room {xs = numberText (c .before .before .before .before .before .before .before .before .before .args .h .«link_whole») (c .before .before .before .before .before .before .before .before .before .args .h .«link_fraction»)} _ (then-room _ (room-is (sym (link-some _ (c .before .before .before .before .before .before .if1 .left))) (c .before .before .before .before .before .before .before .before .before .pre)) (c .before .before .before .put-text .ensures))) .fits
+put-number-requires c κs = first-room {xs = numberText (c .before .before .before .before .before .before .before .before .before .args .h .«link_whole») (c .before .before .before .before .before .before .before .before .before .args .h .«link_fraction»)} _ (then-room _ (room-is (sym (link-some _ (c .before .before .before .before .before .before .if1 .left))) (c .before .before .before .before .before .before .before .before .before .pre)) (c .before .before .before .put-text .ensures))
 
 put-end-requires : tie.Need-put-end-requires
 put-end-requires c κs = then-room _ (then-room _ (room-is (sym (link-some _ (c .before .before .before .before .before .before .before .before .before .before .if1 .left))) (c .before .before .before .before .before .before .before .before .before .before .before .before .before .pre)) (c .before .before .before .before .before .before .before .put-text .ensures)) (c .before .before .before .put-number .ensures)

@@ -1,10 +1,10 @@
 -- `put_patch` meets its contract: nothing for an unpatched dimmer, else the record and its end.
 -- Assumes nothing.
-use Rattle.value_written.proofs.Writes.{wrote-as}
+use Rattle.text_room.proofs.Writes.{wrote-as}
 use mathlib.Core.Path.{sym}
-use Rattle.save_lines.proofs.Chain.{wrote-nothing}
+use Rattle.text_room.proofs.Chain.{wrote-nothing}
 use Rattle.save_lines.proofs.Parts.{patch-none, patch-some}
-use Rattle.save_lines.proofs.Chain.{room-is, first-room, then-room, both}
+use Rattle.text_room.proofs.Chain.{room-is, first-room, then-room, both}
 use borrow.Author.Needs.{needs}
 use Rattle.save_lines.proofs.put_patch.Statement.{statement}
 use Rattle.save_lines.proofs.put_patch.Tie as tie

@@ -1,10 +1,10 @@
 -- `put_primary` meets its contract: its parts, one behind the other.
 -- Assumes nothing.
 use Rattle.value_written.specs.Text.{numberText}
-use Rattle.value_written.proofs.Writes.{wrote-as}
+use Rattle.text_room.proofs.Writes.{wrote-as}
 use mathlib.Core.Path.{sym}
 use Rattle.save_lines.proofs.Parts.{primary-parts}
-use Rattle.save_lines.proofs.Chain.{room-is, first-room, then-room, both}
+use Rattle.text_room.proofs.Chain.{room-is, first-room, then-room, both}
 use borrow.Author.Needs.{needs}
 use Rattle.save_lines.proofs.put_primary.Statement.{statement}
 use Rattle.save_lines.proofs.put_primary.Tie as tie
@@ -13,7 +13,7 @@ put-kind-requires : tie.Need-put-kind-requires
 put-kind-requires c κs = first-room _ (room-is (sym (primary-parts _ _)) (c .before .before .pre))
 
 put-number-requires : tie.Need-put-number-requires
-put-number-requires c κs = (first-room {xs = numberText (c .before .before .before .before .before .before .args .key .whole) (c .before .before .before .before .before .before .args .key .fraction)} _ (then-room _ (room-is (sym (primary-parts _ _)) (c .before .before .before .before .before .before .pre)) (c .before .before .before .put-kind .ensures))) .fits
+put-number-requires c κs = first-room {xs = numberText (c .before .before .before .before .before .before .args .key .whole) (c .before .before .before .before .before .before .args .key .fraction)} _ (then-room _ (room-is (sym (primary-parts _ _)) (c .before .before .before .before .before .before .pre)) (c .before .before .before .put-kind .ensures))
 
 slice-aggregate-put-marked : tie.Need-slice-aggregate-put-marked
 slice-aggregate-put-marked c = search needs

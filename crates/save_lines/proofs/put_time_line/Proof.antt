@@ -1,11 +1,11 @@
 -- `put_time_line` meets its contract: nothing where the value is absent, else its parts, one behind the other.
 -- Assumes nothing.
 use Rattle.value_written.specs.Text.{timeText}
-use Rattle.value_written.proofs.Writes.{wrote-as}
+use Rattle.text_room.proofs.Writes.{wrote-as}
 use mathlib.Core.Path.{sym}
-use Rattle.save_lines.proofs.Chain.{wrote-nothing}
+use Rattle.text_room.proofs.Chain.{wrote-nothing}
 use Rattle.save_lines.proofs.Parts.{time-none, time-some}
-use Rattle.save_lines.proofs.Chain.{room-is, first-room, then-room, both}
+use Rattle.text_room.proofs.Chain.{room-is, first-room, then-room, both}
 use borrow.Author.Needs.{needs}
 use Rattle.save_lines.proofs.put_time_line.Statement.{statement}
 use Rattle.save_lines.proofs.put_time_line.Tie as tie
@@ -17,7 +17,7 @@ put-text-requires : tie.Need-put-text-requires
 put-text-requires c κs = first-room _ (room-is (sym (time-some _ _ _ _ (c .before .if1 .left))) (c .before .before .before .before .pre))
 
 put-time-requires : tie.Need-put-time-requires
-put-time-requires c κs = (first-room {xs = timeText (c .before .before .before .before .before .before .before .before .args .fade)} _ (then-room _ (room-is (sym (time-some _ _ _ _ (c .before .before .before .before .before .if1 .left))) (c .before .before .before .before .before .before .before .before .pre)) (c .before .before .before .put-text .ensures))) .fits
+put-time-requires c κs = first-room {xs = timeText (c .before .before .before .before .before .before .before .before .args .fade)} _ (then-room _ (room-is (sym (time-some _ _ _ _ (c .before .before .before .before .before .if1 .left))) (c .before .before .before .before .before .before .before .before .pre)) (c .before .before .before .put-text .ensures))
 
 put-delay-requires : tie.Need-put-delay-requires
 put-delay-requires c κs = first-room _ (then-room _ (then-room _ (room-is (sym (time-some _ _ _ _ (c .before .before .before .before .before .before .before .before .before .if1 .left))) (c .before .before .before .before .before .before .before .before .before .before .before .before .pre)) (c .before .before .before .before .before .before .before .put-text .ensures)) (c .before .before .before .put-time .ensures))

@@ -2,8 +2,8 @@
 -- Assumes nothing.
 use mathlib.Core.Path.{sym}
 use native.Mathlib.Omega.{arith}
-use Rattle.value_written.proofs.Writes.{wrote-as}
-use Rattle.save_lines.proofs.Chain.{room-is, first-room, then-room, both}
+use Rattle.text_room.proofs.Writes.{wrote-as}
+use Rattle.text_room.proofs.Chain.{room-is, first-room, then-room, both}
 use Rattle.tidy_printed.proofs.Parts.{fixed-is}
 use Rattle.tidy_printed.proofs.Lengths.{digits-room}
 use borrow.Author.Needs.{needs}

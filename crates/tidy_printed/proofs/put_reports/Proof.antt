@@ -4,7 +4,7 @@
 use native.Mathlib.Omega.{arith}
 use lib.ListN.{length}
 use Prim.Native.Nat.{_-_}
-use Rattle.save_lines.proofs.Chain.{writing-length}
+use Rattle.text_room.proofs.Chain.{writing-length}
 use Rattle.tidy_printed.proofs.Loops.{Printing, printing-start, printing-room, printing-turn, printing-end}
 use borrow.Author.Needs.{needs}
 use Rattle.tidy_printed.proofs.put_reports.Statement.{statement}

@@ -3,7 +3,7 @@
 use Rattle.tidy_session.proofs.Told.{never-away, loaded-ready, answer-is}
 use Rattle.tidy_session.proofs.put_load.Statement.{statement}
 use Rattle.tidy_session.proofs.put_load.Tie as tie
-use Rattle.value_written.proofs.Writes.{wrote-as}
+use Rattle.text_room.proofs.Writes.{wrote-as}
 use borrow.Author.Needs.{needs}
 
 slice-aggregate-load : tie.Need-slice-aggregate-load

@@ -1,6 +1,6 @@
 -- `put_digits` meets its contract. The invariant: to put what digits are left is to put all of them into the output as it came.
 -- Assumes nothing.
-use Rattle.value_written.proofs.Writes.{wrote-count}
+use Rattle.text_room.proofs.Writes.{wrote-count}
 use mathlib.Core.Path.{_≡_, refl, sym, _∙_}
 use Prim.Native.Nat.{_≤_}
 use native.Mathlib.Nat.{mod-lt}

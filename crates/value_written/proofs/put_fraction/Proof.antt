@@ -4,7 +4,7 @@ use mathlib.Core.Path.{sym, _∙_}
 use native.Mathlib.Omega.{arith}
 use lib.ListN.{length-set}
 use Rattle.value_written.proofs.Texts.{fraction-none, fraction-some, fraction-length-some}
-use Rattle.value_written.proofs.Writes.{wrote-none, wrote-lead, wrote-as}
+use Rattle.text_room.proofs.Writes.{wrote-none, wrote-lead, wrote-as}
 use borrow.Author.Needs.{needs}
 use Rattle.value_written.proofs.put_fraction.Statement.{statement}
 use Rattle.value_written.proofs.put_fraction.Tie as tie

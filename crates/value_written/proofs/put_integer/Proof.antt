@@ -1,7 +1,7 @@
 -- `put_integer` meets its contract: as many digits as the number has.
 -- Assumes nothing.
 use Rattle.value_written.proofs.Texts.{integer-is}
-use Rattle.value_written.proofs.Writes.{wrote-as}
+use Rattle.text_room.proofs.Writes.{wrote-as}
 use borrow.Author.Needs.{needs}
 use Rattle.value_written.proofs.put_integer.Statement.{statement}
 use Rattle.value_written.proofs.put_integer.Tie as tie

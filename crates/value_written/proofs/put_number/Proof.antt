@@ -1,34 +1,24 @@
 -- `put_number` meets its contract: one text behind the other.
 -- Assumes nothing.
-use Rattle.value.specs.Number.{fractionDigits}
-use Rattle.value_written.specs.Text.{integerText, fractionText, numberText}
-use Rattle.value_written.proofs.Writes.{wrote-then, room-first, room-then, room-start}
-use borrow.Author.Needs.{needs}
+use Rattle.text_room.proofs.Chain.{room-is, first-room, then-room, both}
+use Rattle.text_room.proofs.Writes.{wrote-as}
+use Rattle.value_written.proofs.Texts.{number-pieces}
 use Rattle.value_written.proofs.put_number.Statement.{statement}
 use Rattle.value_written.proofs.put_number.Tie as tie
+use borrow.Author.Needs.{needs}
+use mathlib.Core.Path.{sym}
 
 put-integer-requires : tie.Need-put-integer-requires
-unfolding numberText
-put-integer-requires c κs =
-    room-first _ _ (integerText (c .before .before .args .x .whole))
-    (fractionText fractionDigits (c .before .before .args .x .fraction)) (c .before .before .pre)
+put-integer-requires c κs = first-room _ (room-is (sym (number-pieces _ _)) (c .before .before .pre))
 
 put-fraction-requires : tie.Need-put-fraction-requires
-unfolding numberText
-put-fraction-requires c κs =
-    room-then _ _ (integerText (c .before .before .before .before .before .before .args .x .whole))
-    (fractionText fractionDigits (c .before .before .before .before .before .before .args .x .fraction))
-    (c .before .before .before .before .before .before .pre) (c .before .before .before .put-integer .ensures)
+put-fraction-requires c κs = then-room _ (room-is (sym (number-pieces _ _)) (c .before .before .before .before .before .before .pre)) (c .before .before .before .put-integer .ensures)
 
 same-length : tie.Need-same-length
 same-length c = search needs
 
 returns : tie.Need-returns
-unfolding numberText
-returns c =
-    wrote-then _ _ _ _
-    (room-start _ _ (numberText (c .before .before .before .before .before .before .before .before .before .args .x .whole) (c .before .before .before .before .before .before .before .before .before .args .x .fraction)) (c .before .before .before .before .before .before .before .before .before .pre))
-    (c .before .before .before .before .before .before .put-integer .ensures) (c .before .before .put-fraction .ensures)
+returns c = wrote-as _ _ (number-pieces _ _) (both _ _ (room-is (sym (number-pieces _ _)) (c .before .before .before .before .before .before .before .before .before .pre)) (c .before .before .before .before .before .before .put-integer .ensures) (c .before .before .put-fraction .ensures))
 
 pub put-number-spec : {M : Type 1} → statement M
 put-number-spec =

@@ -4,29 +4,35 @@ use mathlib.Core.Path.{_≡_, refl, sym, ap, _∙_, subst}
 use mathlib.Core.List.{List, [], _++_, append-assoc, append-nil}
 use Prim.Native.Nat.{ℕ, _+_, _-_, _≤_}
 use native.Mathlib.Omega.{arith}
-use lib.ListN.{length, take, drop}
+use lib.ListN.{length, take, drop, length-append}
 use Rattle.cells.specs.Put.{put}
 use Rattle.cells.proofs.Put.{length-put, put-front}
-use Rattle.value_written.specs.Wrote.{wrote, wroteAt}
-use Rattle.value_written.proofs.Writes.{out-is, wrote-is, wrote-none, wrote-then, wrote-as, room-first, room-then, room-start}
-use Rattle.save_lines.specs.Room.{Room}
-
-pub room-start-of : {t : List ℕ} {a : ℕ} {xs : List ℕ} → Room t a xs → a ≤ length t
-room-start-of {t} {a} {xs} h = room-start a (length t) xs (h .fits)
+use Rattle.text_room.specs.Wrote.{wrote, wroteAt}
+use Rattle.text_room.proofs.Writes.{next-is, out-is, wrote-is, wrote-none, wrote-then, wrote-as}
+use Rattle.text_room.specs.Room.{Room}
 
 pub room-is : {t : List ℕ} {a : ℕ} {xs ys : List ℕ} → xs ≡ ys → Room t a xs → Room t a ys
 room-is {t} {a} e h = subst (Room t a) e h
 
 -- room for two texts: for the first, and for the second once the first is written
 pub first-room : {t : List ℕ} {a : ℕ} {xs : List ℕ} (ys : List ℕ) → Room t a (xs ++ ys) → Room t a xs
-first-room {t} {a} {xs} ys h = record { fits = room-first a (length t) xs ys (h .fits) }
+first-room {xs = xs} ys h =
+    let f = h .fits in
+    let e : length (xs ++ ys) ≡ length xs + length ys = length-append xs ys in
+    record { fits = omega arith }
 
 pub then-room : {t : List ℕ} {a : ℕ} (xs : List ℕ) {ys : List ℕ} {r : ℕ} {o : List ℕ} → Room t a (xs ++ ys) → wrote r o ≡ wroteAt t a xs → Room o r ys
-then-room {t} {a} xs {ys} h e = record { fits = room-then t a xs ys (h .fits) e }
+then-room {t} {a} xs {ys} {r} {o} h e =
+    let f = h .fits in
+    let l : length (xs ++ ys) ≡ length xs + length ys = length-append xs ys in
+    let m : a + length xs ≤ length t = omega arith in
+    let n : length o ≡ length t = ap length (out-is t a xs e) ∙ length-put t a xs m in
+    let k : r ≡ a + length xs = next-is t a xs e in
+    record { fits = omega arith }
 
 pub both : {t : List ℕ} {a : ℕ} (xs ys : List ℕ) {r s : ℕ} {o p : List ℕ}
     → Room t a (xs ++ ys) → wrote r o ≡ wroteAt t a xs → wrote s p ≡ wroteAt o r ys → wrote s p ≡ wroteAt t a (xs ++ ys)
-both {t} {a} xs ys h e f = wrote-then t a xs ys (room-start-of h) e f
+both {t} {a} xs ys h e f = let g = h .fits in wrote-then t a xs ys (omega arith) e f
 
 -- the length stays
 pub wrote-length : {t : List ℕ} {a : ℕ} {xs : List ℕ} {r : ℕ} {o : List ℕ} → Room t a xs → wrote r o ≡ wroteAt t a xs → length o ≡ length t

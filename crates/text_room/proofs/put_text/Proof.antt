@@ -1,9 +1,9 @@
 -- `put_text` meets its contract: the part that is copied to is the text's place.
 -- Assumes nothing.
-use Rattle.save_lines.proofs.Chain.{text-back}
+use Rattle.text_room.proofs.Chain.{text-back}
 use borrow.Author.Needs.{needs}
-use Rattle.save_lines.proofs.put_text.Statement.{statement}
-use Rattle.save_lines.proofs.put_text.Tie as tie
+use Rattle.text_room.proofs.put_text.Statement.{statement}
+use Rattle.text_room.proofs.put_text.Tie as tie
 
 add-end : tie.Need-add-end
 add-end c = search needs

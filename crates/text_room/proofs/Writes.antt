@@ -1,14 +1,14 @@
 -- Calls that write, one after the other: what they leave is one text written at the first place. By the laws of a replaced part.
 -- Assumes nothing.
-use mathlib.Core.Path.{_≡_, refl, sym, ap, _∙_, subst}
+use mathlib.Core.Path.{_≡_, refl, sym, ap, _∙_}
 use mathlib.Core.List.{List, [], _∷_, _++_}
 use Prim.Native.Nat.{ℕ, _+_, _<_, _≤_}
 use native.Mathlib.Nat.{add-assoc}
 use native.Mathlib.Omega.{arith}
-use lib.ListN.{length, set, length-append, length-set}
+use lib.ListN.{length, set, length-append}
 use Rattle.cells.specs.Put.{put}
-use Rattle.cells.proofs.Put.{put-nil, put-next, set-is-put, length-put}
-use Rattle.value_written.specs.Wrote.{Wrote, wrote, wroteAt}
+use Rattle.cells.proofs.Put.{put-nil, put-next, set-is-put}
+use Rattle.text_room.specs.Wrote.{Wrote, wrote, wroteAt}
 
 module _ (t : List ℕ) (a : ℕ) (xs : List ℕ) {r : ℕ} {o : List ℕ} where
   pub next-is : wrote r o ≡ wroteAt t a xs → r ≡ a + length xs
@@ -45,32 +45,6 @@ pub wrote-lead : (t : List ℕ) (a v : ℕ) (ys : List ℕ) {s : ℕ} {p : List 
 wrote-lead t a v ys h f =
     let g : a ≤ length t = omega arith in wrote-then t a (v ∷ []) ys g (wrote-is t a (v ∷ []) refl (set-is-put t a v h)) f
 
--- ---- room
-pub room-first : (a n : ℕ) (xs ys : List ℕ) → a + length (xs ++ ys) ≤ n → a + length xs ≤ n
-room-first a n xs ys h = let e : length (xs ++ ys) ≡ length xs + length ys = length-append xs ys in omega arith
-
-pub room-then : (t : List ℕ) (a : ℕ) (xs ys : List ℕ) {r : ℕ} {o : List ℕ}
-    → a + length (xs ++ ys) ≤ length t → wrote r o ≡ wroteAt t a xs → r + length ys ≤ length o
-room-then t a xs ys {r} {o} h e =
-    let l : length (xs ++ ys) ≡ length xs + length ys = length-append xs ys in
-    let m : a + length xs ≤ length t = omega arith in
-    let n : length o ≡ length t = ap length (out-is t a xs e) ∙ length-put t a xs m in
-    let k : r ≡ a + length xs = next-is t a xs e in
-    omega arith
-
-pub room-start : (a n : ℕ) (xs : List ℕ) → a + length xs ≤ n → a ≤ n
-room-start a n xs h = omega arith
-
--- behind a character
-pub room-lead : (t : List ℕ) (a v : ℕ) (ys : List ℕ) → a + length (v ∷ ys) ≤ length t → a + 1 + length ys ≤ length (set t a v)
-room-lead t a v ys h = let e : length (set t a v) ≡ length t = length-set t a v in omega arith
-
-pub room-one : (a n v : ℕ) (ys : List ℕ) → a + length (v ∷ ys) ≤ n → a < n
-room-one a n v ys h = omega arith
-
 -- the same text under another name
-pub room-as : (a n : ℕ) {xs ys : List ℕ} → xs ≡ ys → a + length xs ≤ n → a + length ys ≤ n
-room-as a n e h = subst (λ (z : List ℕ). a + length z ≤ n) e h
-
 pub wrote-as : (t : List ℕ) (a : ℕ) {xs ys : List ℕ} {r : ℕ} {o : List ℕ} → xs ≡ ys → wrote r o ≡ wroteAt t a xs → wrote r o ≡ wroteAt t a ys
 wrote-as t a e f = f ∙ ap (wroteAt t a) e
