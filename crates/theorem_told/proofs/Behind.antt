@@ -13,7 +13,7 @@ use borrow.Author.Tests.{eqb-false}
 use Rattle.cells.specs.Search.{Found, at, nowhere}
 use Rattle.cells.specs.Put.{put}
 use Rattle.cells.proofs.Arith.{within}
-use Rattle.cells.proofs.Search.{first-at, first-same}
+use Rattle.cells.proofs.Search.{at-inj, first-at, first-same}
 use Rattle.cells.proofs.Put.{put-left, length-put}
 use Rattle.store_desk.specs.declared.Desk.{Desk}
 use Rattle.store_desk.specs.declared.Key.{Key}
@@ -30,7 +30,7 @@ use Rattle.store.specs.Slots.{slotAt, putSlot, putEntry, headAt, isUsed, find, 
 use Rattle.store.specs.Change.{lowestUnused, newSeat, seat, blankSlot, started, editSlot, editAt, edited, patchEntry, patched, everyPage, onPage, hitsAt, clearFrom, cleared, patchPageLength, clearedPatch}
 use Rattle.store.proofs.Places.{slots-end, slot-end, entry-end, slot-length}
 use Rattle.store.proofs.Find.{head-same}
-use Rattle.store.proofs.Start.{at-inj, blank-length, started-at, found-used}
+use Rattle.store.proofs.Start.{blank-length, started-at, found-used}
 use Rattle.store.proofs.Edits.{edit-length}
 use Rattle.store.proofs.Patches.{same-find}
 

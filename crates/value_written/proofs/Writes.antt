@@ -5,7 +5,7 @@ use mathlib.Core.List.{List, [], _∷_, _++_}
 use Prim.Native.Nat.{ℕ, _+_, _<_, _≤_}
 use native.Mathlib.Nat.{add-assoc}
 use native.Mathlib.Omega.{arith}
-use lib.ListN.{length, set, length-append, length-set}
+use lib.ListN.{length, set, length-append}
 use Rattle.cells.specs.Put.{put}
 use Rattle.cells.proofs.Put.{put-nil, put-next, set-is-put, length-put}
 use Rattle.value_written.specs.Wrote.{Wrote, wrote, wroteAt}
@@ -60,13 +60,6 @@ room-then t a xs ys {r} {o} h e =
 
 pub room-start : (a n : ℕ) (xs : List ℕ) → a + length xs ≤ n → a ≤ n
 room-start a n xs h = omega arith
-
--- behind a character
-pub room-lead : (t : List ℕ) (a v : ℕ) (ys : List ℕ) → a + length (v ∷ ys) ≤ length t → a + 1 + length ys ≤ length (set t a v)
-room-lead t a v ys h = let e : length (set t a v) ≡ length t = length-set t a v in omega arith
-
-pub room-one : (a n v : ℕ) (ys : List ℕ) → a + length (v ∷ ys) ≤ n → a < n
-room-one a n v ys h = omega arith
 
 -- the same text under another name
 pub room-as : (a n : ℕ) {xs ys : List ℕ} → xs ≡ ys → a + length xs ≤ n → a + length ys ≤ n
