@@ -7,9 +7,9 @@ use Prim.Native.Nat.{ℕ, zero, suc, _+_, _-_, _*_, _<_, _≤_}
 use native.Mathlib.Nat.{add-zero, zero-add, suc-add}
 use native.Mathlib.Numerals.{add-one}
 use native.Mathlib.Omega.{arith}
-use lib.ListN.{length, getD, set, take, drop, replicate, length-append, length-drop, length-set, length-replicate, take-append-drop, List·getD-append}
-use lib.Seq.{length-take-le, take-all, take-nil, take-at, drop-at, set-at, drop-drop, take-take, take-suc, drop-cons, append-snoc, drop-append-add, take-append-add, take-append-le, drop-append-le, getD-take, getD-drop}
-use borrow.Rule.Slice.PartMut.{put-same, set-mid-at}
+use lib.ListN.{length, getD, set, take, drop, replicate, length-append, length-drop, length-replicate, take-append-drop}
+use lib.Seq.{length-take-le, take-all, take-nil, take-at, drop-at, set-at, drop-drop, take-take, take-suc, drop-cons, append-snoc, drop-append-add, take-append-add, take-append-le, drop-append-le}
+use borrow.Rule.Slice.PartMut.{put-same}
 use Rattle.cells.specs.Put.{put}
 use Rattle.cells.proofs.Split.{by-lt}
 use Rattle.cells.proofs.Arith.{apart}
@@ -78,21 +78,6 @@ part-before t a xs b n h l =
 
 pub part-after : (t : List ℕ) (a : ℕ) (xs : List ℕ) (b n : ℕ) → a + length xs ≤ b → a ≤ length t → take n (drop b (put t a xs)) ≡ take n (drop b t)
 part-after t a xs b n h l = ap (λ (z : List ℕ). take n z) (drop-after t a xs b h l)
-
--- ---- an element of it
-pub getD-put : (t : List ℕ) (a : ℕ) (xs : List ℕ) (i : ℕ) → i < length xs → a ≤ length t → getD (put t a xs) (a + i) 0 ≡ getD xs i 0
-getD-put t a xs i h l =
-    sym (getD-drop a (put t a xs) i 0) ∙ ap (λ (z : List ℕ). getD z i 0) (drop-at-put t a xs l)
-    ∙ List·getD-append xs (drop (length xs) (drop a t)) 0 i h
-
-pub getD-before : (t : List ℕ) (a : ℕ) (xs : List ℕ) (i : ℕ) → i < a → a ≤ length t → getD (put t a xs) i 0 ≡ getD t i 0
-getD-before t a xs i h l =
-    sym (getD-take a (put t a xs) i 0 h) ∙ ap (λ (z : List ℕ). getD z i 0) (take-at-put t a xs l) ∙ getD-take a t i 0 h
-
-pub getD-after : (t : List ℕ) (a : ℕ) (xs : List ℕ) (i : ℕ) → a + length xs ≤ i → a ≤ length t → getD (put t a xs) i 0 ≡ getD t i 0
-getD-after t a xs i h l =
-    ap (λ (k : ℕ). getD (put t a xs) k 0) (sym (add-zero i)) ∙ sym (getD-drop i (put t a xs) 0 0)
-    ∙ ap (λ (z : List ℕ). getD z 0 0) (drop-after t a xs i h l) ∙ getD-drop i t 0 0 ∙ ap (λ (k : ℕ). getD t k 0) (add-zero i)
 
 -- ---- one more element at the part's end: what a writer's turn does
 pub put-snoc : (t : List ℕ) (a : ℕ) (xs : List ℕ) (v : ℕ)
@@ -197,27 +182,7 @@ put-front t a k ys xs e h g =
     let l : 0 + length xs ≤ k = omega arith in
     put-lift t a k 0 ys xs e l g ∙ ap (λ (j : ℕ). put t j xs) (add-zero a)
 
-pub put-put-in : (t : List ℕ) (a n b : ℕ) (xs : List ℕ)
-    → b + length xs ≤ n → a + n ≤ length t → put t a (put (take n (drop a t)) b xs) ≡ put t (a + b) xs
-put-put-in t a n b xs h g =
-    let d : List ℕ = drop a t in
-    let ld : length d ≡ length t - a = length-drop a t in
-    let nd : n ≤ length d = omega arith in
-    let lm : length (take n d) ≡ n = length-take-le n d nd in
-    let m : b + length xs ≤ length (take n d) = omega arith in
-    sym (put-back t a n (put (take n d) b xs) (put (take n d) b xs) refl (length-put (take n d) b xs m ∙ lm)) ∙ put-in t a n b xs h g
-
 -- ---- two parts replaced
--- the same place: the second stays
-pub put-put : (t : List ℕ) (a : ℕ) (xs ys : List ℕ) → length xs ≤ length ys → a ≤ length t → put (put t a xs) a ys ≡ put t a ys
-unfolding put
-put-put t a xs ys h l =
-    let u : List ℕ = put t a xs in
-    let g : a + length xs ≤ a + length ys = omega arith in
-    ap (λ (z : List ℕ). z ++ (ys ++ drop (length ys) (drop a u))) (take-at-put t a xs l)
-    ∙ ap (λ (z : List ℕ). take a t ++ (ys ++ z))
-    (drop-drop (length ys) a u ∙ drop-after t a xs (a + length ys) g l ∙ sym (drop-drop (length ys) a t))
-
 -- apart: in either order
 pub put-comm : (t : List ℕ) (a : ℕ) (xs : List ℕ) (b : ℕ) (ys : List ℕ)
     → a + length xs ≤ b → b ≤ length t → put (put t a xs) b ys ≡ put (put t b ys) a xs
@@ -264,29 +229,6 @@ set-is-put t a v h =
     let e : a ≡ a + 0 = omega arith in
     ap (λ (z : List ℕ). set z a v) (sym (put-nil t a)) ∙ put-push t a [] a v e h
 
--- a store in a part of the list
-pub set-put : (t : List ℕ) (a n k v : ℕ) → k < n → a + n ≤ length t → set t (a + k) v ≡ put t a (set (take n (drop a t)) k v)
-set-put t a n k v h g =
-    let d : List ℕ = drop a t in
-    let ld : length d ≡ length t - a = length-drop a t in
-    let nd : n ≤ length d = omega arith in
-    let lm : length (take n d) ≡ n = length-take-le n d nd in
-    let m : k < length (take n d) = omega arith in
-    sym (set-mid-at a n k t v m)
-    ∙ put-back t a n (set (take n d) k v) (set (take n d) k v) refl (length-set (take n d) k v ∙ lm)
-
--- a store in the part that was put
-pub set-of-put : (t : List ℕ) (a : ℕ) (xs : List ℕ) (k v : ℕ) → k < length xs → a + length xs ≤ length t → set (put t a xs) (a + k) v ≡ put t a (set xs k v)
-set-of-put t a xs k v h g =
-    let u : List ℕ = put t a xs in
-    let l : a ≤ length t = omega arith in
-    let lu : length u ≡ length t = length-put t a xs g in
-    let gu : a + length xs ≤ length u = omega arith in
-    let s : length xs ≤ length (set xs k v) = let e : length (set xs k v) ≡ length xs = length-set xs k v in omega arith in
-    set-put u a (length xs) k v h gu
-    ∙ ap (λ (z : List ℕ). put u a (set z k v)) (part-same t a xs (length xs) g refl)
-    ∙ put-put t a xs (set xs k v) s l
-
 -- ---- parts of parts
 pub part-part : (t : List ℕ) (a n b m : ℕ) → b + m ≤ n → take m (drop b (take n (drop a t))) ≡ take m (drop (a + b) t)
 part-part t a n b m h =
@@ -315,14 +257,6 @@ record-other t len i j xs e h ne =
     part-before t (i * len) xs (j * len) len w (omega arith))
 
 -- ---- more forms in which a lent part comes back: `k` (for `&mut t[a..e]` it is `e - a`) is the one argument that a citation writes out
--- any list xs, where what the call kept says that the part is as long as it was (`c .callee .kept`)
-pub put-kept : (t : List ℕ) (a k : ℕ) (ys xs : List ℕ)
-    → ys ≡ xs → length ys ≡ length (take k (drop a t)) → a + k ≤ length t → take a t ++ (ys ++ drop k (drop a t)) ≡ put t a xs
-put-kept t a k ys xs e l g =
-    let ld : length (drop a t) ≡ length t - a = length-drop a t in
-    let kd : k ≤ length (drop a t) = omega arith in
-    put-back t a k ys xs e (sym (ap length e) ∙ l ∙ length-take-le k (drop a t) kd)
-
 -- a part that was filled
 pub put-fill : (t : List ℕ) (a k : ℕ) (ys : List ℕ) (v : ℕ)
     → ys ≡ replicate (length (take k (drop a t))) v → a + k ≤ length t → take a t ++ (ys ++ drop k (drop a t)) ≡ put t a (replicate k v)
@@ -331,33 +265,6 @@ put-fill t a k ys v e g =
     let kd : k ≤ length (drop a t) = omega arith in
     put-back t a k ys (replicate k v) (e ∙ ap (λ (n : ℕ). replicate n v) (length-take-le k (drop a t) kd)) (length-replicate k v)
 
--- `&mut t[a..]`, at whose front the callee puts
-pub put-tail : (t : List ℕ) (a : ℕ) (ys xs : List ℕ)
-    → ys ≡ put (take (length t - a) (drop a t)) 0 xs → a + length xs ≤ length t → take a t ++ (ys ++ drop (length t - a) (drop a t)) ≡ put t a xs
-put-tail t a ys xs e h =
-    let l : length xs ≤ length t - a = omega arith in
-    let g : a + (length t - a) ≤ length t = omega arith in
-    put-front t a (length t - a) ys xs e l g
-
--- `&mut t[..k]`
-pub put-prefix : (t : List ℕ) (k b : ℕ) (ys xs : List ℕ) → ys ≡ put (take k t) b xs → b + length xs ≤ k → k ≤ length t → ys ++ drop k t ≡ put t b xs
-put-prefix t k b ys xs e h g =
-    let lm : length (take k t) ≡ k = length-take-le k t g in
-    let m : b + length xs ≤ length (take k t) = omega arith in
-    ap (λ (z : List ℕ). z ++ drop k t) e ∙ sym (put-left (take k t) (drop k t) b xs m) ∙ ap (λ (z : List ℕ). put z b xs) (take-append-drop k t)
-
-pub put-prefix-back : (t : List ℕ) (k : ℕ) (ys xs : List ℕ) → ys ≡ xs → length xs ≡ k → ys ++ drop k t ≡ put t 0 xs
-put-prefix-back t k ys xs e l = put-back t 0 k ys xs e l
-
 -- ---- for a loop or a run of calls whose list is known by an equation
 pub copy-turn : (t s : List ℕ) (i : ℕ) {z : List ℕ} → z ≡ put t 0 (take i s) → i < length s → length s ≤ length t → set z i (getD s i 0) ≡ put t 0 (take (i + 1) s)
 copy-turn t s i e h g = ap (λ (y : List ℕ). set y i (getD s i 0)) e ∙ copy-more t s i h g
-
-pub put-add : (t : List ℕ) (a : ℕ) (xs : List ℕ) (i v : ℕ) {z : List ℕ}
-    → z ≡ put t a xs → i ≡ a + length xs → i < length t → set z i v ≡ put t a (xs ++ (v ∷ []))
-put-add t a xs i v e l h = ap (λ (y : List ℕ). set y i v) e ∙ put-push t a xs i v l h
-
--- a writer after a writer
-pub put-chain : (t : List ℕ) (a : ℕ) (xs : List ℕ) (b : ℕ) (ys : List ℕ) {u z : List ℕ}
-    → z ≡ put u b ys → u ≡ put t a xs → b ≡ a + length xs → a ≤ length t → z ≡ put t a (xs ++ ys)
-put-chain t a xs b ys e f l h = e ∙ ap (λ (y : List ℕ). put y b ys) f ∙ put-next t a xs b ys l h

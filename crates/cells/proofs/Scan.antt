@@ -1,7 +1,7 @@
 -- How far a scan reaches: at a place, over parts, and what is known of the elements that it passed and of the one where it stopped;
 -- by induction on the list.
 -- Assumes nothing.
-use mathlib.Core.Path.{_≡_, refl, sym, ap, _∙_, subst}
+use mathlib.Core.Path.{_≡_, refl, sym, ap, _∙_}
 use mathlib.Core.Bool.{Bool, true, false}
 use mathlib.Core.List.{List, [], _∷_, _++_}
 use Prim.Native.Nat.{ℕ, zero, suc, _+_, _-_, _<_, _≤_, suc-le-suc}
@@ -9,7 +9,7 @@ use native.Mathlib.Nat.{le-refl, zero-add, suc-add}
 use native.Mathlib.Numerals.{add-one}
 use native.Mathlib.Omega.{arith}
 use lib.ListN.{length, getD, take, drop, length-drop, length-append, drop-of-length-le}
-use lib.Seq.{drop-cons, getD-drop, take-nil}
+use lib.Seq.{drop-cons, getD-drop}
 use Rattle.cells.specs.Scan.{span}
 use Rattle.cells.proofs.Split.{cond-true, cond-false, by-bool, by-eq, by-lt, clash}
 
@@ -85,12 +85,6 @@ span-at p (c ∷ s) h =
     ap (λ (k : ℕ). p (getD (c ∷ s) k 0)) e ∙ span-at p s (omega arith))
     (λ f. ap (λ (k : ℕ). p (getD (c ∷ s) k 0)) (span-miss p c s f) ∙ f)
 
--- the same from place i on
-pub span-below-from : (p : ℕ → Bool) (s : List ℕ) (i k : ℕ) → i ≤ k → k < i + span p (drop i s) → p (getD s k 0) ≡ true
-span-below-from p s i k h l =
-    let e : i + (k - i) ≡ k = omega arith in
-    ap (λ (j : ℕ). p (getD s j 0)) (sym e) ∙ ap p (sym (getD-drop i s (k - i) 0)) ∙ span-below p (drop i s) (k - i) (omega arith)
-
 pub span-at-from : (p : ℕ → Bool) (s : List ℕ) (i : ℕ) → i + span p (drop i s) < length s → p (getD s (i + span p (drop i s)) 0) ≡ false
 span-at-from p s i h =
     let d : length (drop i s) ≡ length s - i = length-drop i s in
@@ -135,14 +129,6 @@ all-append p a b e f = span-append p a b e ∙ ap (λ (k : ℕ). length a + k) f
 
 pub all-cons : (p : ℕ → Bool) (c : ℕ) (s : List ℕ) → p c ≡ true → span p s ≡ length s → span p (c ∷ s) ≡ length (c ∷ s)
 all-cons p c s t e = span-hit p c s t ∙ ap suc e
-
--- what was passed, as a list, passes as a whole
-pub all-taken : (p : ℕ → Bool) (s : List ℕ) → span p (take (span p s) s) ≡ length (take (span p s) s)
-all-taken p [] = ap (λ (z : List ℕ). span p z) (take-nil (span p [])) ∙ span-nil p ∙ sym (ap length (take-nil (span p [])))
-all-taken p (c ∷ s) =
-    by-bool (p c)
-    (λ t. subst (λ (k : ℕ). span p (take k (c ∷ s)) ≡ length (take k (c ∷ s))) (sym (span-hit p c s t)) (all-cons p c (take (span p s) s) t (all-taken p s)))
-    (λ f. subst (λ (k : ℕ). span p (take k (c ∷ s)) ≡ length (take k (c ∷ s))) (sym (span-miss p c s f)) (span-nil p))
 
 -- ---- tests that agree on the elements give one answer
 pub span-same : (p q : ℕ → Bool) (s : List ℕ) → ((k : ℕ) → k < length s → p (getD s k 0) ≡ q (getD s k 0)) → span p s ≡ span q s

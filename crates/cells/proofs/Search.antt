@@ -58,7 +58,7 @@ first-more p n i j f r = record {
 pub at-inj : {i j : ℕ} → at i ≡ at j → i ≡ j
 at-inj e = cc
 
-at-nowhere : {i : ℕ} → at i ≡ nowhere → ⊥
+pub at-nowhere : {i : ℕ} → at i ≡ nowhere → ⊥
 at-nowhere e = let z : _≡_ {A = ℕ} 0 1 = cc in omega arith
 
 pub first-at : (p : ℕ → Bool) (n i j : ℕ) → firstFrom p n i ≡ at j → IsFirst p n i j
@@ -130,14 +130,6 @@ first-front p n m i j e =
     first-is p (n + m) i j (record { from = r .from; below = omega arith; passes = r .passes; before = r .before })
 
 -- ---- all places
-pub all-more : (p : ℕ → Bool) (n i : ℕ) {b : Bool} → 0 < n → b ≡ p i → b ≡ true → allFrom p n i ≡ allFrom p (n - 1) (i + 1)
-unfolding allFrom
-all-more p zero i h e t = absurd (omega arith)
-all-more p (suc n) i h e t =
-    let m : n ≡ suc n - 1 = omega arith in
-    cond-true (p i) (allFrom p n (suc i)) false (sym e ∙ t)
-    ∙ ap (λ (k : ℕ). allFrom p k (suc i)) m ∙ ap (λ (k : ℕ). allFrom p (suc n - 1) k) (sym (add-one i))
-
 pub all-stop : (p : ℕ → Bool) (n i : ℕ) {b : Bool} → 0 < n → b ≡ p i → b ≡ false → allFrom p n i ≡ false
 unfolding allFrom
 all-stop p zero i h e t = absurd (omega arith)
@@ -151,22 +143,6 @@ all-suc : (p : ℕ → Bool) (n i : ℕ) → p i ≡ true → allFrom p (suc n) 
 unfolding allFrom
 all-suc p n i t = cond-true (p i) (allFrom p n (suc i)) false t
 
--- a loop from i up to n, with the invariant `allFrom p (n - i) i ≡ a`
-pub all-turn : (p : ℕ → Bool) (n i : ℕ) {b a : Bool}
-    → i < n → b ≡ p i → b ≡ true → allFrom p (n - i) i ≡ a → allFrom p (n - (i + 1)) (i + 1) ≡ a
-all-turn p n i h e t g =
-    let l : 0 < n - i = omega arith in
-    let m : n - (i + 1) ≡ n - i - 1 = omega arith in
-    ap (λ (k : ℕ). allFrom p k (i + 1)) m ∙ sym (all-more p (n - i) i l e t) ∙ g
-
-pub all-fails : (p : ℕ → Bool) (n i : ℕ) {b a : Bool} → i < n → b ≡ p i → b ≡ false → allFrom p (n - i) i ≡ a → false ≡ a
-all-fails p n i h e t g = let l : 0 < n - i = omega arith in sym (all-stop p (n - i) i l e t) ∙ g
-
-pub all-end : (p : ℕ → Bool) (n i : ℕ) {a : Bool} → n ≤ i → allFrom p (n - i) i ≡ a → true ≡ a
-all-end p n i h g =
-    let m : n - i ≡ 0 = omega arith in
-    sym (all-none p i) ∙ ap (λ (k : ℕ). allFrom p k i) (sym m) ∙ g
-
 pub all-at : (p : ℕ → Bool) (n i : ℕ) → allFrom p n i ≡ true → (k : ℕ) → i ≤ k → k < i + n → p k ≡ true
 all-at p zero i e k h l = absurd (omega arith)
 all-at p (suc n) i e k h l =
@@ -177,16 +153,6 @@ all-at p (suc n) i e k h l =
 pub all-is : (p : ℕ → Bool) (n i : ℕ) → ((k : ℕ) → i ≤ k → k < i + n → p k ≡ true) → allFrom p n i ≡ true
 all-is p zero i f = all-none p i
 all-is p (suc n) i f = all-suc p n i (f i (omega arith) (omega arith)) ∙ all-is p n (suc i) (λ k h l. f k (omega arith) (omega arith))
-
-pub all-same : (p q : ℕ → Bool) (n i : ℕ) → ((k : ℕ) → i ≤ k → k < i + n → p k ≡ q k) → allFrom p n i ≡ allFrom q n i
-all-same p q zero i f = all-none p i ∙ sym (all-none q i)
-all-same p q (suc n) i f =
-    let e : p i ≡ q i = f i (omega arith) (omega arith) in
-    by-bool (p i)
-    (λ t.
-    all-suc p n i t ∙ all-same p q n (suc i) (λ k h l. f k (omega arith) (omega arith))
-    ∙ sym (all-suc q n i (sym e ∙ t)))
-    (λ t. all-stop p (suc n) i (omega arith) refl t ∙ sym (all-stop q (suc n) i (omega arith) e t))
 
 -- ---- how many
 pub count-none : (p : ℕ → Bool) (i : ℕ) → countFrom p 0 i ≡ 0

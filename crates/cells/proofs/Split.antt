@@ -39,11 +39,6 @@ pub cond-same {ℓ} : {A : Type ℓ} (b : Bool) (x : A) → cond b x x ≡ x
 cond-same true x = refl
 cond-same false x = refl
 
--- a test is the Bool that it picks
-pub cond-bool : (b : Bool) → cond b true false ≡ b
-cond-bool true = refl
-cond-bool false = refl
-
 -- what is done to the answer may be done in each branch
 pub cond-ap {ℓ κ} : {A : Type ℓ} {B : Type κ} (f : A → B) (b : Bool) (x y : A) → f (cond b x y) ≡ cond b (f x) (f y)
 cond-ap f true x y = refl
@@ -122,15 +117,3 @@ by-or false b e f g = g e
 pub and-then : (a b : Bool) → a ≡ true → b ≡ (a && b)
 and-then true b e = refl
 and-then false b e = absurd (false≢true e)
-
-pub and-else : (a b : Bool) → a ≡ false → a ≡ (a && b)
-and-else true b e = absurd (true≢false e)
-and-else false b e = refl
-
-pub or-then : (a b : Bool) → a ≡ true → a ≡ (a || b)
-or-then true b e = refl
-or-then false b e = absurd (false≢true e)
-
-pub or-else : (a b : Bool) → a ≡ false → b ≡ (a || b)
-or-else true b e = absurd (true≢false e)
-or-else false b e = refl

@@ -23,7 +23,8 @@ use Rattle.save_lines.specs.Line.{joined, patchLine, primaryText}
 use Rattle.save_lines.proofs.Parts.{joined-nil, joined-append}
 use Rattle.save_lines.proofs.Bounds.{patch-most, primary-most, head-most, chan-most}
 use Rattle.save.specs.Lines.{dimmerLines, pageLines, patchLines, memoryLines, slotLines, kindLines, streamOf}
-use Rattle.save.proofs.Rules.{patched-fits, head-fits}
+use Rattle.store.proofs.Find.{head-fits}
+use Rattle.save.proofs.Rules.{patched-fits}
 use Rattle.save.proofs.Memories.{memory-sum}
 use Rattle.save.proofs.Whole.{length-is}
 

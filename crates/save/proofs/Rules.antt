@@ -15,12 +15,13 @@ use Rattle.store_desk.specs.declared.Kind.the-variants.{Cue, Group, Sub}
 use Rattle.store_desk.specs.Size.{InRange, headLength, slotsOf, storeLength}
 use Rattle.store_desk.proofs.Size.{slot-le}
 use Rattle.store_desk.proofs.Name.{kind-end}
-use Rattle.store_head.specs.Layout.{HeadFits, PatchFits}
-use Rattle.store_head.proofs.Laws.{decode-fits, decode-patch-fits}
+use Rattle.store_head.specs.Layout.{PatchFits}
+use Rattle.store_head.proofs.Laws.{decode-patch-fits}
 use Rattle.store.specs.Slots.{slotAt, headAt, levelsAt, keyOf}
 use Rattle.store.specs.View.{memoryAt, patchedTo}
 use Rattle.store.specs.Order.{inOrder}
 use Rattle.store.proofs.Places.{slot-length}
+use Rattle.store.proofs.Find.{head-fits}
 use Rattle.store.proofs.Ordered.{Among, in-order-used}
 use Rattle.save_lines.specs.Line.{joined, patchLine, headLines, litFrom, chanLines}
 use Rattle.save_lines.specs.Ruled.{isSource, AllRuled}
@@ -85,10 +86,6 @@ module _ (d : Desk) (s : List ℕ) where
         omega arith
 
 -- ---- memories
-pub head-fits : (d : Desk) (s : List ℕ) (i : ℕ) → HeadFits (headAt d s i)
-unfolding headAt
-head-fits d s i = decode-fits (slotAt d s i)
-
 module _ (d : Desk) (s : List ℕ) (ir : InRange d) (long : storeLength d ≤ length s) where
   pub levels-short : (i : ℕ) → i < slotsOf d → length (levelsAt d s i) ≤ 1024
   unfolding levelsAt

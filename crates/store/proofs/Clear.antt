@@ -214,12 +214,6 @@ module _ (d : Desk) (s : List ℕ) (long : storeLength d ≤ length s) (k : Kind
         first-same (holdsAt d (cleared d s k p) (m .key)) (holdsAt d s (m .key)) (slotCount d (m .kind)) (firstSlot d (m .kind))
         (λ j h l. clear-holds j h l ∙ cond-false (hits k p m) false (holdsAt d s (m .key) j) z)
 
-    pub clear-find : find d (cleared d s k p) m ≡ cond (hits k p m) nowhere (find d s m)
-    clear-find =
-        by-bool (hits k p m)
-        (λ z. clear-find-hit z ∙ sym (cond-true (hits k p m) nowhere (find d s m) z))
-        (λ z. clear-find-miss z ∙ sym (cond-false (hits k p m) nowhere (find d s m) z))
-
     clear-view-miss : hits k p m ≡ false → memoryOf d (cleared d s k p) m ≡ memoryOf d s m
     unfolding memoryOf onFound removes
     clear-view-miss z =

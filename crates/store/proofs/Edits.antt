@@ -33,9 +33,9 @@ use Rattle.store.specs.Change.{editHead, withHead, editSlot, editAt, edi
 use Rattle.store.specs.Form.{hasTimes, hasLink, timeFits, linkFits, valuesFit}
 use Rattle.store.specs.Memories.{memoryIn, editLevels, editMemory, mapKept, has, EditFits, InTime}
 use Rattle.store.specs.Good.{Ready}
-use Rattle.store.proofs.Places.{slot-length, put-length, slot-same, slot-other, slot-patch, slot-tail}
+use Rattle.store.proofs.Places.{slot-length, slot-headed, put-length, slot-same, slot-other, slot-patch, slot-tail}
 use Rattle.store.proofs.Levels.{level-slot}
-use Rattle.store.proofs.Find.{memory-in, holds-same, Placed, put-view, put-find}
+use Rattle.store.proofs.Find.{memory-in, holds-same, Placed, put-view}
 use Rattle.store.proofs.Form.{used-values, placed-found, put-good}
 use Rattle.store.proofs.Start.{found-used, found-ok, place-found, absent-at}
 
@@ -128,10 +128,6 @@ unfolding memoryOf onFound
 view-at d s n i e = ap (λ (a : Found). onFound a (λ j. kept (memoryAt d s j)) absent) e ∙ ap kept (memory-in d s i)
 
 module _ (d : Desk) (s : List ℕ) (r : Ready d s) (n : Name) (e : Edit) (g : EditFits e) where
-  slot-long : (i : ℕ) → i < slotsOf d → headLength ≤ length (slotAt d s i)
-  unfolding slotLength
-  slot-long i h = let l = slot-length d s (r .long) i h in omega arith
-
   module _ (i : ℕ) (f : find d s n ≡ at i) where
     x : List ℕ
     x = editSlot d e (slotAt d s i)
@@ -141,11 +137,11 @@ module _ (d : Desk) (s : List ℕ) (r : Ready d s) (n : Name) (e : Edit) (g : Ed
 
     length-there : length x ≡ slotLength d
     unfolding x
-    length-there = edit-length d e (slotAt d s i) (slot-long i inside) ∙ slot-length d s (r .long) i inside
+    length-there = edit-length d e (slotAt d s i) (slot-headed d s (r .long) i inside) ∙ slot-length d s (r .long) i inside
 
     head-there : decodeHead x ≡ editHead e (headAt d s i)
     unfolding x editMemory memoryIn headAt
-    head-there = ap (λ (z : Memory). z .head) (edit-memory d e (slotAt d s i) (slot-long i inside) g)
+    head-there = ap (λ (z : Memory). z .head) (edit-memory d e (slotAt d s i) (slot-headed d s (r .long) i inside) g)
 
     used-there : isUsed (decodeHead x) ≡ true
     used-there = ap isUsed head-there ∙ ap (λ (z : ℕ). eqb z 1) (edit-used e (headAt d s i)) ∙ found-used d s n i f .1
@@ -162,7 +158,7 @@ module _ (d : Desk) (s : List ℕ) (r : Ready d s) (n : Name) (e : Edit) (g : Ed
   edit-at-view i f m =
       ap (λ (t : List ℕ). memoryOf d t m) (edited-at d s n e i f)
       ∙ put-view d s (r .long) n i (placed i f) (x i f) (length-there i f) (used-there i f) (key-there i f) m
-      ∙ ap (λ (z : Memory). cond (eqName m n) (kept z) (memoryOf d s m)) (edit-memory d e (slotAt d s i) (slot-long i (inside i f)) g)
+      ∙ ap (λ (z : Memory). cond (eqName m n) (kept z) (memoryOf d s m)) (edit-memory d e (slotAt d s i) (slot-headed d s (r .long) i (inside i f)) g)
 
   pub edit-view : (m : Name) → memoryOf d (edited d s n e) m ≡ cond (eqName m n) (mapKept (editMemory d e) (memoryOf d s n)) (memoryOf d s m)
   edit-view m = cases (find d s n) refl
@@ -182,20 +178,6 @@ module _ (d : Desk) (s : List ℕ) (r : Ready d s) (n : Name) (e : Edit) (g : Ed
           ap (memoryOf d s) (eq-name m n t) ∙ a ∙ sym b
           ∙ sym (cond-true (eqName m n) (mapKept (editMemory d e) (memoryOf d s n)) (memoryOf d s m) t))
           (λ t. sym (cond-false (eqName m n) (mapKept (editMemory d e) (memoryOf d s n)) (memoryOf d s m) t))
-
-  -- where it is kept stays
-  pub edit-find : (m : Name) → find d (edited d s n e) m ≡ find d s m
-  unfolding x editAt
-  edit-find m = cases (find d s n) refl
-    where
-      cases : (a : Found) → find d s n ≡ a → find d (edited d s n e) m ≡ find d s m
-      cases (at i) f =
-          ap (λ (t : List ℕ). find d t m) (edited-at d s n e i f)
-          ∙ put-find d s (r .long) n i (placed i f) (x i f) (length-there i f) (used-there i f) (key-there i f) m
-          ∙ by-bool (eqName m n)
-          (λ t. cond-true (eqName m n) (at i) (find d s m) t ∙ sym f ∙ ap (find d s) (sym (eq-name m n t)))
-          (λ t. cond-false (eqName m n) (at i) (find d s m) t)
-      cases nowhere f = ap (λ (t : List ℕ). find d t m) (edited-absent d s n e f)
 
   -- the patch and the bytes past the needed length stay
   pub edit-patch : (j : ℕ) → entryAt d (edited d s n e) j ≡ entryAt d s j
@@ -217,12 +199,8 @@ module _ (d : Desk) (s : List ℕ) (r : Ready d s) (n : Name) (e : Edit) (g : Ed
 
 -- ---- a change at a slot, in a store of any form: every memory is found where it was
 module _ (d : Desk) (s : List ℕ) (long : storeLength d ≤ length s) (i : ℕ) (h : i < slotsOf d) (e : Edit) (g : EditFits e) where
-  long-slot : headLength ≤ length (slotAt d s i)
-  unfolding slotLength
-  long-slot = let l = slot-length d s long i h in omega arith
-
   change-length : length (editSlot d e (slotAt d s i)) ≡ slotLength d
-  change-length = edit-length d e (slotAt d s i) long-slot ∙ slot-length d s long i h
+  change-length = edit-length d e (slotAt d s i) (slot-headed d s long i h) ∙ slot-length d s long i h
 
   pub edit-at-length : length (editAt d s i e) ≡ length s
   unfolding editAt
@@ -232,7 +210,7 @@ module _ (d : Desk) (s : List ℕ) (long : storeLength d ≤ length s) (i : ℕ)
   unfolding editAt headAt editMemory memoryIn
   edit-at-head =
       ap decodeHead (slot-same d s long i h (editSlot d e (slotAt d s i)) change-length)
-      ∙ ap (λ (z : Memory). z .head) (edit-memory d e (slotAt d s i) long-slot g)
+      ∙ ap (λ (z : Memory). z .head) (edit-memory d e (slotAt d s i) (slot-headed d s long i h) g)
 
   edit-at-holds : (key : Key) (j : ℕ) → holdsAt d (editAt d s i e) key j ≡ holdsAt d s key j
   unfolding holdsAt

@@ -15,9 +15,10 @@ use Rattle.store_desk.specs.declared.Key.{Key}
 use Rattle.store_desk.specs.Size.{slotLength, slotsOf, storeLength}
 use Rattle.store_desk.specs.Name.{Name, firstSlot, slotCount, slotsEnd, kindAt, eqKey, eqName}
 use Rattle.store_desk.proofs.Name.{eq-key, eq-key-true, eq-name, eq-name-key, kind-of, kind-end}
-use Rattle.store_head.specs.Layout.{decodeHead}
+use Rattle.store_head.specs.Layout.{HeadFits, decodeHead}
+use Rattle.store_head.proofs.Laws.{decode-fits}
 use Rattle.store.specs.Slots.{slotAt, putSlot, headAt, levelsAt, keyOf, isUsed, holdsAt, find, onFound}
-use Rattle.store.specs.View.{absent, kept, memoryAt, memoryOf}
+use Rattle.store.specs.View.{Memory, absent, kept, memoryAt, memoryOf}
 use Rattle.store.specs.Memories.{memoryIn}
 use Rattle.store.proofs.Places.{slot-same, slot-other}
 
@@ -34,7 +35,18 @@ pub memory-in : (d : Desk) (s : List ℕ) (i : ℕ) → memoryAt d s i ≡ memor
 unfolding memoryAt memoryIn headAt levelsAt
 memory-in d s i = refl
 
--- a used slot holds its own key and no other
+pub head-fits : (d : Desk) (s : List ℕ) (i : ℕ) → HeadFits (headAt d s i)
+unfolding headAt
+head-fits d s i = decode-fits (slotAt d s i)
+
+-- ---- kept, or not
+pub kept-inj : {m k : Memory} → kept m ≡ kept k → m ≡ k
+kept-inj e = cc
+
+pub kept-absent : {m : Memory} → kept m ≡ absent → ⊥
+kept-absent e = let z : _≡_ {A = ℕ} 0 1 = cc in omega arith
+
+-- ---- a used slot holds its own key and no other
 pub holds-own : (d : Desk) (s : List ℕ) (key : Key) (i : ℕ) → holdsAt d s key i ≡ true → (isUsed (headAt d s i) ≡ true) × (keyOf (headAt d s i) ≡ key)
 unfolding holdsAt
 holds-own d s key i e =

@@ -18,10 +18,11 @@ use Rattle.store_head.specs.Pack.{Bytes}
 use Rattle.store_head.specs.Layout.{encodeHead, encodePatch, decodePatch}
 use Rattle.store_head.proofs.Laws.{encode-decode, encode-decode-patch}
 use Rattle.store.specs.Slots.{slotAt, entryAt, headAt, levelsAt, isUsed}
-use Rattle.store.specs.View.{Memory, absent, kept, memoryAt, patchedTo}
+use Rattle.store.specs.View.{absent, kept, memoryAt, patchedTo}
 use Rattle.store.specs.Memories.{slotView}
 use Rattle.store.specs.Good.{Ready}
-use Rattle.store.proofs.Places.{slot-length, entry-length}
+use Rattle.store.proofs.Places.{slot-headed, entry-length}
+use Rattle.store.proofs.Find.{kept-inj, kept-absent}
 use Rattle.store.proofs.Form.{unused-zero}
 
 -- ---- parts of bytes are bytes
@@ -46,8 +47,7 @@ pub slot-encodes : (d : Desk) (s : List ℕ) → storeLength d ≤ length s → 
 unfolding headAt levelsAt
 slot-encodes d s long b i h =
     let x = slotAt d s i in
-    let l : headLength ≤ length x = let e = slot-length d s long i h in unfold slotLength in (omega arith) in
-    sym (take-append-drop headLength x) ∙ ap (λ (z : List ℕ). z ++ drop headLength x) (sym (encode-decode x l (slot-bytes d s b i)))
+    sym (take-append-drop headLength x) ∙ ap (λ (z : List ℕ). z ++ drop headLength x) (sym (encode-decode x (slot-headed d s long i h) (slot-bytes d s b i)))
 
 pub entry-encodes : (d : Desk) (s : List ℕ) → storeLength d ≤ length s → Bytes s → (j : ℕ) → j < entriesOf d
     → entryAt d s j ≡ encodePatch (decodePatch (entryAt d s j))
@@ -116,12 +116,6 @@ module _ (d : Desk) (s t : List ℕ) (rs : Ready d s) (rt : Ready d t) (bs : Byt
       (kept-absent
       (sym (cond-true (isUsed (headAt d t i)) (kept (memoryAt d t i)) absent v) ∙ sym e ∙ cond-false (isUsed (headAt d s i)) (kept (memoryAt d s i)) absent u)))
       (λ v. unused-zero d s (rs .form) i h (rs .long) u ∙ sym (unused-zero d t (rt .form) i h (rt .long) v)))
-    where
-      kept-inj : {a b : Memory} → kept a ≡ kept b → a ≡ b
-      kept-inj q = cc
-
-      kept-absent : {a : Memory} → kept a ≡ absent → ⊥
-      kept-absent q = let z : _≡_ {A = ℕ} 0 1 = cc in omega arith
 
   pub nothing-lost : ((i : ℕ) → i < slotsOf d → slotView d s i ≡ slotView d t i)
       → ((page dimmer : ℕ) → Within 1 page (d .«patch_pages») → Within 1 dimmer (d .dimmers) → patchedTo d s page dimmer ≡ patchedTo d t page dimmer)

@@ -321,9 +321,6 @@ module _ (d : Desk) (s : List ℕ) (long : storeLength d ≤ length s) (p : ℕ)
   pub clear-patch-memory : (m : Name) → memoryOf d (clearedPatch d s p) m ≡ memoryOf d s m
   clear-patch-memory m = same-view d s (clearedPatch d s p) (wiped d s long p h .slots) m
 
-  pub clear-patch-find : (m : Name) → find d (clearedPatch d s p) m ≡ find d s m
-  clear-patch-find m = same-find d s (clearedPatch d s p) (wiped d s long p h .slots) m
-
   pub clear-patch-length : length (clearedPatch d s p) ≡ length s
   clear-patch-length = wiped d s long p h .long
 

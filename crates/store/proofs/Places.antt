@@ -8,7 +8,7 @@ use native.Mathlib.Omega.{arith}
 use lib.ListN.{length, take, drop, length-drop}
 use lib.Seq.{length-take-le, drop-drop}
 use Rattle.cells.proofs.Arith.{apart}
-use Rattle.cells.proofs.Put.{part-of-front, length-put, part-same, part-before, part-after, drop-after, put-part, record-same, record-other}
+use Rattle.cells.proofs.Put.{part-of-front, length-put, part-same, part-before, part-after, drop-after, record-same, record-other}
 use Rattle.cells.proofs.Split.{by-lt}
 use Rattle.store_desk.specs.declared.Desk.{Desk}
 use Rattle.store_desk.specs.Size.{headLength, entryLength, slotLength, levelsLength, slotsOf, patchStart, entriesOf, storeLength}
@@ -48,6 +48,11 @@ module _ (d : Desk) (s : List ℕ) (long : storeLength d ≤ length s) where
       let l = length-drop (i * slotLength d) s in
       length-take-le (slotLength d) (drop (i * slotLength d) s) (omega arith)
 
+  -- it has its head
+  pub slot-headed : (i : ℕ) → i < slotsOf d → headLength ≤ length (slotAt d s i)
+  unfolding slotLength
+  slot-headed i h = let e = slot-length i h in omega arith
+
   pub entry-length : (j : ℕ) → j < entriesOf d → length (entryAt d s j) ≡ entryLength
   unfolding entryAt
   entry-length j h =
@@ -83,11 +88,6 @@ module _ (d : Desk) (s : List ℕ) (long : storeLength d ≤ length s) where
         let w = slot-end d i h in
         let b = slots-end d in
         drop-after s (i * slotLength d) x (storeLength d) (omega arith) (omega arith)
-
-  -- a slot put back where it was
-  pub slot-again : (i : ℕ) → i < slotsOf d → putSlot d s i (slotAt d s i) ≡ s
-  unfolding putSlot slotAt
-  slot-again i h = put-part s (i * slotLength d) (slotLength d) (within i h)
 
   -- ---- an entry replaced
   module _ (i : ℕ) (h : i < entriesOf d) (x : List ℕ) (e : length x ≡ entryLength) where

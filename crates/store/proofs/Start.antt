@@ -8,16 +8,16 @@ use native.Mathlib.Omega.{arith}
 use lib.ListN.{length, drop, replicate, length-append, length-replicate}
 use lib.Seq.{drop-at}
 use borrow.Author.Tests.{eq-eqb, not-false}
-use Rattle.cells.specs.Search.{Found, at, nowhere, firstFrom, IsFirst}
-use Rattle.cells.proofs.Search.{first-at, first-is, first-nowhere, first-none, none-is}
+use Rattle.cells.specs.Search.{Found, at, nowhere, IsFirst}
+use Rattle.cells.proofs.Search.{at-inj, at-nowhere, first-at, first-is, first-nowhere, none-is}
 use Rattle.cells.proofs.Split.{clash, not-of-true}
 use Rattle.store_desk.specs.declared.Desk.{Desk}
 use Rattle.store_desk.specs.declared.Key.{Key}
 use Rattle.store_desk.specs.declared.Kind.{Kind}
 use Rattle.store_desk.specs.declared.Kind.the-variants.{Cue, Group, Sub}
 use Rattle.store_desk.specs.Size.{headLength, slotLength, levelsLength, slotsOf, storeLength, InRange}
-use Rattle.store_desk.specs.Name.{Name, firstSlot, slotCount, slotsEnd, kindAt, supported, eqName, okName, KeyFits, subSlot}
-use Rattle.store_desk.proofs.Name.{kind-of, kind-end, ok-fits, no-slots, sub-parts, sub-inside}
+use Rattle.store_desk.specs.Name.{Name, firstSlot, slotCount, slotsEnd, kindAt, eqName, okName, KeyFits, subSlot}
+use Rattle.store_desk.proofs.Name.{kind-of, kind-end, ok-fits, sub-parts, sub-inside}
 use Rattle.store_head.specs.Layout.{HeadFits, encodeHead, decodeHead}
 use Rattle.store_head.proofs.Laws.{decode-encode, length-encode}
 use Rattle.store.specs.Slots.{slotAt, putSlot, entryAt, headAt, keyOf, isUsed, holdsAt, find, onFound}
@@ -27,14 +27,8 @@ use Rattle.store.specs.Form.{linkFits, valuesFit, placeFits, nameAt}
 use Rattle.store.specs.Memories.{memoryIn, blankMemory}
 use Rattle.store.specs.Good.{GoodForm, Ready}
 use Rattle.store.proofs.Places.{slot-same, slot-other, put-length, slot-patch, slot-tail}
-use Rattle.store.proofs.Find.{holds-same, holds-own, holds-true, placed-slot, put-view, put-find}
+use Rattle.store.proofs.Find.{holds-same, holds-own, holds-true, placed-slot, put-view}
 use Rattle.store.proofs.Form.{used-name, used-place, placed-seat, put-good}
-
-pub at-inj : {i j : ℕ} → at i ≡ at j → i ≡ j
-at-inj q = cc
-
-pub at-nowhere : {i : ℕ} → at i ≡ nowhere → ⊥
-at-nowhere q = let z : _≡_ {A = ℕ} 0 1 = cc in omega arith
 
 -- ---- a fresh slot
 pub blank-length : (d : Desk) (key : Key) → length (blankSlot d key) ≡ slotLength d
@@ -120,11 +114,6 @@ module _ (d : Desk) (s : List ℕ) (r : Ready d s) (n : Name) (o : okName d n �
       ap (λ (t : List ℕ). memoryOf d t m) (started-at d s n i e)
       ∙ put-view d s (r .long) n i (placed-seat d s (r .form) n o i e) (blankSlot d (n .key)) (blank-length d (n .key)) blank-used blank-key m
       ∙ ap (λ (z : Memory). cond (eqName m n) (kept z) (memoryOf d s m)) (blank-memory d (n .key) fits)
-
-  pub start-find : (i : ℕ) → seat d s n ≡ at i → (m : Name) → find d (started d s n) m ≡ cond (eqName m n) (at i) (find d s m)
-  start-find i e m =
-      ap (λ (t : List ℕ). find d t m) (started-at d s n i e)
-      ∙ put-find d s (r .long) n i (placed-seat d s (r .form) n o i e) (blankSlot d (n .key)) (blank-length d (n .key)) blank-used blank-key m
 
   pub start-good : Ready d (started d s n)
   start-good = cases (seat d s n) refl
@@ -276,12 +265,6 @@ bad-absent d s g n f = cases (find d s n) refl
     cases (at i) e = clash (found-ok d s g n i e) f
     cases nowhere e = absent-at d s n e
 
-pub no-kind : (d : Desk) (s : List ℕ) (n : Name) → supported d (n .kind) ≡ false → memoryOf d s n ≡ absent
-unfolding find
-no-kind d s n e =
-    absent-at d s n
-    (ap (λ (k : ℕ). firstFrom (holdsAt d s (n .key)) k (firstSlot d (n .kind))) (no-slots d (n .kind) e) ∙ first-none (holdsAt d s (n .key)) (firstSlot d (n .kind)))
-
 -- ---- room: there is no place exactly where a new cue or group finds every slot used
 pub kept-room : (d : Desk) (s : List ℕ) (n : Name) (i : ℕ) → find d s n ≡ at i → seat d s n ≡ at i
 unfolding seat onFound
@@ -314,10 +297,6 @@ full d s n e = cases (find d s n) refl
         → (memoryOf d s n ≡ absent) × ((i : ℕ) → firstSlot d (n .kind) ≤ i → i < slotsEnd d (n .kind) → isUsed (headAt d s i) ≡ true)
     cases (at j) f = absurd (at-nowhere (sym (kept-room d s n j f) ∙ e))
     cases nowhere f = (absent-at d s n f, all-used d s (n .kind) (n .key) (sym (seat-new d s n f) ∙ e))
-
-pub has-room : (d : Desk) (s : List ℕ) (n : Name) (i : ℕ) → firstSlot d (n .kind) ≤ i → i < slotsEnd d (n .kind)
-    → isUsed (headAt d s i) ≡ false → seat d s n ≡ nowhere → ⊥
-has-room d s n i h l u e = clash (full d s n e .1 i h l) u
 
 -- and the other way round
 find-absent : (d : Desk) (s : List ℕ) (n : Name) → memoryOf d s n ≡ absent → find d s n ≡ nowhere

@@ -1,4 +1,4 @@
--- Used slots counted: a kind with an unused slot has room, a new memory takes one more, and distinct kept memories are at most the used slots.
+-- Used slots counted: a kind with an unused slot has room, and distinct kept memories are at most the used slots.
 -- By the laws of counting.
 -- Assumes nothing.
 use mathlib.Core.Path.{_≡_, refl, sym, ap, _∙_, subst}
@@ -8,21 +8,19 @@ use Prim.Native.Nat.{ℕ, zero, suc, _+_, _<_, _≤_}
 use native.Mathlib.Omega.{arith}
 use lib.ListN.{length}
 use Rattle.cells.specs.Search.{at, nowhere, countFrom}
-use Rattle.cells.proofs.Search.{first-nowhere, count-same, count-more, count-le}
-use Rattle.cells.proofs.Split.{by-bool, by-eq, by-or, cond-true, cond-false, clash, or-true-left, or-false}
+use Rattle.cells.proofs.Search.{count-more, count-le}
+use Rattle.cells.proofs.Split.{by-bool, by-or, cond-true, cond-false, clash, or-true-left, or-false}
 use Rattle.store_desk.specs.declared.Desk.{Desk}
 use Rattle.store_desk.specs.declared.Kind.{Kind}
-use Rattle.store_desk.specs.Name.{Name, firstSlot, slotCount, slotsEnd, kindAt, eqKey, eqName, okName}
-use Rattle.store_desk.proofs.Name.{eq-key, eq-name-true, kind-of}
-use Rattle.store_head.specs.Layout.{decodeHead}
-use Rattle.store.specs.Slots.{slotAt, headAt, keyOf, isUsed, holdsAt, find}
-use Rattle.store.specs.Change.{blankSlot, seat, started}
+use Rattle.store_desk.specs.Name.{Name, firstSlot, slotCount, slotsEnd, eqName}
+use Rattle.store_desk.proofs.Name.{eq-name-true}
+use Rattle.store.specs.Slots.{headAt, isUsed, holdsAt, find}
+use Rattle.store.specs.Change.{seat}
 use Rattle.store.specs.Memories.{usedCount}
-use Rattle.store.specs.Good.{GoodForm, Ready}
-use Rattle.store.proofs.Places.{slot-same, slot-other}
-use Rattle.store.proofs.Find.{head-same, holds-own, holds-true, Placed, placed-slot}
-use Rattle.store.proofs.Form.{placed-found, placed-seat}
-use Rattle.store.proofs.Start.{full, blank-length, started-at, blank-used, found-used}
+use Rattle.store.specs.Good.{GoodForm}
+use Rattle.store.proofs.Find.{holds-own, holds-true}
+use Rattle.store.proofs.Form.{placed-found}
+use Rattle.store.proofs.Start.{full, found-used}
 
 -- ---- counts
 count-all : (p : ℕ → Bool) (n i : ℕ) → ((k : ℕ) → i ≤ k → k < i + n → p k ≡ true) → countFrom p n i ≡ n
@@ -62,74 +60,6 @@ room-left d s n h e =
     count-all (λ i. isUsed (headAt d s i)) (slotCount d (n .kind)) (firstSlot d (n .kind)) (full d s n e .1)
     in
     omega arith
-
--- ---- starting
-module _ (d : Desk) (s : List ℕ) (r : Ready d s) (n : Name) (o : okName d n ≡ true) (i : ℕ) (e : seat d s n ≡ at i) where
-  p : Placed d s n i
-  p = placed-seat d s (r .form) n o i e
-
-  used-there : isUsed (headAt d (started d s n) i) ≡ true
-  unfolding headAt
-  used-there =
-      ap (λ (t : List ℕ). isUsed (decodeHead (slotAt d t i))) (started-at d s n i e)
-      ∙ ap (λ (x : List ℕ). isUsed (decodeHead x)) (slot-same d s (r .long) i (placed-slot d s n i p) (blankSlot d (n .key)) (blank-length d (n .key)))
-      ∙ blank-used d s r n o
-
-  used-else : (j : ℕ) → (i ≡ j → ⊥) → isUsed (headAt d (started d s n) j) ≡ isUsed (headAt d s j)
-  used-else j ne =
-      ap isUsed
-      (head-same d (started d s n) s j
-      (ap (λ (t : List ℕ). slotAt d t j) (started-at d s n i e)
-      ∙ slot-other d s (r .long) i (placed-slot d s n i p) (blankSlot d (n .key)) (blank-length d (n .key)) j ne))
-
-  -- a new memory's seat was unused
-  seat-unused : find d s n ≡ nowhere → isUsed (headAt d s i) ≡ false
-  unfolding find
-  seat-unused f =
-      by-bool (isUsed (headAt d s i))
-      (λ u.
-      let key = keyOf (headAt d s i) in
-      let own : holdsAt d s key i ≡ true = holds-true d s key i u refl in
-      by-bool (eqKey key (n .key))
-      (λ t.
-      clash
-      (holds-true d s (n .key) i u (eq-key key (n .key) t))
-      (first-nowhere (holdsAt d s (n .key)) (slotCount d (n .kind)) (firstSlot d (n .kind)) f i (p .from) (p .below)))
-      (λ t. clash own (p .free key t)))
-      (λ u. u)
-
-  -- one more of its kind is used, of another kind as many; a kept memory takes no more
-  pub start-used-new : find d s n ≡ nowhere → usedCount d (started d s n) (n .kind) ≡ suc (usedCount d s (n .kind))
-  unfolding usedCount
-  start-used-new f =
-      count-more (λ j. isUsed (headAt d s j)) (λ j. isUsed (headAt d (started d s n) j)) (slotCount d (n .kind)) (firstSlot d (n .kind)) i
-      (p .from)
-      (p .below)
-      (seat-unused f)
-      used-there
-      (λ j h l ne. sym (used-else j (λ q. ne (sym q))))
-
-  pub start-used-other : (k : Kind) → (n .kind ≡ k → ⊥) → usedCount d (started d s n) k ≡ usedCount d s k
-  unfolding usedCount
-  start-used-other k ne =
-      count-same (λ j. isUsed (headAt d (started d s n) j)) (λ j. isUsed (headAt d s j)) (slotCount d k) (firstSlot d k)
-      (λ j h l.
-      used-else j
-      (λ q.
-      ne
-      (sym (kind-of d (n .kind) i (p .from) (p .below))
-      ∙ ap (kindAt d) q
-      ∙ kind-of d k j h l)))
-
-  pub start-used-kept : find d s n ≡ at i → (k : Kind) → usedCount d (started d s n) k ≡ usedCount d s k
-  unfolding usedCount
-  start-used-kept f k =
-      count-same (λ j. isUsed (headAt d (started d s n) j)) (λ j. isUsed (headAt d s j)) (slotCount d k) (firstSlot d k)
-      (λ j h l.
-      by-eq i j
-      (λ q.
-      subst (λ (z : ℕ). isUsed (headAt d (started d s n) z) ≡ isUsed (headAt d s z)) q (used-there ∙ sym (found-used d s n i f .1)))
-      (λ ne. used-else j ne))
 
 -- ---- distinct kept memories are at most the used slots
 abbrev pub Apart : Name → List Name → Type 0

@@ -20,7 +20,7 @@ use Rattle.store.specs.declared.Place.{Place}
 use Rattle.store.specs.declared.Place.the-variants.{At, Nowhere}
 use Rattle.store.specs.Slots.{putSlot, find, onFound, placeOf}
 use Rattle.store.specs.Change.{lowestUnused, newSeat, seat, started, blankSlot}
-use Rattle.store_code.specs.Answer.{nameOf, Started, startedAs, startOf}
+use Rattle.store_code.specs.Answer.{nameOf, startedAs, startOf}
 
 -- ---- what the code answers is what was found
 pub place-at : {f : Found} {p : Place} {i : ℕ} → p ≡ placeOf f → p ≡ At i → f ≡ at i
@@ -131,10 +131,3 @@ unfolding find
 find-inside d s n {p} {i} e q = found-inside d (n .kind) _ i (place-at e q)
 
 -- ---- what a caller reads off the answer
-pub started-place : (d : Desk) (s : List ℕ) (n : Name) {p : Place} {t : List ℕ} → startedAs p t ≡ startOf d s n → p ≡ placeOf (seat d s n)
-unfolding startOf
-started-place d s n e = ap (λ (x : Started). x .place) e
-
-pub started-store : (d : Desk) (s : List ℕ) (n : Name) {p : Place} {t : List ℕ} → startedAs p t ≡ startOf d s n → t ≡ started d s n
-unfolding startOf
-started-store d s n e = ap (λ (x : Started). x .store) e

@@ -18,20 +18,17 @@ use Rattle.store_desk.specs.Size.{slotsOf}
 use Rattle.store_desk.specs.Name.{KeyFits, eqKey, firstSlot, slotCount}
 use Rattle.store_desk.proofs.Name.{eq-key, eq-key-true, kind-end}
 use Rattle.store_head.specs.Pack.{Bytes}
-use Rattle.store_head.specs.Layout.{HeadFits, usedWord, pageWord, wholeWord, wordOf}
-use Rattle.store_head.proofs.Laws.{decode-fits, word-sum}
-use Rattle.store.specs.Slots.{slotAt, headAt, keyOf, isUsed, holdsAt, find}
+use Rattle.store_head.specs.Layout.{usedWord, pageWord, wholeWord, wordOf}
+use Rattle.store_head.proofs.Laws.{word-sum}
+use Rattle.store.specs.Slots.{headAt, keyOf, isUsed, holdsAt, find}
 use Rattle.store.specs.Change.{onPage, hitsAt, lowestUnused}
 use Rattle.store_code.specs.Fits.{Fitting}
 use Rattle.store.specs.Order.{slotWord}
+use Rattle.store.proofs.Find.{head-fits}
 use Rattle.store.proofs.Ordered.{word-is}
 use Rattle.store_code.specs.Answer.{nameOf}
 
 module _ (d : Desk) (s : List ℕ) (i : ℕ) (f : Fitting d s) (h : i < slotsOf d) (b : Bytes s) where
-  fits : HeadFits (headAt d s i)
-  unfolding headAt
-  fits = decode-fits (slotAt d s i)
-
   sum-at : {w : ℕ} → w ≡ slotWord d s i
       → w ≡ headAt d s i .used * usedWord + (headAt d s i .page * pageWord + (headAt d s i .whole * wholeWord + headAt d s i .fraction))
   sum-at e = e ∙ word-is d s (f .long) b i h ∙ word-sum (headAt d s i .used) (headAt d s i .page) (headAt d s i .whole) (headAt d s i .fraction)
@@ -49,7 +46,7 @@ module _ (d : Desk) (s : List ℕ) (i : ℕ) (f : Fitting d s) (h : i < slotsOf 
     word-holds g =
         let a = sum-at e in
         let c = wanted-sum in
-        let l = fits in
+        let l = head-fits d s i in
         let u : headAt d s i .used ≡ 1 = omega (arith, l .used, l .page, l .whole, l .fraction, k .page, k .whole, k .fraction) in
         let x : headAt d s i .page ≡ key .page = omega (arith, l .used, l .page, l .whole, l .fraction, k .page, k .whole, k .fraction) in
         let y : headAt d s i .whole ≡ key .whole = omega (arith, l .used, l .page, l .whole, l .fraction, k .page, k .whole, k .fraction) in
@@ -79,7 +76,7 @@ module _ (d : Desk) (s : List ℕ) (i : ℕ) (f : Fitting d s) (h : i < slotsOf 
     word-used : usedWord ≤ w → isUsed (headAt d s i) ≡ true
     word-used g =
         let a = sum-at e in
-        let l = fits in
+        let l = head-fits d s i in
         eq-eqb (headAt d s i .used) 1 (omega (arith, l .used, l .page, l .whole, l .fraction))
 
     used-word : isUsed (headAt d s i) ≡ true → usedWord ≤ w
@@ -129,7 +126,7 @@ module _ (d : Desk) (s : List ℕ) (i : ℕ) (f : Fitting d s) (h : i < slotsOf 
     hits-above q g =
         let a = sum-at e in
         let c = word-sum 1 p 0 0 in
-        let l = fits in
+        let l = head-fits d s i in
         same-test (ltb w _) _
         (λ t.
         let y = ltb-true w _ t in

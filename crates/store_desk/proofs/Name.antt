@@ -2,13 +2,13 @@
 -- By cases on the kind, the tests' facts and laws of products.
 -- Assumes nothing.
 use mathlib.Core.Path.{_≡_, refl, sym, ap, _∙_, subst}
-use mathlib.Core.Bool.{true, false}
+use mathlib.Core.Bool.{true}
 use Prim.Native.Nat.{ℕ, _+_, _-_, _*_, _/_, _%_, _≤_, _<_}
 use native.Mathlib.Nat.{mul-comm}
 use native.Mathlib.Omega.{arith}
 use lib.Dec.{ltb}
 use lib.Arith.{digits-lt, digits-div, digits-mod}
-use borrow.Author.Tests.{leb-true, le-leb, ltb-true, ltb-false, lt-ltb, le-ltb, eqb-true, eq-eqb}
+use borrow.Author.Tests.{leb-true, le-leb, ltb-true, lt-ltb, le-ltb, eqb-true, eq-eqb}
 use Rattle.store_desk.specs.declared.Desk.{Desk}
 use Rattle.store_desk.specs.declared.Key.{Key}
 use Rattle.store_desk.specs.declared.Kind.{Kind}
@@ -67,10 +67,6 @@ eq-name-true a b e =
 
 pub eq-name-refl : (a : Name) → eqName a a ≡ true
 eq-name-refl a = eq-name-true a a refl
-
-pub eq-name-sym : (a b : Name) → eqName a b ≡ eqName b a
-eq-name-sym a b =
-    same-test (eqName a b) (eqName b a) (λ e. eq-name-true b a (sym (eq-name a b e))) (λ e. eq-name-true a b (sym (eq-name b a e)))
 
 -- of one kind, names are equal where keys are
 pub eq-name-key : (a b : Name) → a .kind ≡ b .kind → eqName a b ≡ eqKey (a .key) (b .key)
@@ -218,8 +214,3 @@ sub-same d a b ha hb e =
     let q = page-same (d .subs) (a .page) (a .whole) (b .page) (b .whole) (pa .0 .0) (pb .0 .0) (pa .1) (pb .1) c in
     let f : a .fraction ≡ b .fraction = omega arith in
     λ i. record { page = q .0 i; whole = q .1 i; fraction = f i }
-
--- a kind that is not supported has no slots
-pub no-slots : (d : Desk) (k : Kind) → supported d k ≡ false → slotCount d k ≡ 0
-unfolding supported
-no-slots d k e = let l = ltb-false 0 (slotCount d k) e in omega arith

@@ -26,11 +26,11 @@ use Rattle.store_desk.specs.Name.{firstSlot, slotCount, kindAt, eqKey, okName, 
 use Rattle.store_desk.proofs.Name.{eq-key, eq-key-true, kind-at, kind-of}
 use Rattle.store_head.specs.Pack.{Bytes}
 use Rattle.store_head.specs.Layout.{usedWord, wordOf}
-use Rattle.store_head.proofs.Laws.{decode-fits}
-use Rattle.store.specs.Slots.{slotAt, headAt, keyOf, isUsed, holdsAt, find}
+use Rattle.store.specs.Slots.{headAt, keyOf, isUsed, holdsAt, find}
 use Rattle.store.specs.Form.{placeFits, valuesFit, nameAt, slotFits}
 use Rattle.store.specs.First.{isAt, repeatsAt, badSlot, repeatedSlot, isNowhere}
 use Rattle.store.specs.Order.{slotWord}
+use Rattle.store.proofs.Find.{head-fits}
 use Rattle.store.proofs.Ordered.{word-is}
 use Rattle.store_code.specs.Fits.{Fitting}
 use Rattle.store_code.proofs.Word.{word-test, unused-test}
@@ -84,10 +84,9 @@ module _ (d : Desk) (s : List ℕ) (f : Fitting d s) (b : Bytes s) where
 
   same-word : (i j : ℕ) → i < slotsOf d → j < slotsOf d → isUsed (headAt d s i) ≡ true
       → eqb (slotWord d s j) (slotWord d s i) ≡ holdsAt d s (keyOf (headAt d s i)) j
-  unfolding headAt
   same-word i j h l u =
       let x = headAt d s i in
-      let g = decode-fits (slotAt d s i) in
+      let g = head-fits d s i in
       word-test d s j f l b (keyOf x) (record { page = g .page; whole = g .whole; fraction = g .fraction }) refl
       (word-is d s (f .long) b i h ∙ ap (λ (z : ℕ). wordOf z (x .page) (x .whole) (x .fraction)) (eqb-true (x .used) 1 u))
 

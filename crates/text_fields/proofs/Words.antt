@@ -98,9 +98,6 @@ module _ (text columns : List ℕ) (at : ℕ) {f : Field} (e : f ≡ fieldAt tex
   field-fits =
       subst (λ (g : Field). (g .start ≤ g .end) × (g .end ≤ length text)) (sym e) (end-from text at, end-within text at h)
 
-  pub field-forward : isMore text at ≡ true → at < f .end
-  field-forward m = subst (λ (g : Field). at < g .end) (sym e) (end-forward text at m)
-
 -- ---- any number of fields that is enough gives the same
 abbrev skipped : List ℕ → List ℕ → List ℕ
 skipped text s = drop (span isDelimiter text) s

@@ -1,7 +1,7 @@
 -- What is left of a record, made in one pass: a character's kind decides, the characters kept so far are followed by those kept of
 -- the rest, and what was seen so far is joined to what the rest has. By cases on a character's kind.
 -- Assumes nothing.
-use mathlib.Core.Path.{_≡_, refl, sym, ap, _∙_, subst}
+use mathlib.Core.Path.{_≡_, refl, sym, ap, _∙_}
 use mathlib.Core.Bool.{Bool, true, false, cond, not, _||_, true≢false}
 use mathlib.Core.List.{List, [], _∷_, _++_, append-nil, map-append}
 use Prim.Native.Nat.{ℕ, suc, _+_, _-_, _≤_, _<_, zero-le, suc-le-suc}
@@ -12,7 +12,7 @@ use lib.ListN.{length, getD, set, take, drop, replicate, length-append, length-m
 use lib.Seq.{drop-cons, append-snoc}
 use borrow.Author.Tests.{le-ltb, lt-leb, ne-eqb, eqb-true, leb-true}
 use Rattle.cells.specs.Pad.{padded}
-use Rattle.cells.proofs.Pad.{padded-nil, padded-push, take-padded-at, length-padded}
+use Rattle.cells.proofs.Pad.{padded-nil, padded-push, take-padded-at}
 use Rattle.cells.proofs.Split.{by-test, cond-true, cond-false, or-false, or-true-left, or-true-right}
 use Rattle.text_records.specs.declared.Cleaned.{Cleaned}
 use Rattle.text_records.specs.declared.Seen.{Seen}
@@ -317,10 +317,6 @@ module _ (xs : List ℕ) {r : Cleaned} (e : r ≡ cleanedOf xs) where
       ap (λ (c : Cleaned). take (c .count) (c .columns)) e
       ∙ take-padded-at longest (columns (keptOf xs)) (length (keptOf xs)) (sym (length-map (keptOf xs) _))
 
-  -- text and columns are of one length
-  pub cleaned-even : length (take (r .count) (r .columns)) ≡ length (take (r .count) (r .text))
-  cleaned-even = ap length cleaned-columns ∙ length-map (keptOf xs) _ ∙ sym (ap length cleaned-text ∙ length-map (keptOf xs) _)
-
   -- and lie within the arrays
   module _ (h : length xs ≤ longest) where
     pub cleaned-fits : r .count ≤ longest
@@ -328,18 +324,3 @@ module _ (xs : List ℕ) {r : Cleaned} (e : r ≡ cleanedOf xs) where
         let c : r .count ≡ length (keptOf xs) = cleaned-count in
         let f : length (keptOf xs) ≤ length xs = kept-length xs in
         omega arith
-
-    fits : length (keptOf xs) ≤ longest
-    fits = let f : length (keptOf xs) ≤ length xs = kept-length xs in omega arith
-
-    pub text-length : length (r .text) ≡ longest
-    unfolding cleanedOf
-    text-length =
-        ap (λ (c : Cleaned). length (c .text)) e
-        ∙ length-padded longest (chars (keptOf xs)) (subst (λ (k : ℕ). k ≤ longest) (sym (length-map (keptOf xs) _)) fits)
-
-    pub columns-length : length (r .columns) ≡ longest
-    unfolding cleanedOf
-    columns-length =
-        ap (λ (c : Cleaned). length (c .columns)) e
-        ∙ length-padded longest (columns (keptOf xs)) (subst (λ (k : ℕ). k ≤ longest) (sym (length-map (keptOf xs) _)) fits)

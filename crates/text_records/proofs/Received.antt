@@ -8,7 +8,7 @@ use lib.Dec.{ltb}
 use borrow.Author.Tests.{ltb-false}
 use native.Mathlib.Numerals.{add-one}
 use native.Mathlib.Omega.{arith}
-use lib.ListN.{length, getD, set, take, drop, replicate, length-take, length-drop}
+use lib.ListN.{length, getD, set, take, drop, replicate, length-drop}
 use lib.Seq.{take-all, take-length, take-suc, length-take-le, getD-take, getD-drop}
 use native.Mathlib.Nat.{le-of-lt}
 use Rattle.cells.proofs.Split.{by-lt}
@@ -36,12 +36,6 @@ module _ (xs : List ℕ) {r : Record} (e : r ≡ recordOf xs) where
   -- one that is not over-long has all its characters
   pub received-short : overLong r ≡ false → length xs ≤ longest
   received-short f = ltb-false longest (length xs) (sym received-long ∙ f)
-
--- a count within the limit is enough for that, whatever the record
-pub text-short : (r : Record) → r .count ≤ longest → length (textOf r) ≤ longest
-text-short r h =
-    let e : length (textOf r) ≡ min (r .count) (length (r .bytes)) = length-take (r .count) (r .bytes) in
-    omega arith
 
 -- ---- the first i characters of a part are in the array
 pub part-length : (s : List ℕ) (at n : ℕ) → at + n ≤ length s → length (take n (drop at s)) ≡ n

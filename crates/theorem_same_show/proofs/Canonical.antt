@@ -16,13 +16,14 @@ use Rattle.store.specs.Slots.{keyOf, find}
 use Rattle.store.specs.View.{Memory, kept, memoryAt, memoryOf}
 use Rattle.store.specs.Order.{inOrder}
 use Rattle.store.specs.Good.{Ready}
+use Rattle.store.proofs.Find.{kept-inj, kept-absent}
 use Rattle.store.proofs.Start.{absent-at}
 use Rattle.store.proofs.Ordered.{keyWord, Among, Rising}
 use Rattle.save_lines.specs.Line.{patchLine, joined}
 use Rattle.save.specs.Lines.{dimmerLines, pageLines, patchLines, memoryLines, slotLines, kindLines, linesOf, streamOf}
 use Rattle.theorem_same_show.specs.Show.{SameShow}
 use Rattle.theorem_same_show.proofs.Keys.{slotKey, order-rising}
-use Rattle.theorem_same_show.proofs.Room.{kept-at, by-found, kept-absent}
+use Rattle.theorem_same_show.proofs.Room.{kept-at, by-found}
 use Rattle.theorem_same_show.proofs.Loaded.{own, own-kept, in-order-here, found-in-order}
 
 -- ---- lists that rise by a number, and their members
@@ -99,9 +100,6 @@ module _ (d : Desk) (s t : List ℕ) (rs : Ready d s) (rt : Ready d t) (same : (
       subst (λ (x : Memory). In x (map (memoryAt d t) (inOrder d t k))) (sym y)
       (in-map (memoryAt d t) (inOrder d t k) j (found-in-order d t rt k n refl j e)))
       (λ e. absurd (kept-absent (sym q ∙ absent-at d t n e)))
-    where
-      kept-inj : {a b : Memory} → kept a ≡ kept b → a ≡ b
-      kept-inj e = cc
 
 -- ---- lines
 linesOn : Kind → List Memory → List (List ℕ)

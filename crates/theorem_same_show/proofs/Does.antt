@@ -2,7 +2,7 @@
 -- Assumes nothing.
 use mathlib.Core.Path.{_≡_, refl, sym, ap, _∙_}
 use mathlib.Core.Bool.{true, cond}
-use mathlib.Core.List.{List, [], _∷_, _++_, append-nil}
+use mathlib.Core.List.{List, [], _∷_, _++_}
 use Prim.Native.Nat.{ℕ, _≤_, _<_}
 use native.Mathlib.Omega.{arith}
 use lib.ListN.{length, getD, drop}
@@ -28,13 +28,12 @@ use Rattle.value.specs.declared.Numbered.{Numbered}
 use Rattle.value.specs.declared.Timed.{Timed}
 use Rattle.value.specs.declared.Timed.the-variants.{Value as IsTime}
 use Rattle.value.specs.Integer.{cap, integerOf}
-use Rattle.value.specs.Number.{wholeMax, fractionDigits}
+use Rattle.value.specs.Number.{wholeMax}
 use Rattle.value.specs.Time.{timeMax}
 use Rattle.value_level.specs.declared.Leveled.{Leveled}
 use Rattle.value_level.specs.Level.{levelOf}
 use Rattle.value_written.specs.Text.{integerText, numberText, levelText, timeText}
-use Rattle.value_written.proofs.Texts.{fraction-none}
-use Rattle.value_written.proofs.Undone.{integer-read, page-read, number-read, level-read, time-read}
+use Rattle.value_written.proofs.Undone.{integer-read, page-read, number-text-none, number-read, level-read, time-read}
 use Rattle.store.specs.declared.Edit.{Edit}
 use Rattle.store.specs.declared.Edit.the-variants.{Up, Down, Followon, Link, Level}
 use Rattle.store.specs.Change.{seat, started, edited, patched}
@@ -103,16 +102,12 @@ kind-ask d s Group ws = refl
 kind-ask d s Sub ws = refl
 
 -- ---- the primaries
-number-zero : (w f : ℕ) → f ≡ 0 → numberText w f ≡ integerText w
-unfolding numberText
-number-zero w f e = ap (λ (z : List ℕ). integerText w ++ z) (fraction-none fractionDigits f e) ∙ append-nil (integerText w)
-
 module _ (d : Desk) (r : InRange d) where
   sub-numeral : (w f : ℕ) → Within 1 w (d .subs) → f ≡ 0 → subBy d (integerOf (numberText w f)) ≡ Number w f
   unfolding subBy
   sub-numeral w f h e =
       let l : w ≤ cap = omega (arith, r .subs .1) in
-      ap (λ (x : List ℕ). subBy d (integerOf x)) (number-zero w f e)
+      ap (λ (x : List ℕ). subBy d (integerOf x)) (number-text-none w f e)
       ∙ ap (subBy d) (integer-read w l)
       ∙ cond-true (isWithin 1 w (d .subs)) _ _ (within-true 1 w (d .subs) h)
       ∙ ap (λ (z : ℕ). Number w z) (sym e)

@@ -17,9 +17,7 @@ use Rattle.store_desk.specs.Size.{headLength, levelsLength, slotLength, patchSt
 use Rattle.store_desk.specs.Name.{Name, eqName, okName, firstSlot, slotsEnd}
 use Rattle.store_desk.proofs.Name.{eq-name, eq-name-refl, kind-of}
 use Rattle.store_head.specs.Pack.{Bytes}
-use Rattle.store_head.specs.Layout.{HeadFits}
-use Rattle.store_head.proofs.Laws.{decode-fits}
-use Rattle.store.specs.Slots.{slotAt, headAt, levelsAt, keyOf, find}
+use Rattle.store.specs.Slots.{headAt, levelsAt, keyOf, find}
 use Rattle.store.specs.View.{Kept, absent, kept, memoryAt, memoryOf}
 use Rattle.store.specs.Change.{seat, started}
 use Rattle.store.specs.Form.{nameAt, valuesFit}
@@ -27,6 +25,7 @@ use Rattle.store.specs.Memories.{blankMemory}
 use Rattle.store.specs.Good.{Ready}
 use Rattle.store.proofs.Places.{slots-end, slot-end, levels-part}
 use Rattle.store.specs.Order.{inOrder}
+use Rattle.store.proofs.Find.{head-fits}
 use Rattle.store.proofs.Form.{used-name, used-values, found-self, placed-found}
 use Rattle.store.proofs.Start.{found-used, absent-at}
 use Rattle.store.proofs.Edits.{Values, values-of}
@@ -45,10 +44,6 @@ use Rattle.theorem_same_show.proofs.Keys.{Here, here-slot}
 use Rattle.theorem_same_show.proofs.Room.{kept-at, by-found, Under, room}
 
 -- ---- a used slot of a good store
-head-fits : (d : Desk) (s : List ℕ) (i : ℕ) → HeadFits (headAt d s i)
-unfolding headAt
-head-fits d s i = decode-fits (slotAt d s i)
-
 module _ (d : Desk) (s : List ℕ) (r : Ready d s) (k : Kind) (i : ℕ) (h : Here d s k i) where
   abbrev pub own : Name
   own = name k (keyOf (headAt d s i))

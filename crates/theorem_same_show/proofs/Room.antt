@@ -1,7 +1,7 @@
 -- There is room for what was kept: a store all of whose memories of a kind another store keeps too has a place for one more of those that the
 -- other keeps. By counting distinct kept names.
 -- Assumes nothing.
-use mathlib.Core.Path.{_≡_, refl, sym, ap, _∙_, subst}
+use mathlib.Core.Path.{_≡_, refl, sym, ap, _∙_}
 use mathlib.Core.Bool.{false}
 use mathlib.Core.List.{List, [], _∷_, map}
 use mathlib.Core.Logic.{_⊎_, inl, inr, ⊎-elim}
@@ -9,19 +9,21 @@ use Prim.Native.Nat.{ℕ, _<_, _≤_}
 use native.Mathlib.Omega.{arith}
 use lib.ListN.{length, length-map}
 use Rattle.cells.specs.Search.{Found, at, nowhere}
+use Rattle.cells.proofs.Search.{at-nowhere}
 use Rattle.cells.proofs.Split.{by-bool}
 use Rattle.store_desk.specs.declared.Desk.{Desk}
 use Rattle.store_desk.specs.Name.{Name, eqName, slotCount}
 use Rattle.store_desk.proofs.Name.{eq-name, kind-of}
 use Rattle.store.specs.Slots.{find, onFound}
-use Rattle.store.specs.View.{Memory, Kept, absent, kept, memoryAt, memoryOf}
+use Rattle.store.specs.View.{absent, kept, memoryAt, memoryOf}
 use Rattle.store.specs.Change.{seat}
 use Rattle.store.specs.Form.{nameAt}
 use Rattle.store.specs.Order.{inOrder}
 use Rattle.store.specs.Good.{Ready}
 use Rattle.store.specs.Memories.{usedCount}
 use Rattle.store.proofs.Form.{found-self}
-use Rattle.store.proofs.Start.{at-nowhere, absent-at, kept-room}
+use Rattle.store.proofs.Find.{kept-absent}
+use Rattle.store.proofs.Start.{absent-at, kept-room}
 use Rattle.store.proofs.Used.{used-le, room-left, Apart, Distinct, AllKept, kept-used}
 use Rattle.store.proofs.Ordered.{keyWord, Among, Rising, in-order-used, in-order-length}
 use Rattle.theorem_same_show.proofs.Keys.{slotKey, Here, here-slot, order-rising}
@@ -34,13 +36,6 @@ kept-at d s n i e = ap (λ (f : Found). onFound f (λ j. kept (memoryAt d s j)) 
 pub by-found {ℓ} : {X : Type ℓ} (f : Found) → ((i : ℕ) → f ≡ at i → X) → (f ≡ nowhere → X) → X
 by-found (at i) a b = a i refl
 by-found nowhere a b = b refl
-
-abbrev IsAbsent : Kept → Type 0
-IsAbsent absent = Unit {0}
-IsAbsent (kept m) = ⊥
-
-pub kept-absent : {m : Memory} → kept m ≡ absent → ⊥
-kept-absent e = subst IsAbsent (sym e) tt
 
 -- every memory that t keeps is one of s's
 abbrev pub Under : Desk → List ℕ → List ℕ → Type 0

@@ -105,7 +105,7 @@ no-point c g h = not-of-false (eqb c point) (ne-eqb c point (λ (e : c ≡ point
 no-colon : (c : ℕ) → 48 ≤ c → c ≤ 57 → isOther colon c ≡ true
 no-colon c g h = not-of-false (eqb c colon) (ne-eqb c colon (λ (e : c ≡ colon). omega arith))
 
-number-text-none : (w f : ℕ) → f ≡ 0 → numberText w f ≡ integerText w
+pub number-text-none : (w f : ℕ) → f ≡ 0 → numberText w f ≡ integerText w
 unfolding numberText
 number-text-none w f e = ap (λ (z : List ℕ). integerText w ++ z) (fraction-none fractionDigits f e) ∙ append-nil (integerText w)
 
