@@ -32,7 +32,7 @@ use Rattle.value.specs.Field.{pagedOf, pageOf}
 use Rattle.store.specs.declared.Edit.{Edit}
 use Rattle.store.specs.declared.Edit.the-variants.{Up as SetUp, Down as SetDown, Followon as SetFollowon, Link as SetLink, Level as SetLevel}
 use Rattle.store.specs.Form.{hasLink}
-use Rattle.store.specs.Memories.{has, InTime}
+use Rattle.store.specs.Memories.{canHave, InTime}
 use Rattle.load.specs.declared.Secondary.{Secondary}
 use Rattle.load.specs.declared.Secondary.the-variants.{Chan, Up, Down, Followon, Link}
 use Rattle.load.specs.declared.Numeral.{Numeral}
@@ -147,7 +147,7 @@ NoLevel (SetLink whole fraction) = Unit {0}
 NoLevel (SetLevel channel v) = ⊥
 
 abbrev pub ChangeOk : Kind → Edit → Type 0
-ChangeOk k e = (has k e ≡ true) × InTime e × NoLevel e
+ChangeOk k e = (canHave k e ≡ true) × InTime e × NoLevel e
 
 abbrev pub ReadingOk : Kind → Reading → Type 0
 ReadingOk k (Misread c) = c < conditionSpan
@@ -173,18 +173,18 @@ unfolding fadeOf
 fade-ok k f h ws = fade-by k f h (timeOf (headOf ws .chars)) (delayOf (tailOf ws)) (time-ok (headOf ws .chars)) (delay-ok (tailOf ws))
 
 time-by : (k : Kind) → hasLink k ≡ true → (a : Timed) → TimeOk a → ReadingOk k (onTime a (λ t. Change (SetFollowon t)))
-unfolding onTime has
+unfolding onTime canHave
 time-by k h BadTime x = lit< tt
 time-by k h (IsTime a) x = (h, x, tt)
 
 link-by : (k : Kind) → hasLink k ≡ true → (x : Numbered) → NumberOk x → ReadingOk k (linkBy (numberedBy x))
-unfolding linkBy numberedBy has
+unfolding linkBy numberedBy canHave
 link-by k h BadNumber x = lit< tt
 link-by k h TooLarge x = lit< tt
 link-by k h (IsNumber n) x = (h, x, tt)
 
 pub reading-ok : (k : Kind) (e : Secondary) → augments k e ≡ true → (ws : List Word) → ReadingOk k (timesOf e ws)
-unfolding augments timesOf has
+unfolding augments timesOf canHave
 reading-ok k Chan h ws = lit< tt
 reading-ok k Up h ws = fade-ok k (λ fade delay. SetUp fade delay) (λ a b x y. (h, (x, y), tt)) ws
 reading-ok k Down h ws = fade-ok k (λ fade delay. SetDown fade delay) (λ a b x y. (h, (x, y), tt)) ws

@@ -18,7 +18,7 @@ use Rattle.store_desk.specs.Name.{Name, okName}
 use Rattle.text_fields.specs.Words.{Word, fieldsOf, tailOf}
 use Rattle.store.specs.declared.Edit.the-variants.{Level as SetLevel}
 use Rattle.store.specs.Change.{seat, edited, cleared, clearedPatch}
-use Rattle.store.specs.Memories.{has}
+use Rattle.store.specs.Memories.{canHave}
 use Rattle.store.specs.Good.{Ready}
 use Rattle.store.proofs.Start.{start-good}
 use Rattle.store.proofs.Edits.{edit-good}
@@ -64,7 +64,7 @@ untouched d s r t = deed-still d s (length (tailOf (fieldsOf r))) t (record-deed
 
 -- ---- good form is kept
 pub level-ready : (d : Desk) (t : List ℕ) → Ready d t → (n : Name) (channel v : ℕ) → Ready d (edited d t n (SetLevel channel v))
-level-ready d t r n channel v = edit-good d t r n (SetLevel channel v) (unfold has in refl) tt
+level-ready d t r n channel v = edit-good d t r n (SetLevel channel v) (unfold canHave in refl) tt
 
 memory-ready : (d : Desk) (n : Name) (es : List Entry) (t : List ℕ) → Ready d t → Ready d (allDone d (memory n) t es)
 unfolding allDone done

@@ -21,7 +21,8 @@ use Rattle.value_level.specs.declared.Leveled.the-variants.{NotPercent, NotHex,
 use Rattle.value_level.specs.Level.{levelOf}
 use Rattle.text_records.specs.Received.{longest}
 use Rattle.text_fields.specs.declared.Field.{Field}
-use Rattle.text_fields.specs.Words.{Word, wordsOf, wordsFrom, headOf, tailOf, endAt, isMore, fieldAt, wordIn, wordAt}
+use Rattle.text_fields.specs.Words.{Word, wordsOf, headOf, tailOf}
+use Rattle.text_fields.specs.Places.{wordsFrom, endAt, isMore, fieldAt, wordIn, wordAt}
 use Rattle.text_fields.proofs.Words.{words-some, words-none, words-head, words-tail, start-from, end-from, end-within, end-forward}
 use Rattle.store.specs.declared.Edit.the-variants.{Level as SetLevel}
 use Rattle.store.specs.Change.{editAt, patched}
@@ -40,7 +41,7 @@ use Rattle.load_items.specs.Done.{entriesIn, doneAt, allDoneAt}
 use Rattle.load_items.specs.Done.{mostFaults, faultsHeld}
 use Rattle.load_items.specs.declared.Item.{Item}
 use Rattle.load_items.specs.Take.{takenAs, takenOf}
-use Rattle.load_items.specs.Each.{itemAt, isFault, told}
+use Rattle.load_items.specs.Each.{itemAt, isFault, toldBehind}
 use Rattle.load.specs.Fits.{EntryFits}
 use Rattle.load.proofs.Entries.{pair-fits, triple-fits, pairs-few, triples-few}
 use Rattle.text_fields.proofs.Counts.{words-in-few}
@@ -258,7 +259,7 @@ entries-few d g text columns place h =
 -- ---- faults one behind the other
 unfoldable pub allTold : Faults → List Entry → Faults
 allTold f [] = f
-allTold f (e ∷ es) = allTold (told f e) es
+allTold f (e ∷ es) = allTold (toldBehind f e) es
 
 held-count : (xs : List ℕ) → faultsHeld xs .count ≡ length xs
 unfolding faultsHeld
@@ -270,8 +271,8 @@ faults-cons (Level n v) es = refl
 faults-cons (Patch n k v) es = refl
 faults-cons (Fault condition column) es = refl
 
-told-held : (xs : List ℕ) (e : Entry) → length xs < mostFaults → told (faultsHeld xs) e ≡ faultsHeld (xs ++ faultsOf (e ∷ []))
-unfolding told faultsOf faultsHeld
+told-held : (xs : List ℕ) (e : Entry) → length xs < mostFaults → toldBehind (faultsHeld xs) e ≡ faultsHeld (xs ++ faultsOf (e ∷ []))
+unfolding toldBehind faultsOf faultsHeld
 told-held xs (Level n v) h = ap faultsHeld (sym (append-nil xs))
 told-held xs (Patch n k v) h = ap faultsHeld (sym (append-nil xs))
 told-held xs (Fault condition column) h =
@@ -295,8 +296,8 @@ all-told (e ∷ es) xs h =
     ∙ all-told es (xs ++ faultsOf (e ∷ [])) (omega arith)
     ∙ ap faultsHeld (append-assoc xs (faultsOf (e ∷ [])) (faultsOf es) ∙ ap (λ (ys : List ℕ). xs ++ ys) (sym (faults-cons e es)))
 
-told-count : (f : Faults) (e : Entry) → told f e .count ≤ f .count + 1
-unfolding told
+told-count : (f : Faults) (e : Entry) → toldBehind f e .count ≤ f .count + 1
+unfolding toldBehind
 told-count f (Level n v) = omega arith
 told-count f (Patch n k v) = omega arith
 told-count f (Fault condition column) = omega arith
@@ -331,26 +332,26 @@ module _ (d : Desk) (i : ℕ) (s : List ℕ) {e : Entry} where
   page-fault h = ap (doneAt d (Page i) s) (sym h)
 
 module _ (f : Faults) {e : Entry} where
-  pub told-level : {n v : ℕ} → e ≡ Level n v → f ≡ told f e
-  unfolding told
-  told-level h = ap (told f) (sym h)
+  pub told-level : {n v : ℕ} → e ≡ Level n v → f ≡ toldBehind f e
+  unfolding toldBehind
+  told-level h = ap (toldBehind f) (sym h)
 
-  pub told-patch : {n k v : ℕ} → e ≡ Patch n k v → f ≡ told f e
-  unfolding told
-  told-patch h = ap (told f) (sym h)
+  pub told-patch : {n k v : ℕ} → e ≡ Patch n k v → f ≡ toldBehind f e
+  unfolding toldBehind
+  told-patch h = ap (toldBehind f) (sym h)
 
   pub told-fault : {n k : ℕ} → e ≡ Fault n k
-      → _≡_ {A = Faults} (record { conditions = set (f .conditions) (f .count) n; count = f .count + 1 }) (told f e)
-  unfolding told
-  told-fault h = ap (told f) (sym h)
+      → _≡_ {A = Faults} (record { conditions = set (f .conditions) (f .count) n; count = f .count + 1 }) (toldBehind f e)
+  unfolding toldBehind
+  told-fault h = ap (toldBehind f) (sym h)
 
-no-fault-by : (f : Faults) (e : Entry) → isFault e ≡ false → f ≡ told f e
-unfolding isFault told
+no-fault-by : (f : Faults) (e : Entry) → isFault e ≡ false → f ≡ toldBehind f e
+unfolding isFault toldBehind
 no-fault-by f (Level n v) h = refl
 no-fault-by f (Patch n k v) h = refl
 no-fault-by f (Fault n k) h = absurd (true≢false h)
 
-pub no-fault : (f : Faults) (e : Entry) {b : Bool} → b ≡ isFault e → b ≡ false → f ≡ told f e
+pub no-fault : (f : Faults) (e : Entry) {b : Bool} → b ≡ isFault e → b ≡ false → f ≡ toldBehind f e
 no-fault f e q h = no-fault-by f e (sym q ∙ h)
 
 -- ---- the loop: what is done and told from here on comes to what is done and told from the start on
@@ -388,7 +389,7 @@ module _ (d : Desk) (g : Group) (text columns : List ℕ) (place : ℕ) (aim : A
         omega arith
 
     pub loop-turn : {x : Item} {t : List ℕ} {h : Faults} → x ≡ itemAt d g text columns i → t ≡ doneAt d aim s (x .entry) → length t ≡ length s
-        → h ≡ told f (x .entry) → Going d g text columns place aim s₀ (x .end) t h
+        → h ≡ toldBehind f (x .entry) → Going d g text columns place aim s₀ (x .end) t h
     unfolding allTold allDoneAt
     loop-turn {x} {t} {h} e b k a =
         let es = entriesFrom d g text columns (x .end) in

@@ -8,7 +8,7 @@ use Prim.Native.Nat.{ℕ, _+_, _≤_}
 use lib.ListN.{length, set}
 use Rattle.store_desk.specs.declared.Desk.{Desk}
 use Rattle.text_fields.specs.declared.Field.{Field}
-use Rattle.text_fields.specs.Words.{endAt, wordAt}
+use Rattle.text_fields.specs.Places.{endAt, wordAt}
 use Rattle.load.specs.declared.Entry.{Entry}
 use Rattle.load.specs.declared.Entry.the-variants.{Level, Patch, Fault}
 use Rattle.load_items.specs.declared.Group.{Group}
@@ -45,7 +45,7 @@ isFault (Patch channel dimmer v) = false
 isFault (Fault condition column) = true
 
 -- a fault goes behind those that are there
-unfoldable pub told : Faults → Entry → Faults
-told f (Level channel v) = f
-told f (Patch channel dimmer v) = f
-told f (Fault condition column) = record { conditions = set (f .conditions) (f .count) condition; count = f .count + 1 }
+unfoldable pub toldBehind : Faults → Entry → Faults
+toldBehind f (Level channel v) = f
+toldBehind f (Patch channel dimmer v) = f
+toldBehind f (Fault condition column) = record { conditions = set (f .conditions) (f .count) condition; count = f .count + 1 }

@@ -5,12 +5,12 @@ ghost use mathlib.Core.List.{[]};
 ghost use Prim.Native.Nat.{_≤_, _<_};
 ghost use Rattle.value.specs.Integer.{integerOf};
 ghost use Rattle.value_level.specs.Level.{levelOf};
-ghost use Rattle.text_fields.specs.Words.{wordsFrom, wordIn};
+ghost use Rattle.text_fields.specs.Places.{wordsFrom, wordIn};
 ghost use Rattle.load.specs.Item.{rangedOf, pairOf, tripleOf};
 ghost use Rattle.load_items.specs.Done.{entriesIn, doneAt, faultsHeld, mostFaults};
 ghost use Rattle.store_code.specs.Fits.{Fitting};
 ghost use Rattle.load_items.specs.Take.{AimFits, ItemsReady, takenAs, takenOf};
-ghost use Rattle.load_items.specs.Each.{Lies, On, itemAt, isFault, told};
+ghost use Rattle.load_items.specs.Each.{Lies, On, itemAt, isFault, toldBehind};
 ghost use Rattle.load.specs.Fits.{EntryFits};
 use load::Entry;
 use load::Ranged;
@@ -200,7 +200,7 @@ fn is_fault(e: Entry) -> bool
 // An item's fault goes behind those before it.
 fn with(faults: Faults, e: Entry) -> Faults
     requires { ⌜ faults .count < mostFaults ⌝ }
-    ensures { λ r. ⌜ r ≡ told faults e ⌝ }
+    ensures { λ r. ⌜ r ≡ toldBehind faults e ⌝ }
 {
     match e {
         Entry::Level(_, _) => faults,

@@ -6,7 +6,8 @@ use mathlib.Core.Bool.{Bool, true, false}
 use mathlib.Core.List.{List}
 use Prim.Native.Nat.{ℕ}
 use Rattle.text_fields.specs.declared.Field.{Field}
-use Rattle.text_fields.specs.Words.{Word, wordsFrom, headOf, tailOf, isMore, fieldAt, wordIn}
+use Rattle.text_fields.specs.Words.{Word, headOf, tailOf}
+use Rattle.text_fields.specs.Places.{wordsFrom, isMore, fieldAt, wordIn}
 use Rattle.text_fields.proofs.Words.{end-from, end-within, words-none, words-some, words-head, words-tail}
 use Rattle.value.specs.declared.Paged.{Paged}
 use Rattle.value.specs.declared.Paged.the-variants.{Value as IsPage}

@@ -8,7 +8,8 @@ use Rattle.store_desk.specs.declared.Kind.{Kind}
 use Rattle.store_desk.specs.declared.Kind.the-variants.{Cue, Group, Sub}
 use Rattle.store_desk.specs.Name.{pagesOf}
 use Rattle.text_fields.specs.declared.Field.{Field}
-use Rattle.text_fields.specs.Words.{Word, wordsFrom, headOf, tailOf, fieldAt, wordIn}
+use Rattle.text_fields.specs.Words.{Word, headOf, tailOf}
+use Rattle.text_fields.specs.Places.{wordsFrom, fieldAt, wordIn}
 use Rattle.value.specs.declared.Paged.{Paged}
 use Rattle.value.specs.declared.Paged.the-variants.{Bad, Value as IsPage}
 use Rattle.value.specs.Integer.{integerOf}

@@ -4,7 +4,8 @@ use mathlib.Core.Path.{_≡_, sym, ap, _∙_}
 use mathlib.Core.List.{List}
 use Prim.Native.Nat.{ℕ}
 use Rattle.text_fields.specs.declared.Field.{Field}
-use Rattle.text_fields.specs.Words.{Word, wordsFrom, headOf, tailOf, fieldAt, wordIn}
+use Rattle.text_fields.specs.Words.{Word, headOf, tailOf}
+use Rattle.text_fields.specs.Places.{wordsFrom, fieldAt, wordIn}
 use Rattle.value.specs.declared.Timed.{Timed}
 use Rattle.value.specs.declared.Timed.the-variants.{Malformed as BadTime, Value as IsTime}
 use Rattle.value.specs.Number.{numberOf}

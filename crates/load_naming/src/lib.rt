@@ -3,7 +3,8 @@
 ghost use mathlib.Core.Path.{_≡_};
 ghost use Prim.Native.Nat.{max};
 ghost use Rattle.store_desk.specs.Size.{InRange};
-ghost use Rattle.text_fields.specs.Words.{wordsFrom, headOf, wordIn};
+ghost use Rattle.text_fields.specs.Words.{headOf};
+ghost use Rattle.text_fields.specs.Places.{wordsFrom, wordIn};
 ghost use Rattle.value.specs.Integer.{integerOf};
 ghost use Rattle.value.specs.Number.{numberOf};
 ghost use Rattle.value.specs.Time.{timeOf};

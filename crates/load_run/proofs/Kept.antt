@@ -7,16 +7,16 @@ use Rattle.store_desk.specs.declared.Desk.{Desk}
 use Rattle.store_code.specs.Fits.{Fitting}
 use Rattle.load.specs.Step.{recordStep}
 use Rattle.load_step.specs.declared.Held.{Held}
-use Rattle.load_step.specs.Held.{heldOf, Ready}
+use Rattle.load_step.specs.Held.{heldOf, HeldReady}
 use Rattle.load_step.proofs.Holding.{nothing-ready}
 use Rattle.load_step.proofs.Laws.{record-keeps}
 use Rattle.load_run.specs.Loaded.{begunOf}
 
-pub ready-begun : (d : Desk) (t : List ℕ) → Ready d t (begunOf .held)
+pub ready-begun : (d : Desk) (t : List ℕ) → HeldReady d t (begunOf .held)
 unfolding begunOf
 ready-begun d t = nothing-ready d t refl
 
-pub ready-record : (d : Desk) (h : Held) (r t : List ℕ) → Fitting d t → Ready d t h
-    → Ready d (recordStep d (h .state) r t .store) (heldOf d (recordStep d (h .state) r t .store) (recordStep d (h .state) r t .state))
+pub ready-record : (d : Desk) (h : Held) (r t : List ℕ) → Fitting d t → HeldReady d t h
+    → HeldReady d (recordStep d (h .state) r t .store) (heldOf d (recordStep d (h .state) r t .store) (recordStep d (h .state) r t .state))
 unfolding heldOf
 ready-record d h r t f g = record { same = refl; settled = record-keeps d t f (h .state) (g .settled) r .settled }

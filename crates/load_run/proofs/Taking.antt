@@ -25,7 +25,7 @@ use Rattle.load.specs.Step.{Step, acted, stepOf, recordStep, ignoredIn, outcome
 use Rattle.load.specs.Run.{stops}
 use Rattle.load.proofs.Steps.{Modest, saidBy, step-said}
 use Rattle.load_step.specs.declared.Stepped.{Stepped}
-use Rattle.load_step.specs.Held.{heldOf, Ready, stepping, steppedOf}
+use Rattle.load_step.specs.Held.{heldOf, HeldReady, stepping, steppedOf}
 use Rattle.load_tell.specs.declared.Count.{Count}
 use Rattle.load_run.specs.declared.Progress.{Progress}
 use Rattle.load_tell.specs.Count.{tallied, told, toldOne, toldAll, ignoredBy, conditionsIn, mostRecords, Tellable, Countable}
@@ -125,7 +125,7 @@ cleaned-room d p r t {c} h e k =
     (cleaned-fits r e h, record { fitting = k .fitting; ready = k .ready; countable = k .countable; room = omega arith })
 
 -- ---- an over-long one
-pub long-taken : (d : Desk) (p : Progress) (r t l : List ℕ) {n : Count} {k : List ℕ} → isOverLong r ≡ true → Ready d t (p .held)
+pub long-taken : (d : Desk) (p : Progress) (r t l : List ℕ) {n : Count} {k : List ℕ} → isOverLong r ≡ true → HeldReady d t (p .held)
     → told n k ≡ toldOne (told (tallied (p .count) (Stopped overLongRecord)) l) overLongRecord
     → taken (record { held = p .held; count = n; stopped = true }) t k ≡ recordTaken d p r t l
 unfolding recordStep askOf acted conditionsOf outcomeReports takenBy stops

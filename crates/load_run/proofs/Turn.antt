@@ -22,12 +22,12 @@ use Rattle.load.specs.Run.{Report, Run, stops, reportsAt, runFrom, loadOf, allR
 use Rattle.load.specs.Fits.{Small}
 use Rattle.load.proofs.Counts.{record-said}
 use Rattle.load_step.specs.declared.Held.{Held}
-use Rattle.load_step.specs.Held.{heldOf, Ready}
+use Rattle.load_step.specs.Held.{heldOf, HeldReady}
 use Rattle.load_tell.specs.declared.Count.{Count}
 use Rattle.load_run.specs.declared.Progress.{Progress}
 use Rattle.load_tell.specs.Count.{countOf, totalsBy, tallied, Told, told, toldOne, toldAll, Tellable, Countable, mostRecords}
-use Rattle.load_run.specs.Take.{Taken, taken, takenBy, recordTaken, Taking}
-use Rattle.load_run.specs.Loaded.{Loaded, loaded, loadedOf, begunOf}
+use Rattle.load_run.specs.Take.{Took, taken, takenBy, recordTaken, Taking}
+use Rattle.load_run.specs.Loaded.{Loaded, runLoaded, loadedOf, begunOf}
 use Rattle.load_tell.proofs.Counting.{count-record, after, told-one, told-all, stored-none, totals-same, count-countable, count-tellable}
 use Rattle.load_run.proofs.Kept.{ready-begun, ready-record}
 
@@ -71,13 +71,13 @@ run-end d n s t os rs = λ i. runSo s t false (append-nil os i) (append-nil rs i
 
 -- ---- what a run is told as, from the counters
 told-loaded : (x : Run) (reps : List ℕ) {n : Count} {l t : List ℕ} → told n l ≡ after (x .outcomes) reps (allReports x) → t ≡ x .store
-    → loaded (totalsBy n) t l ≡ loadedOf x reps
+    → runLoaded (totalsBy n) t l ≡ loadedOf x reps
 unfolding loadedOf
 told-loaded x reps {n} {l} {t} e f =
-    (λ i. loaded (totalsBy (e i .count)) (f i) (e i .list)) ∙ ap (λ (y : Totals). loaded y (x .store) (storedIn reps (allReports x))) (totals-same x)
+    (λ i. runLoaded (totalsBy (e i .count)) (f i) (e i .list)) ∙ ap (λ (y : Totals). runLoaded y (x .store) (storedIn reps (allReports x))) (totals-same x)
 
-pub answered : (t l : List ℕ) {r x : Totals} {y : Loaded} → r ≡ x → loaded x t l ≡ y → loaded r t l ≡ y
-answered t l e f = ap (λ (z : Totals). loaded z t l) e ∙ f
+pub answered : (t l : List ℕ) {r x : Totals} {y : Loaded} → r ≡ x → runLoaded x t l ≡ y → runLoaded r t l ≡ y
+answered t l e f = ap (λ (z : Totals). runLoaded z t l) e ∙ f
 
 -- ---- how far the load is
 pub record SoFar (d : Desk) (t₀ reps₀ stream : List ℕ) (p : Progress) (at : ℕ) (t reps : List ℕ) : Type 0 where
@@ -91,7 +91,7 @@ pub record SoFar (d : Desk) (t₀ reps₀ stream : List ℕ) (p : Progress) (at 
   pub records-few : length outcomes ≤ at
   pub reports-few : length reports ≤ at
   pub fitting : Fitting d t
-  pub ready : Ready d t (p .held)
+  pub ready : HeldReady d t (p .held)
   pub store-length : length t ≡ length t₀
   pub list-length : length reps ≡ length reps₀
 
@@ -169,11 +169,11 @@ module _ {d : Desk} {t₀ reps₀ stream : List ℕ} {p : Progress} {at : ℕ} {
 
     left-stopped : q .stopped ≡ stops (step .outcome)
     unfolding takenBy
-    left-stopped = ap (λ (x : Taken). x .done .stopped) f
+    left-stopped = ap (λ (x : Took). x .done .stopped) f
 
     left-held : q .held ≡ heldOf d (step .store) (step .state)
     unfolding takenBy
-    left-held = ap (λ (x : Taken). x .done .held) f
+    left-held = ap (λ (x : Took). x .done .held) f
 
     left-state : q .held .state ≡ step .state
     unfolding heldOf
@@ -181,7 +181,7 @@ module _ {d : Desk} {t₀ reps₀ stream : List ℕ} {p : Progress} {at : ℕ} {
 
     left-store : u ≡ step .store
     unfolding takenBy
-    left-store = ap (λ (x : Taken). x .store) f
+    left-store = ap (λ (x : Took). x .store) f
 
     outcomes-length : length outcomes' ≡ length (w .outcomes) + 1
     unfolding outcomes'
@@ -193,7 +193,7 @@ module _ {d : Desk} {t₀ reps₀ stream : List ℕ} {p : Progress} {at : ℕ} {
         let os = w .outcomes in
         let rs = w .reports in
         let cs = conditionsOf chars step in
-        ap (λ (x : Taken). told (x .done .count) (x .reports)) f
+        ap (λ (x : Took). told (x .done .count) (x .reports)) f
         ∙ (λ i. toldAll (told (tallied (w .count i) (step .outcome)) (w .list i)) cs)
         ∙ ap (λ (n : Count). toldAll (told n (storedIn reps₀ rs)) cs) (count-record os rs (step .outcome))
         ∙ told-all outcomes' reps₀ rs cs
@@ -252,15 +252,15 @@ module _ {d : Desk} {t₀ reps₀ stream : List ℕ} {p : Progress} {at : ℕ} {
             reports-few = reports-length;
             fitting = fitting-kept d t u y (w .fitting);
             ready =
-                subst (λ (x : Held). Ready d u x) (sym left-held)
-                (subst (λ (x : List ℕ). Ready d x (heldOf d (step .store) (step .state))) (sym left-store)
+                subst (λ (x : Held). HeldReady d u x) (sym left-held)
+                (subst (λ (x : List ℕ). HeldReady d x (heldOf d (step .store) (step .state))) (sym left-store)
                 (ready-record d (p .held) chars t (w .fitting) (w .ready)));
             store-length = long-store;
             list-length = v ∙ w .list-length;
           }
 
     -- the record stops it
-    pub loop-stop : q .stopped ≡ true → loaded (totalsBy (q .count)) u l ≡ loadedOf (loadOf d t₀ stream) reps₀
+    pub loop-stop : q .stopped ≡ true → runLoaded (totalsBy (q .count)) u l ≡ loadedOf (loadOf d t₀ stream) reps₀
     unfolding outcomes' reports' left allReports
     loop-stop z =
         let x = runSo (step .state) (step .store) true outcomes' reports' in
@@ -282,7 +282,7 @@ module _ {d : Desk} {t₀ reps₀ stream : List ℕ} {p : Progress} {at : ℕ} {
       (count-tellable (w .outcomes) (w .reports) (noEnddata ∷ []) (omega arith) (omega arith) (omega arith, tt))
 
   pub loop-end : length stream ≤ at → {n : Count} {l : List ℕ} → told n l ≡ toldOne (told (p .count) reps) noEnddata
-      → loaded (totalsBy n) t l ≡ loadedOf (loadOf d t₀ stream) reps₀
+      → runLoaded (totalsBy n) t l ≡ loadedOf (loadOf d t₀ stream) reps₀
   unfolding allReports
   loop-end h {n} {l} f =
       let os = w .outcomes in

@@ -14,12 +14,12 @@ pub record Loaded : Type 0 where
   pub store : List ℕ
   pub reports : List ℕ
 
-abbrev pub loaded : Totals → List ℕ → List ℕ → Loaded
-loaded r t reps = record { totals = r; store = t; reports = reps }
+abbrev pub runLoaded : Totals → List ℕ → List ℕ → Loaded
+runLoaded r t reps = record { totals = r; store = t; reports = reps }
 
 -- a run's totals, its store, and the lent list with its reports
 unfoldable pub loadedOf : Run → List ℕ → Loaded
-loadedOf x reps = loaded (totalsOf x) (x .store) (storedIn reps (allReports x))
+loadedOf x reps = runLoaded (totalsOf x) (x .store) (storedIn reps (allReports x))
 
 -- before the first record: nothing is open, and nothing was read
 unfoldable pub begunOf : Progress

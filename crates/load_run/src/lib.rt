@@ -8,7 +8,7 @@ ghost use Rattle.store_code.specs.Fits.{Fitting};
 ghost use Rattle.load.specs.Run.{loadOf};
 ghost use Rattle.load_tell.specs.Count.{mostRecords};
 ghost use Rattle.load_run.specs.Take.{taken, cleanedTaken, recordTaken, Taking};
-ghost use Rattle.load_run.specs.Loaded.{loaded, loadedOf, begunOf};
+ghost use Rattle.load_run.specs.Loaded.{runLoaded, loadedOf, begunOf};
 use load::Open;
 use load::State;
 use load::Totals;
@@ -119,7 +119,7 @@ fn begun() -> Progress
 pub fn run(desk: Desk, store: &mut [u8], stream: &[u8], reports: &mut [u32]) -> Totals
     requires { ⌜ Fitting desk (now store) ⌝ }
     requires { ⌜ length (now stream) ≤ mostRecords ⌝ }
-    ensures { λ r. ⌜ loaded r (now (store .exit)) (now (reports .exit)) ≡ loadedOf (loadOf desk (now (store .entry)) (now (stream .entry))) (now (reports .entry)) ⌝ }
+    ensures { λ r. ⌜ runLoaded r (now (store .exit)) (now (reports .exit)) ≡ loadedOf (loadOf desk (now (store .entry)) (now (stream .entry))) (now (reports .entry)) ⌝ }
 {
     let mut done = begun();
     let mut at = 0;

@@ -12,7 +12,8 @@ use Rattle.store_desk.specs.declared.Desk.{Desk}
 use Rattle.store_desk.specs.Size.{Within}
 use Rattle.text_fields.specs.declared.Field.{Field}
 use Rattle.text_fields.specs.declared.Keyword.{Keyword}
-use Rattle.text_fields.specs.Words.{Word, wordsOf, wordsFrom, headOf, tailOf, isMore, fieldAt, wordIn}
+use Rattle.text_fields.specs.Words.{Word, wordsOf, headOf, tailOf}
+use Rattle.text_fields.specs.Places.{wordsFrom, isMore, fieldAt, wordIn}
 use Rattle.text_fields.specs.Keywords.{keywordOf}
 use Rattle.text_fields.proofs.Words.{words-none, words-some}
 use Rattle.value.specs.declared.Paged.{Paged}
@@ -40,7 +41,7 @@ use Rattle.load.proofs.Read.{PageIn, page-in}
 use Rattle.load_items.specs.Take.{Taken, takenAs, takenOf}
 use Rattle.load_items.proofs.Done.{done-page, page-find}
 use Rattle.load_step.specs.declared.Held.{Held}
-use Rattle.load_step.specs.Held.{heldOf, Ready, Stepping, Res, stepping, steppedOf}
+use Rattle.load_step.specs.Held.{heldOf, HeldReady, Stepping, Res, stepping, steppedOf}
 use Rattle.load_step.proofs.Holding.{asked-as, held-stays}
 
 -- ---- PATCH
@@ -65,7 +66,7 @@ patch-as d {text} {columns} {place} {f} {w} l e g h =
     λ i. triplesAsk d ((h ∙ a) i) (b i)
 
 -- what the store does with them
-pub patched-as : (d : Desk) (t : List ℕ) {h : Held} → Ready d t h → Fitting d t → (ws : List Word) {p : ℕ} {y : Faults} {u : List ℕ}
+pub patched-as : (d : Desk) (t : List ℕ) {h : Held} → HeldReady d t h → Fitting d t → (ws : List Word) {p : ℕ} {y : Faults} {u : List ℕ}
     → Within 1 p (d .«patch_pages») → takenAs y u ≡ takenOf d (Page p) t (entriesIn Triple d ws)
     → stepping (record { held = h; outcome = Obeyed; faults = y }) u ≡ steppedOf d (acted d (h .state) t (items (page p) (triplesOf d ws)))
 unfolding acted steppedOf takenOf entriesIn

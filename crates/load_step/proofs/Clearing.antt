@@ -14,7 +14,8 @@ use Rattle.store_desk.specs.Name.{pagesOf, supported}
 use Rattle.store_desk.proofs.Name.{pages-le}
 use Rattle.text_fields.specs.declared.Field.{Field}
 use Rattle.text_fields.specs.declared.Item.{Item}
-use Rattle.text_fields.specs.Words.{Word, wordsFrom, headOf, tailOf, fieldAt, wordIn}
+use Rattle.text_fields.specs.Words.{Word, headOf, tailOf}
+use Rattle.text_fields.specs.Places.{wordsFrom, fieldAt, wordIn}
 use Rattle.text_fields.specs.Keywords.{itemOf}
 use Rattle.value.specs.declared.Paged.{Paged}
 use Rattle.value.specs.declared.Paged.the-variants.{Bad, Value as IsPage}

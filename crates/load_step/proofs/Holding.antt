@@ -24,7 +24,7 @@ use Rattle.load.specs.Ask.{Ask, rests, skips, name}
 use Rattle.load.specs.Step.{ended, noKey, nothingOpen, skipping, settleBy, settle, acted}
 use Rattle.load_step.specs.declared.Held.{Held}
 use Rattle.load_step.specs.declared.Stepped.{Stepped}
-use Rattle.load_step.specs.Held.{slotBy, slotOf, heldOf, IsKept, Settled, Ready, Res, stepping, steppedOf}
+use Rattle.load_step.specs.Held.{slotBy, slotOf, heldOf, IsKept, Settled, HeldReady, Res, stepping, steppedOf}
 use Rattle.load_step.specs.Parts.{kindIn, openName, IsOpen, resting, endedAs}
 
 -- ---- an answer with no faults
@@ -40,7 +40,7 @@ asked-as d s t e z = z ∙ ap (λ (x : Ask). steppedOf d (acted d s t x)) e
 
 -- one that leaves what is open as it was
 pub rests-as : (d : Desk) (t : List ℕ) (o : Outcome) {h : Held} {r : Stepped}
-    → Ready d t h → r ≡ endedAs h o → stepping r t ≡ steppedOf d (acted d (h .state) t (rests o))
+    → HeldReady d t h → r ≡ endedAs h o → stepping r t ≡ steppedOf d (acted d (h .state) t (rests o))
 unfolding acted
 rests-as d t o {h} g e = ended-as d t (h .state) o e (g .same)
 
@@ -64,7 +64,7 @@ open-kept d t key (Memory k) h e = e
 pub settled-found : (d : Desk) (t : List ℕ) {s : State} → Settled d t s → IsOpen (s .«open») → find d t (openName s) ≡ at (slotOf d t s)
 settled-found d t {s} g o = open-kept d t (s .key) (s .«open») o (g .kept)
 
-module _ (d : Desk) (t : List ℕ) {h : Held} (g : Ready d t h) (o : IsOpen (h .state .«open»)) where
+module _ (d : Desk) (t : List ℕ) {h : Held} (g : HeldReady d t h) (o : IsOpen (h .state .«open»)) where
   pub open-found : find d t (openName (h .state)) ≡ at (h .slot)
   unfolding heldOf
   open-found = settled-found d t (g .settled) o ∙ ap at (sym (ap (λ (x : Held). x .slot) (g .same)))
@@ -130,10 +130,10 @@ nothing-settled d t = record { fits = no-key-fits; kept = tt }
 pub skipping-settled : (d : Desk) (t : List ℕ) → Settled d t skipping
 skipping-settled d t = record { fits = no-key-fits; kept = tt }
 
-pub nothing-ready : (d : Desk) (t : List ℕ) {h : Held} → h ≡ resting Nothing → Ready d t h
+pub nothing-ready : (d : Desk) (t : List ℕ) {h : Held} → h ≡ resting Nothing → HeldReady d t h
 unfolding heldOf slotBy
 nothing-ready d t e =
-    subst (λ (h : Held). Ready d t h) (sym e) (record { same = refl; settled = nothing-settled d t })
+    subst (λ (h : Held). HeldReady d t h) (sym e) (record { same = refl; settled = nothing-settled d t })
 
 found-settled : (d : Desk) (t : List ℕ) (s : State) (k : Kind) → KeyFits (s .key) → s .«open» ≡ Memory k
     → (i : ℕ) → find d t (name k (s .key)) ≡ at i → Settled d t s

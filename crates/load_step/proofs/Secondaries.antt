@@ -41,7 +41,7 @@ use Rattle.load_items.specs.Take.{Taken, takenAs, takenOf}
 use Rattle.load_items.proofs.Done.{done-slot, slot-find}
 use Rattle.load_step.specs.declared.Held.{Held}
 use Rattle.load_step.specs.declared.Stepped.{Stepped}
-use Rattle.load_step.specs.Held.{heldOf, Ready, stepping, steppedOf}
+use Rattle.load_step.specs.Held.{heldOf, HeldReady, stepping, steppedOf}
 use Rattle.load_step.specs.Parts.{kindIn, openName, IsOpen, endedAs, ReadingFits}
 use Rattle.load_step.proofs.Holding.{ended-as, open-found, open-slot, held-stays}
 
@@ -95,7 +95,7 @@ pub obeyed-chan : (d : Desk) (n : Name) (ws : List Word) {e : Secondary} → e �
 obeyed-chan d n ws g = sym (ap (λ (y : Secondary). obeyedAsk d n y ws) g)
 
 -- ---- what the store does in the open memory's slot
-module _ (d : Desk) (t : List ℕ) {h : Held} (g : Ready d t h) (f : Fitting d t) (o : IsOpen (h .state .«open»)) where
+module _ (d : Desk) (t : List ℕ) {h : Held} (g : HeldReady d t h) (f : Fitting d t) (o : IsOpen (h .state .«open»)) where
   pub edits-as : {e : Edit} {u : List ℕ} {r : Stepped} → Editing d e → u ≡ editAt d t (h .slot) e → r ≡ endedAs h Obeyed
       → stepping r u ≡ steppedOf d (acted d (h .state) t (edits (openName (h .state)) e))
   unfolding acted

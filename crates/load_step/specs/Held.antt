@@ -48,7 +48,7 @@ pub record Settled (d : Desk) (t : List ℕ) (s : State) : Type 0 where
   pub fits : KeyFits (s .key)
   pub kept : IsKept d t (s .key) (s .«open»)
 
-pub record Ready (d : Desk) (t : List ℕ) (h : Held) : Type 0 where
+pub record HeldReady (d : Desk) (t : List ℕ) (h : Held) : Type 0 where
   pub same : h ≡ heldOf d t (h .state)
   pub settled : Settled d t (h .state)
 
@@ -57,7 +57,7 @@ pub record Stepping (d : Desk) (h : Held) (text columns t : List ℕ) : Type 0 w
   pub fitting : Fitting d t
   pub even : length columns ≡ length text
   pub short : length text ≤ longest
-  pub ready : Ready d t h
+  pub ready : HeldReady d t h
 
 -- ---- what it answers
 

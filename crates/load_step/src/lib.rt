@@ -4,13 +4,14 @@ ghost use mathlib.Core.Bool.{true};
 ghost use mathlib.Core.List.{[]};
 ghost use Prim.Native.Nat.{_≤_};
 ghost use Rattle.store_desk.specs.Name.{KeyFits, okName};
-ghost use Rattle.text_fields.specs.Words.{wordsFrom, wordsOf};
+ghost use Rattle.text_fields.specs.Words.{wordsOf};
+ghost use Rattle.text_fields.specs.Places.{wordsFrom};
 ghost use Rattle.store_code.specs.Fits.{Fitting};
 ghost use Rattle.load_items.specs.Done.{faultsHeld, mostFaults};
 ghost use Rattle.load.specs.Ask.{name, opens, primaryAsk, changeAsk, obeyedAsk, secondaryAsk, kindAsk, dimmersAsk, kindWipes, dimmerWipes, allWipes, allAsk, clearAsk, patchAsk, identOutcome, keywordAsk};
 ghost use Rattle.load.specs.Step.{ended as endedStep, nothingOpen, settle, wiped, acted, stepOf};
 ghost use Rattle.load_naming.specs.Line.{Line};
-ghost use Rattle.load_step.specs.Held.{heldOf, Ready, Stepping, stepping, steppedOf};
+ghost use Rattle.load_step.specs.Held.{heldOf, HeldReady, Stepping, stepping, steppedOf};
 ghost use Rattle.load_step.specs.Parts.{openName, IsOpen, resting as restingAs, endedAs, ReadingFits};
 use load::Named;
 use load::Open;
@@ -146,7 +147,7 @@ fn primary<'a>(
 // UP, DOWN, FOLLOWON, LINK.
 fn changed(desk: Desk, held: Held, change: Reading, store: &mut [u8]) -> Stepped
     requires { ⌜ Fitting desk (now store) ⌝ }
-    requires { ⌜ Ready desk (now store) held ⌝ }
+    requires { ⌜ HeldReady desk (now store) held ⌝ }
     requires { ⌜ IsOpen (held .state .«open») ⌝ }
     requires { ⌜ ReadingFits desk change ⌝ }
     ensures { λ r. ⌜ stepping r (now (store .exit)) ≡ steppedOf desk (acted desk (held .state) (now (store .entry)) (changeAsk (openName (held .state)) change)) ⌝ }
@@ -170,7 +171,7 @@ fn chan<'a>(
 ) -> Stepped
     requires { ⌜ Fitting desk (now store) ⌝ }
     requires { ⌜ Line (now text) (now columns) at ⌝ }
-    requires { ⌜ Ready desk (now store) held ⌝ }
+    requires { ⌜ HeldReady desk (now store) held ⌝ }
     requires { ⌜ IsOpen (held .state .«open») ⌝ }
     ensures { λ r. ⌜ stepping r (now (store .exit)) ≡ steppedOf desk (acted desk (held .state) (now (store .entry)) (obeyedAsk desk (openName (held .state)) Secondary.Chan (wordsFrom (now (text .entry)) (now (columns .entry)) at))) ⌝ }
 {
@@ -202,7 +203,7 @@ fn obeyed<'a>(
 ) -> Stepped
     requires { ⌜ Fitting desk (now store) ⌝ }
     requires { ⌜ Line (now text) (now columns) at ⌝ }
-    requires { ⌜ Ready desk (now store) held ⌝ }
+    requires { ⌜ HeldReady desk (now store) held ⌝ }
     requires { ⌜ IsOpen (held .state .«open») ⌝ }
     ensures { λ r. ⌜ stepping r (now (store .exit)) ≡ steppedOf desk (acted desk (held .state) (now (store .entry)) (obeyedAsk desk (openName (held .state)) e (wordsFrom (now (text .entry)) (now (columns .entry)) at))) ⌝ }
 {
@@ -247,7 +248,7 @@ fn secondary<'a>(
 ) -> Stepped
     requires { ⌜ Fitting desk (now store) ⌝ }
     requires { ⌜ Line (now text) (now columns) at ⌝ }
-    requires { ⌜ Ready desk (now store) held ⌝ }
+    requires { ⌜ HeldReady desk (now store) held ⌝ }
     ensures { λ r. ⌜ stepping r (now (store .exit)) ≡ steppedOf desk (acted desk (held .state) (now (store .entry)) (secondaryAsk desk (held .state .key) (held .state .«open») e (wordsFrom (now (text .entry)) (now (columns .entry)) at))) ⌝ }
 {
     let state = held.state;
@@ -303,7 +304,7 @@ fn clear_kind<'a>(
 ) -> Stepped
     requires { ⌜ Fitting desk (now store) ⌝ }
     requires { ⌜ Line (now text) (now columns) at ⌝ }
-    requires { ⌜ Ready desk (now store) held ⌝ }
+    requires { ⌜ HeldReady desk (now store) held ⌝ }
     ensures { λ r. ⌜ stepping r (now (store .exit)) ≡ steppedOf desk (acted desk (held .state) (now (store .entry)) (kindAsk desk kind (wordsFrom (now (text .entry)) (now (columns .entry)) at))) ⌝ }
 {
     if store_desk::supports(desk, kind) {
@@ -329,7 +330,7 @@ fn clear_patch<'a>(
 ) -> Stepped
     requires { ⌜ Fitting desk (now store) ⌝ }
     requires { ⌜ Line (now text) (now columns) at ⌝ }
-    requires { ⌜ Ready desk (now store) held ⌝ }
+    requires { ⌜ HeldReady desk (now store) held ⌝ }
     ensures { λ r. ⌜ stepping r (now (store .exit)) ≡ steppedOf desk (acted desk (held .state) (now (store .entry)) (dimmersAsk desk (wordsFrom (now (text .entry)) (now (columns .entry)) at))) ⌝ }
 {
     match load_naming::page_at(EVERY_PAGE, desk.patch_pages, text, columns, at) {
@@ -381,7 +382,7 @@ fn clear_all<'a>(
 ) -> Stepped
     requires { ⌜ Fitting desk (now store) ⌝ }
     requires { ⌜ Line (now text) (now columns) at ⌝ }
-    requires { ⌜ Ready desk (now store) held ⌝ }
+    requires { ⌜ HeldReady desk (now store) held ⌝ }
     ensures { λ r. ⌜ stepping r (now (store .exit)) ≡ steppedOf desk (acted desk (held .state) (now (store .entry)) (allAsk desk (wordsFrom (now (text .entry)) (now (columns .entry)) at))) ⌝ }
 {
     match load_naming::page_at(EVERY_PAGE, load_naming::most_pages(desk), text, columns, at) {
@@ -404,7 +405,7 @@ fn clear<'a>(
 ) -> Stepped
     requires { ⌜ Fitting desk (now store) ⌝ }
     requires { ⌜ Line (now text) (now columns) at ⌝ }
-    requires { ⌜ Ready desk (now store) held ⌝ }
+    requires { ⌜ HeldReady desk (now store) held ⌝ }
     ensures { λ r. ⌜ stepping r (now (store .exit)) ≡ steppedOf desk (acted desk (held .state) (now (store .entry)) (clearAsk desk (wordsFrom (now (text .entry)) (now (columns .entry)) at))) ⌝ }
 {
     let f = text_fields::field_at(text, columns, at);
@@ -432,7 +433,7 @@ fn patch<'a>(
 ) -> Stepped
     requires { ⌜ Fitting desk (now store) ⌝ }
     requires { ⌜ Line (now text) (now columns) at ⌝ }
-    requires { ⌜ Ready desk (now store) held ⌝ }
+    requires { ⌜ HeldReady desk (now store) held ⌝ }
     ensures { λ r. ⌜ stepping r (now (store .exit)) ≡ steppedOf desk (acted desk (held .state) (now (store .entry)) (patchAsk desk (wordsFrom (now (text .entry)) (now (columns .entry)) at))) ⌝ }
 {
     let f = text_fields::field_at(text, columns, at);
@@ -487,7 +488,7 @@ fn obey<'a>(
 ) -> Stepped
     requires { ⌜ Fitting desk (now store) ⌝ }
     requires { ⌜ Line (now text) (now columns) at ⌝ }
-    requires { ⌜ Ready desk (now store) held ⌝ }
+    requires { ⌜ HeldReady desk (now store) held ⌝ }
     ensures { λ r. ⌜ stepping r (now (store .exit)) ≡ steppedOf desk (acted desk (held .state) (now (store .entry)) (keywordAsk desk (held .state) k (wordsFrom (now (text .entry)) (now (columns .entry)) at))) ⌝ }
 {
     match k {

@@ -75,8 +75,8 @@ counted n c =
       warning = cond (not (isError c)) c (n .warning);
     }
 
-abbrev pub wordOf : ℕ → ℕ → ℕ
-wordOf number condition = reportWord (record { number = number; condition = condition })
+abbrev pub reportWordOf : ℕ → ℕ → ℕ
+reportWordOf number condition = reportWord (record { number = number; condition = condition })
 
 -- the counters and the lent list
 pub record Told : Type 0 where
@@ -88,7 +88,7 @@ told n reps = record { count = n; list = reps }
 
 -- a full list stores no more, but the count goes on: past its end `set` changes nothing
 unfoldable pub toldOne : Told → ℕ → Told
-toldOne x c = told (counted (x .count) c) (set (x .list) (x .count .reports) (wordOf (x .count .records) c))
+toldOne x c = told (counted (x .count) c) (set (x .list) (x .count .reports) (reportWordOf (x .count .records) c))
 
 unfoldable pub toldAll : Told → List ℕ → Told
 toldAll x [] = x

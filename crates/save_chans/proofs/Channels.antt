@@ -21,7 +21,7 @@ use Rattle.value_written.proofs.Texts.{integer-ten, level-length}
 use Rattle.save_lines.specs.Line.{crlf, joined, Lit, litFrom, pairText, pairsText, mostPairs, chanLinesIn, chanLines}
 use Rattle.save_lines.specs.Part.{atLevelText}
 use Rattle.save_lines.proofs.Lengths.{pair-length}
-use Rattle.save_chans.specs.Chan.{lit, leadText, channelText, pairsWith, pairsAfter, endText, channelsText, isDark}
+use Rattle.save_chans.specs.Chan.{lit, leadText, channelText, pairsWith, pairsAfter, endOfLine, channelsText, isDark}
 
 -- ---- the parts of a channel's text
 pub pair-parts : (channel level : ℕ) → markedText (bytes " ") channel ++ atLevelText level ≡ pairText (lit channel level)
@@ -54,12 +54,12 @@ channel-some pairs channel level e = sym (cond-false (eqb level 0) [] (leadText 
 pub lit-level : {level : ℕ} → 0 < level → level ≡ 0 → ⊥
 lit-level h e = omega arith
 
-pub end-none : (pairs : ℕ) → pairs ≡ 0 → endText pairs ≡ []
-unfolding endText
+pub end-none : (pairs : ℕ) → pairs ≡ 0 → endOfLine pairs ≡ []
+unfolding endOfLine
 end-none pairs e = cond-true (eqb pairs 0) [] crlf (eq-eqb pairs 0 e)
 
-pub end-some : (pairs : ℕ) → (pairs ≡ 0 → ⊥) → crlf ≡ endText pairs
-unfolding endText
+pub end-some : (pairs : ℕ) → (pairs ≡ 0 → ⊥) → crlf ≡ endOfLine pairs
+unfolding endOfLine
 end-some pairs e = sym (cond-false (eqb pairs 0) [] crlf (ne-eqb pairs 0 e))
 
 -- ---- the pairs of a record
@@ -85,12 +85,12 @@ with-most pairs h =
 
 -- ---- pair by pair, in a record that has so many
 chanRest : ℕ → List Lit → List ℕ
-chanRest pairs [] = endText pairs
+chanRest pairs [] = endOfLine pairs
 chanRest pairs (p ∷ ps) = leadText pairs ++ (pairText p ++ chanRest (pairsWith pairs) ps)
 
 -- a record that has some pairs takes the others that it may, and ends
 rest-record : (k pairs : ℕ) (ps : List Lit) → suc pairs + k ≡ 8 → chanRest (suc pairs) ps ≡ pairsText (take k ps) ++ (crlf ++ chanRest 0 (drop k ps))
-unfolding chanRest pairsText endText leadText
+unfolding chanRest pairsText endOfLine leadText
 rest-record zero pairs [] e = sym (end-some (suc pairs) (λ q. omega arith))
 rest-record (suc k) pairs [] e = sym (end-some (suc pairs) (λ q. omega arith))
 rest-record zero pairs (p ∷ ps) e =
@@ -108,7 +108,7 @@ rest-record (suc k) pairs (p ∷ ps) e =
     ∙ sym (append-assoc (pairText p) (pairsText (take k ps)) (crlf ++ chanRest 0 (drop k ps)))
 
 rest-lines : (n : ℕ) (ps : List Lit) → length ps ≤ n → joined (chanLinesIn n ps) ≡ chanRest 0 ps
-unfolding chanRest chanLinesIn joined pairsText endText leadText
+unfolding chanRest chanLinesIn joined pairsText endOfLine leadText
 rest-lines zero [] h = refl
 rest-lines zero (p ∷ ps) h = absurd (omega arith)
 rest-lines (suc n) [] h = refl
@@ -172,7 +172,7 @@ channels-turn pairs channel i vs {v} h e =
     ∙ ap (λ (z : ℕ). channelText pairs channel z ++ channelsText (pairsAfter pairs z) (channel + 1) (drop (suc i) vs)) (sym e)
     ∙ ap (λ (z : ℕ). channelText pairs channel v ++ channelsText (pairsAfter pairs v) (channel + 1) (drop z vs)) (sym (add-one i))
 
-pub channels-end : (pairs channel i : ℕ) (vs : List ℕ) → length vs ≤ i → channelsText pairs channel (drop i vs) ≡ endText pairs
+pub channels-end : (pairs channel i : ℕ) (vs : List ℕ) → length vs ≤ i → channelsText pairs channel (drop i vs) ≡ endOfLine pairs
 unfolding channelsText
 channels-end pairs channel i vs h = ap (channelsText pairs channel) (drop-of-length-le vs h)
 
@@ -213,11 +213,11 @@ channel-long pairs channel level h =
     let c : length (levelText level) ≡ 3 = level-length level in
     omega arith)
 
-pub end-long : (pairs : ℕ) → length (endText pairs) ≤ 2
+pub end-long : (pairs : ℕ) → length (endOfLine pairs) ≤ 2
 end-long pairs =
     by-eq pairs 0
-    (λ e. let l : length (endText pairs) ≡ 0 = ap length (end-none pairs e) in omega arith)
-    (λ e. let l : 2 ≡ length (endText pairs) = ap length (end-some pairs e) in omega arith)
+    (λ e. let l : length (endOfLine pairs) ≡ 0 = ap length (end-none pairs e) in omega arith)
+    (λ e. let l : 2 ≡ length (endOfLine pairs) = ap length (end-some pairs e) in omega arith)
 
 pub channels-long : (pairs channel : ℕ) (vs : List ℕ) → channel + length vs ≤ 4294967296 → length (channelsText pairs channel vs) ≤ 2 + 21 * length vs
 unfolding channelsText

@@ -12,7 +12,7 @@ use Rattle.text_room.specs.Wrote.{wrote, wroteAt}
 use Rattle.save_lines.specs.Line.{joined, litFrom, chanLines}
 use Rattle.text_room.specs.Room.{Room}
 use Rattle.text_room.proofs.Chain.{Writing, writing-start, writing-room, writing-more, writing-end}
-use Rattle.save_chans.specs.Chan.{channelText, pairsWith, endText, channelsText, isDark}
+use Rattle.save_chans.specs.Chan.{channelText, pairsWith, endOfLine, channelsText, isDark}
 use Rattle.save_chans.proofs.Channels.{channels-are, channels-dark, channels-turn, channels-end, channels-long, after-some, with-most, total-turn}
 use Rattle.save_chans.proofs.Dark.{dark-of}
 
@@ -70,10 +70,10 @@ module _ {t : List ℕ} {a : ℕ} {vs o : List ℕ} {next pairs i : ℕ} (p : Pu
         writing = subst (λ (y : List ℕ). Writing t a (chansText vs) o next y) (dark-text vs h e pairs z) (p .writing);
       }
 
-  pub putting-last : length vs ≤ i → Room o next (endText pairs)
-  putting-last h = writing-room [] (channels-end pairs (i + 1) i vs h ∙ sym (append-nil (endText pairs))) (p .writing)
+  pub putting-last : length vs ≤ i → Room o next (endOfLine pairs)
+  putting-last h = writing-room [] (channels-end pairs (i + 1) i vs h ∙ sym (append-nil (endOfLine pairs))) (p .writing)
 
-  pub putting-end : length vs ≤ i → {s : ℕ} {z : List ℕ} → wrote s z ≡ wroteAt o next (endText pairs) → wrote s z ≡ wroteAt t a (chansText vs)
+  pub putting-end : length vs ≤ i → {s : ℕ} {z : List ℕ} → wrote s z ≡ wroteAt o next (endOfLine pairs) → wrote s z ≡ wroteAt t a (chansText vs)
   putting-end h f = writing-end (channels-end pairs (i + 1) i vs h) (p .writing) f
 
 -- ---- counting
@@ -126,11 +126,11 @@ module _ {vs : List ℕ} {total pairs i : ℕ} (p : Adding vs total pairs i) whe
         sum = subst (λ (y : List ℕ). total + length y ≡ length (chansText vs)) (dark-text vs h e pairs z) (p .sum);
       }
 
-  pub adding-end : length vs ≤ i → {k : ℕ} → k ≡ length (endText pairs) → total + k ≡ length (chansText vs)
+  pub adding-end : length vs ≤ i → {k : ℕ} → k ≡ length (endOfLine pairs) → total + k ≡ length (chansText vs)
   adding-end h e =
-      let l : length (channelsText pairs (i + 1) (drop i vs)) ≡ length (endText pairs) = ap length (channels-end pairs (i + 1) i vs h) in
+      let l : length (channelsText pairs (i + 1) (drop i vs)) ≡ length (endOfLine pairs) = ap length (channels-end pairs (i + 1) i vs h) in
       let s = p .sum in
       omega arith
 
-  pub adding-end-small : length vs ≤ 1024 → length vs ≤ i → {k : ℕ} → k ≡ length (endText pairs) → total + k ≤ 21506
+  pub adding-end-small : length vs ≤ 1024 → length vs ≤ i → {k : ℕ} → k ≡ length (endOfLine pairs) → total + k ≤ 21506
   adding-end-small l h e = let w = adding-end h e in let b = chans-long vs l in omega arith

@@ -28,12 +28,12 @@ unfoldable pub pairsAfter : ℕ → ℕ → ℕ
 pairsAfter pairs level = cond (eqb level 0) pairs (pairsWith pairs)
 
 -- the record ends, if one is begun
-unfoldable pub endText : ℕ → List ℕ
-endText pairs = cond (eqb pairs 0) [] crlf
+unfoldable pub endOfLine : ℕ → List ℕ
+endOfLine pairs = cond (eqb pairs 0) [] crlf
 
 -- the levels of the channels from one on, in a record that has so many pairs
 unfoldable pub channelsText : ℕ → ℕ → List ℕ → List ℕ
-channelsText pairs channel [] = endText pairs
+channelsText pairs channel [] = endOfLine pairs
 channelsText pairs channel (v ∷ vs) =
     let r = channelsText (pairsAfter pairs v) (channel + 1) vs in
     channelText pairs channel v ++ r

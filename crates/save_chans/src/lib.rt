@@ -6,7 +6,7 @@ ghost use Rattle.cells.specs.Scan.{span};
 ghost use Rattle.text_room.specs.Wrote.{wrote, wroteAt};
 ghost use Rattle.save_lines.specs.Line.{joined, litFrom, pairText, chanLines};
 ghost use Rattle.text_room.specs.Room.{Room};
-ghost use Rattle.save_chans.specs.Chan.{lit, leadText, channelText, pairsWith, endText, isDark, weighed};
+ghost use Rattle.save_chans.specs.Chan.{lit, leadText, channelText, pairsWith, endOfLine, isDark, weighed};
 
 // Up to so many pairs stand in a CHAN record.
 const MOST_PAIRS: usize = 8;
@@ -139,8 +139,8 @@ fn pairs_after(pairs: usize) -> usize
 }
 
 fn put_last(out: &mut [u8], at: usize, pairs: usize) -> usize
-    requires { ⌜ Room (now out) at (endText pairs) ⌝ }
-    ensures { λ r. ⌜ wrote r (now (out .exit)) ≡ wroteAt (now (out .entry)) at (endText pairs) ⌝ }
+    requires { ⌜ Room (now out) at (endOfLine pairs) ⌝ }
+    ensures { λ r. ⌜ wrote r (now (out .exit)) ≡ wroteAt (now (out .entry)) at (endOfLine pairs) ⌝ }
 {
     if pairs == 0 {
         return at;
@@ -194,7 +194,7 @@ fn channel_length(pairs: usize, channel: u32, level: u8) -> usize
 }
 
 fn last_length(pairs: usize) -> usize
-    ensures { λ r. ⌜ r ≡ length (endText pairs) ⌝ }
+    ensures { λ r. ⌜ r ≡ length (endOfLine pairs) ⌝ }
 {
     if pairs == 0 {
         return 0;

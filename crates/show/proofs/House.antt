@@ -16,7 +16,7 @@ use Rattle.save.proofs.House.{house-short}
 use Rattle.show.specs.declared.Admission.{Admission}
 use Rattle.show.specs.declared.Written.{Written}
 use Rattle.show.specs.declared.Written.the-variants.{Away}
-use Rattle.show.specs.Calls.{mostBytes, admissionOf, WriteCall, written, putCall, writeBy, writeCall}
+use Rattle.show.specs.Calls.{mostBytes, admissionOf, WriteCall, writtenAs, putCall, writeBy, writeCall}
 
 abbrev NotR5 : WriteCall → Type 0
 NotR5 x = x .answer ≡ Away R5 → ⊥
@@ -48,5 +48,5 @@ write-short s out =
     By : Admission → Type 0
     By a = NotR5 (writeBy a house s out)
 
-pub house-no-r5 : (s out : List ℕ) {a : Written} {o : List ℕ} → written a o ≡ writeCall house s out → a ≡ Away R5 → ⊥
+pub house-no-r5 : (s out : List ℕ) {a : Written} {o : List ℕ} → writtenAs a o ≡ writeCall house s out → a ≡ Away R5 → ⊥
 house-no-r5 s out e f = write-short s out (ap (λ (x : WriteCall). x .answer) (sym e) ∙ f)

@@ -28,7 +28,7 @@ use Rattle.store_code.proofs.Laws.{slot-small, slot-long}
 use Rattle.store_code.specs.Answer.{LevelsOf}
 use Rattle.load.specs.declared.Totals.{Totals}
 use Rattle.load.specs.Run.{loadOf}
-use Rattle.load_run.specs.Loaded.{Loaded as Ran, loadedOf, loaded as ran}
+use Rattle.load_run.specs.Loaded.{Loaded as Ran, loadedOf, runLoaded as ran}
 use Rattle.text_room.specs.Wrote.{Wrote, wrote, wroteAt}
 use Rattle.store_desk.specs.declared.Refusal.{Refusal}
 use Rattle.store_desk.specs.declared.Refusal.the-variants.{R1, R2, R3, R4, R5, R6}
@@ -37,8 +37,8 @@ use Rattle.show.specs.declared.Admission.the-variants.{Admitted, Away}
 use Rattle.show.specs.declared.Loaded.the-variants.{Away as LoadAway, Done as LoadDone}
 use Rattle.show.specs.declared.Written.the-variants.{Away as WriteAway, Done as WriteDone}
 use Rattle.show.specs.declared.Emptied.the-variants.{Away as EmptyAway, Done as EmptyDone}
-use Rattle.show.specs.Calls.{mostBytes, admissionOf, loaded, loadBy, loadCall, written, putCall, writeBy, writeCall, emptied, emptyCall}
-use Rattle.show.specs.Calls.{isKept, notKept, Look, look, cue, cueKey, lookAt, lookBy, lookCall, LookedUp}
+use Rattle.show.specs.Calls.{mostBytes, admissionOf, loadedAs, loadBy, loadCall, writtenAs, putCall, writeBy, writeCall, emptiedAs, emptyCall}
+use Rattle.show.specs.Calls.{keptWord, notKeptWord, Look, look, cueName, cueKey, lookAt, lookBy, lookCall, LookedUp}
 use Rattle.show.specs.Calls.{placedAt, findBy, findCall}
 use Rattle.show.specs.declared.Placed.the-variants.{NotKept, At as PlacedAt}
 use denote.Ref.{RefT, ptr, now}
@@ -96,7 +96,7 @@ module _ (d : Desk) (s : List ℕ) where
 -- ---- load
 
 module _ (d : Desk) (s reps stream : List ℕ) where
-  pub load-long : mostBytes < length stream → loaded (LoadAway R1) s reps ≡ loadCall d s reps stream
+  pub load-long : mostBytes < length stream → loadedAs (LoadAway R1) s reps ≡ loadCall d s reps stream
   unfolding loadCall
   load-long h = let f : ltb mostBytes (length stream) ≡ true = lt-ltb _ _ h in rw f
 
@@ -107,35 +107,35 @@ module _ (d : Desk) (s reps stream : List ℕ) where
       rw f (ap (λ (b : Admission). loadBy b d s reps stream) e)
 
   pub load-done : {r : Totals} {t q : List ℕ} → Admitted ≡ admissionOf d s → length stream ≤ mostBytes
-      → ran r t q ≡ loadedOf (loadOf d s stream) reps → loaded (LoadDone r) t q ≡ loadCall d s reps stream
+      → ran r t q ≡ loadedOf (loadOf d s stream) reps → loadedAs (LoadDone r) t q ≡ loadCall d s reps stream
   unfolding loadBy loadedOf
-  load-done e h g = ap (λ (l : Ran). loaded (LoadDone (l .totals)) (l .store) (l .reports)) g ∙ load-by Admitted e h
+  load-done e h g = ap (λ (l : Ran). loadedAs (LoadDone (l .totals)) (l .store) (l .reports)) g ∙ load-by Admitted e h
 
 -- ---- write
 
 module _ (stream out : List ℕ) where
-  pub put-long : {n : ℕ} → n ≡ length stream → mostBytes < n → written (WriteAway R5) out ≡ putCall stream out
+  pub put-long : {n : ℕ} → n ≡ length stream → mostBytes < n → writtenAs (WriteAway R5) out ≡ putCall stream out
   unfolding putCall
   put-long {n} e h =
       let f : ltb mostBytes (length stream) ≡ true = lt-ltb _ _ (subst (λ (k : ℕ). mostBytes < k) e h) in
       rw f
 
-  pub put-short : {n : ℕ} → n ≡ length stream → n ≤ mostBytes → length out < n → written (WriteAway (R6 n)) out ≡ putCall stream out
+  pub put-short : {n : ℕ} → n ≡ length stream → n ≤ mostBytes → length out < n → writtenAs (WriteAway (R6 n)) out ≡ putCall stream out
   unfolding putCall
   put-short {n} e h g =
       let f : ltb mostBytes (length stream) ≡ false = le-ltb _ _ (subst (λ (k : ℕ). k ≤ mostBytes) e h) in
       let k : ltb (length out) (length stream) ≡ true = lt-ltb _ _ (subst (λ (k : ℕ). length out < k) e g) in
-      rw (f, k) (ap (λ (k : ℕ). written (WriteAway (R6 k)) out) e)
+      rw (f, k) (ap (λ (k : ℕ). writtenAs (WriteAway (R6 k)) out) e)
 
   pub put-done : {n r : ℕ} {o : List ℕ} → n ≡ length stream → n ≤ mostBytes → n ≤ length out
-      → wrote r o ≡ wroteAt out 0 stream → written (WriteDone r) o ≡ putCall stream out
+      → wrote r o ≡ wroteAt out 0 stream → writtenAs (WriteDone r) o ≡ putCall stream out
   unfolding putCall wroteAt
   put-done {n} {r} {o} e h g w =
       let f : ltb mostBytes (length stream) ≡ false = le-ltb _ _ (subst (λ (k : ℕ). k ≤ mostBytes) e h) in
       let k : ltb (length out) (length stream) ≡ false = le-ltb _ _ (subst (λ (k : ℕ). k ≤ length out) e g) in
       rw (f, k)
-      (ap (λ (x : Wrote). written (WriteDone (x .next)) (x .out)) w
-      ∙ ap (λ (k : ℕ). written (WriteDone k) (put out 0 stream)) (zero-add (length stream)))
+      (ap (λ (x : Wrote). writtenAs (WriteDone (x .next)) (x .out)) w
+      ∙ ap (λ (k : ℕ). writtenAs (WriteDone k) (put out 0 stream)) (zero-add (length stream)))
 
 pub write-by : (d : Desk) (s out : List ℕ) (a : Admission) → a ≡ admissionOf d s → writeBy a d s out ≡ writeCall d s out
 unfolding writeCall
@@ -144,23 +144,23 @@ write-by d s out a e = ap (λ (b : Admission). writeBy b d s out) e
 -- ---- empty
 
 module _ (d : Desk) (s : List ℕ) where
-  pub empty-range : {b : Bool} → b ≡ inRangeOf d → not b ≡ true → emptied (EmptyAway R2) s ≡ emptyCall d s
+  pub empty-range : {b : Bool} → b ≡ inRangeOf d → not b ≡ true → emptiedAs (EmptyAway R2) s ≡ emptyCall d s
   unfolding emptyCall
   empty-range {b} e t = let f : inRangeOf d ≡ false = sym e ∙ not-true b t in rw f
 
-  pub empty-short : {n : ℕ} → InRange d → n ≡ storeLength d → length s < n → emptied (EmptyAway R3) s ≡ emptyCall d s
+  pub empty-short : {n : ℕ} → InRange d → n ≡ storeLength d → length s < n → emptiedAs (EmptyAway R3) s ≡ emptyCall d s
   unfolding emptyCall
   empty-short {n} h e l =
       let a : inRangeOf d ≡ true = in-range-true d h in
       let f : leb (storeLength d) (length s) ≡ false = lt-leb _ _ (subst (λ (k : ℕ). length s < k) e l) in
       rw (a, f)
 
-  pub empty-done : {t : List ℕ} → Fitting d s → t ≡ emptiedStore d s → emptied EmptyDone t ≡ emptyCall d s
+  pub empty-done : {t : List ℕ} → Fitting d s → t ≡ emptiedStore d s → emptiedAs EmptyDone t ≡ emptyCall d s
   unfolding emptyCall
   empty-done {t} h e =
       let a : inRangeOf d ≡ true = in-range-true d (h .range) in
       let f : leb (storeLength d) (length s) ≡ true = le-leb _ _ (h .long) in
-      rw (a, f) (ap (λ (x : List ℕ). emptied EmptyDone x) e)
+      rw (a, f) (ap (λ (x : List ℕ). emptiedAs EmptyDone x) e)
 
 -- ---- look-up
 
@@ -198,13 +198,13 @@ pub placed-none : (d : Desk) {f : Found} → f ≡ nowhere → NotKept ≡ place
 unfolding placedAt
 placed-none d e = sym (ap (placedAt d) e)
 
-look-kept : (d : Desk) (s : List ℕ) (key : Key) (i : ℕ) → find d s (cue key) ≡ at i
-    → look isKept (i * slotLength d + headLength) (levelsAt d s i) ≡ lookAt d s (find d s (cue key))
+look-kept : (d : Desk) (s : List ℕ) (key : Key) (i : ℕ) → find d s (cueName key) ≡ at i
+    → look keptWord (i * slotLength d + headLength) (levelsAt d s i) ≡ lookAt d s (find d s (cueName key))
 unfolding lookAt
 look-kept d s key i e = sym (ap (λ (a : Found). lookAt d s a) e)
 
-pub looked-at : {s r : RefT (List ℕ)} (d : Desk) (key : Key) (i : ℕ) → find d (now s) (cue key) ≡ at i → LevelsOf d s i r
-    → LookedUp s r isKept (lookAt d (now s) (find d (now s) (cue key)))
+pub looked-at : {s r : RefT (List ℕ)} (d : Desk) (key : Key) (i : ℕ) → find d (now s) (cueName key) ≡ at i → LevelsOf d s i r
+    → LookedUp s r keptWord (lookAt d (now s) (find d (now s) (cueName key)))
 looked-at {s} d key i e l =
     let q = look-kept d (now s) key i e in
     record {
@@ -214,7 +214,7 @@ looked-at {s} d key i e l =
       offset = l .offset ∙ ap (λ (y : Look). ptr s .1 + y .place) q;
     }
 
-pub look-none : (d : Desk) (s : List ℕ) (key : Key) → find d s (cue key) ≡ nowhere → look notKept 0 [] ≡ lookAt d s (find d s (cue key))
+pub look-none : (d : Desk) (s : List ℕ) (key : Key) → find d s (cueName key) ≡ nowhere → look notKeptWord 0 [] ≡ lookAt d s (find d s (cueName key))
 unfolding lookAt
 look-none d s key e = sym (ap (λ (a : Found). lookAt d s a) e)
 

@@ -16,20 +16,20 @@ use Rattle.show.specs.declared.Admission.the-variants.{Admitted, Away}
 use Rattle.show.specs.declared.Loaded.{Loaded}
 use Rattle.show.specs.declared.Written.{Written}
 use Rattle.show.specs.declared.Emptied.{Emptied}
-use Rattle.show.specs.Calls.{mostBytes, admissionOf, LoadCall, loaded, loadBy, loadCall, WriteCall, written, putCall, writeBy, writeCall}
-use Rattle.show.specs.Calls.{EmptyCall, emptied, emptyCall, Look, LookedUp, loadNumber, writeNumber, emptyNumber}
+use Rattle.show.specs.Calls.{mostBytes, admissionOf, LoadCall, loadedAs, loadBy, loadCall, WriteCall, writtenAs, putCall, writeBy, writeCall}
+use Rattle.show.specs.Calls.{EmptyCall, emptiedAs, emptyCall, Look, LookedUp, loadNumber, writeNumber, emptyNumber}
 
 -- ---- one answer
 
-pub one-load : {x : LoadCall} {a b : Loaded} {s t p q : List ℕ} → loaded a s p ≡ x → loaded b t q ≡ x → (a ≡ b) × (s ≡ t) × (p ≡ q)
+pub one-load : {x : LoadCall} {a b : Loaded} {s t p q : List ℕ} → loadedAs a s p ≡ x → loadedAs b t q ≡ x → (a ≡ b) × (s ≡ t) × (p ≡ q)
 one-load e f =
     let g = e ∙ sym f in
     (ap (λ (y : LoadCall). y .answer) g, ap (λ (y : LoadCall). y .store) g, ap (λ (y : LoadCall). y .reports) g)
 
-pub one-write : {x : WriteCall} {a b : Written} {o p : List ℕ} → written a o ≡ x → written b p ≡ x → (a ≡ b) × (o ≡ p)
+pub one-write : {x : WriteCall} {a b : Written} {o p : List ℕ} → writtenAs a o ≡ x → writtenAs b p ≡ x → (a ≡ b) × (o ≡ p)
 one-write e f = let g = e ∙ sym f in (ap (λ (y : WriteCall). y .answer) g, ap (λ (y : WriteCall). y .out) g)
 
-pub one-empty : {x : EmptyCall} {a b : Emptied} {s t : List ℕ} → emptied a s ≡ x → emptied b t ≡ x → (a ≡ b) × (s ≡ t)
+pub one-empty : {x : EmptyCall} {a b : Emptied} {s t : List ℕ} → emptiedAs a s ≡ x → emptiedAs b t ≡ x → (a ≡ b) × (s ≡ t)
 one-empty e f = let g = e ∙ sym f in (ap (λ (y : EmptyCall). y .answer) g, ap (λ (y : EmptyCall). y .store) g)
 
 -- of a look-up: the word, the bytes, and where they lie
@@ -56,7 +56,7 @@ load-kept d s reps stream =
     (λ e. load-by-kept (admissionOf d s) d s reps stream)
 
 pub untouched-load : (d : Desk) (s reps stream : List ℕ) {a : Loaded} {t q : List ℕ}
-    → loaded a t q ≡ loadCall d s reps stream → (loadNumber a ≡ 0 → ⊥) → (t ≡ s) × (q ≡ reps)
+    → loadedAs a t q ≡ loadCall d s reps stream → (loadNumber a ≡ 0 → ⊥) → (t ≡ s) × (q ≡ reps)
 unfolding LoadKept
 untouched-load d s reps stream e h =
     let k = load-kept d s reps stream (λ z. h (ap (λ (y : LoadCall). loadNumber (y .answer)) e ∙ z)) in
@@ -77,7 +77,7 @@ write-by-kept Admitted d s out h = put-kept (streamOf d s) out h
 write-by-kept (Away r) d s out h = refl
 
 pub untouched-write : (d : Desk) (s out : List ℕ) {a : Written} {o : List ℕ}
-    → written a o ≡ writeCall d s out → (writeNumber a ≡ 0 → ⊥) → o ≡ out
+    → writtenAs a o ≡ writeCall d s out → (writeNumber a ≡ 0 → ⊥) → o ≡ out
 unfolding WriteKept writeCall
 untouched-write d s out e h =
     ap (λ (y : WriteCall). y .out) e
@@ -92,7 +92,7 @@ empty-kept d s =
     by-test (EmptyKept s) (inRangeOf d) _ _
     (λ e. by-test (EmptyKept s) (leb (storeLength d) (length s)) _ _ (λ f h. absurd (h refl)) (λ f h. refl)) (λ e h. refl)
 
-pub untouched-empty : (d : Desk) (s : List ℕ) {a : Emptied} {t : List ℕ} → emptied a t ≡ emptyCall d s → (emptyNumber a ≡ 0 → ⊥) → t ≡ s
+pub untouched-empty : (d : Desk) (s : List ℕ) {a : Emptied} {t : List ℕ} → emptiedAs a t ≡ emptyCall d s → (emptyNumber a ≡ 0 → ⊥) → t ≡ s
 unfolding EmptyKept
 untouched-empty d s e h =
     ap (λ (y : EmptyCall). y .store) e ∙ empty-kept d s (λ z. h (ap (λ (y : EmptyCall). emptyNumber (y .answer)) e ∙ z))

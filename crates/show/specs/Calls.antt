@@ -49,20 +49,20 @@ pub record LoadCall : Type 0 where
   pub store : List ℕ
   pub reports : List ℕ
 
-abbrev pub loaded : Loaded → List ℕ → List ℕ → LoadCall
-loaded a s reps = record { answer = a; store = s; reports = reps }
+abbrev pub loadedAs : Loaded → List ℕ → List ℕ → LoadCall
+loadedAs a s reps = record { answer = a; store = s; reports = reps }
 
 abbrev pub loadDone : Run → List ℕ → LoadCall
-loadDone x reps = loaded (LoadDone (totalsOf x)) (x .store) (storedIn reps (allReports x))
+loadDone x reps = loadedAs (LoadDone (totalsOf x)) (x .store) (storedIn reps (allReports x))
 
 unfoldable pub loadBy : Admission → Desk → List ℕ → List ℕ → List ℕ → LoadCall
 loadBy Admitted d s reps stream = loadDone (loadOf d s stream) reps
-loadBy (Away r) d s reps stream = loaded (LoadAway r) s reps
+loadBy (Away r) d s reps stream = loadedAs (LoadAway r) s reps
 
 unfoldable pub loadCall : Desk → List ℕ → List ℕ → List ℕ → LoadCall
 loadCall d s reps stream =
     let x = loadBy (admissionOf d s) d s reps stream in
-    cond (ltb mostBytes (length stream)) (loaded (LoadAway R1) s reps) x
+    cond (ltb mostBytes (length stream)) (loadedAs (LoadAway R1) s reps) x
 
 -- ---- write
 
@@ -70,19 +70,19 @@ pub record WriteCall : Type 0 where
   pub answer : Written
   pub out : List ℕ
 
-abbrev pub written : Written → List ℕ → WriteCall
-written a o = record { answer = a; out = o }
+abbrev pub writtenAs : Written → List ℕ → WriteCall
+writtenAs a o = record { answer = a; out = o }
 
 -- R5, the whole stream would exceed 262,143; R6, it exceeds the output given, with the length needed
 unfoldable pub putCall : List ℕ → List ℕ → WriteCall
 putCall stream out =
-    cond (ltb mostBytes (length stream)) (written (WriteAway R5) out)
-    (cond (ltb (length out) (length stream)) (written (WriteAway (R6 (length stream))) out)
-    (written (WriteDone (length stream)) (put out 0 stream)))
+    cond (ltb mostBytes (length stream)) (writtenAs (WriteAway R5) out)
+    (cond (ltb (length out) (length stream)) (writtenAs (WriteAway (R6 (length stream))) out)
+    (writtenAs (WriteDone (length stream)) (put out 0 stream)))
 
 unfoldable pub writeBy : Admission → Desk → List ℕ → List ℕ → WriteCall
 writeBy Admitted d s out = putCall (streamOf d s) out
-writeBy (Away r) d s out = written (WriteAway r) out
+writeBy (Away r) d s out = writtenAs (WriteAway r) out
 
 unfoldable pub writeCall : Desk → List ℕ → List ℕ → WriteCall
 writeCall d s out = writeBy (admissionOf d s) d s out
@@ -93,22 +93,22 @@ pub record EmptyCall : Type 0 where
   pub answer : Emptied
   pub store : List ℕ
 
-abbrev pub emptied : Emptied → List ℕ → EmptyCall
-emptied a s = record { answer = a; store = s }
+abbrev pub emptiedAs : Emptied → List ℕ → EmptyCall
+emptiedAs a s = record { answer = a; store = s }
 
 unfoldable pub emptyCall : Desk → List ℕ → EmptyCall
 emptyCall d s =
-    cond (inRangeOf d) (cond (leb (storeLength d) (length s)) (emptied EmptyDone (emptiedStore d s)) (emptied (EmptyAway R3) s))
-    (emptied (EmptyAway R2) s)
+    cond (inRangeOf d) (cond (leb (storeLength d) (length s)) (emptiedAs EmptyDone (emptiedStore d s)) (emptiedAs (EmptyAway R3) s))
+    (emptiedAs (EmptyAway R2) s)
 
 -- ---- look-up: the very level bytes of a kept cue
 
 -- the answer word: 0 kept, 1 not kept, else the refusal's number
-abbrev pub isKept : ℕ
-isKept = 0
+abbrev pub keptWord : ℕ
+keptWord = 0
 
-abbrev pub notKept : ℕ
-notKept = 1
+abbrev pub notKeptWord : ℕ
+notKeptWord = 1
 
 -- the word, where in the store the part begins, and its bytes; the part is empty, at the store's start, where there is none
 pub record Look : Type 0 where
@@ -119,18 +119,18 @@ pub record Look : Type 0 where
 abbrev pub look : ℕ → ℕ → List ℕ → Look
 look w p b = record { word = w; place = p; bytes = b }
 
-abbrev pub cue : Key → Name
-cue key = record { kind = Cue; key = key }
+abbrev pub cueName : Key → Name
+cueName key = record { kind = Cue; key = key }
 
 abbrev pub cueKey : ℕ → ℕ → ℕ → Key
 cueKey page whole tenths = record { page = page; whole = whole; fraction = tenths }
 
 unfoldable pub lookAt : Desk → List ℕ → Found → Look
-lookAt d s (at i) = look isKept (i * slotLength d + headLength) (levelsAt d s i)
-lookAt d s nowhere = look notKept 0 []
+lookAt d s (at i) = look keptWord (i * slotLength d + headLength) (levelsAt d s i)
+lookAt d s nowhere = look notKeptWord 0 []
 
 unfoldable pub lookBy : Admission → Desk → List ℕ → Key → Look
-lookBy Admitted d s key = lookAt d s (find d s (cue key))
+lookBy Admitted d s key = lookAt d s (find d s (cueName key))
 lookBy (Away r) d s key = look (refusalNumber r) 0 []
 
 unfoldable pub lookCall : Desk → List ℕ → ℕ → ℕ → ℕ → Look
@@ -150,7 +150,7 @@ placedAt d (at i) = PlacedAt (i * slotLength d + headLength)
 placedAt d nowhere = NotKept
 
 unfoldable pub findBy : Admission → Desk → List ℕ → Key → Placed
-findBy Admitted d s key = placedAt d (find d s (cue key))
+findBy Admitted d s key = placedAt d (find d s (cueName key))
 findBy (Away r) d s key = FindAway r
 
 unfoldable pub findCall : Desk → List ℕ → ℕ → ℕ → ℕ → Placed
@@ -172,5 +172,5 @@ emptyNumber EmptyDone = 0
 
 unfoldable pub findNumber : Placed → ℕ
 findNumber (FindAway r) = refusalNumber r
-findNumber NotKept = notKept
-findNumber (PlacedAt n) = isKept
+findNumber NotKept = notKeptWord
+findNumber (PlacedAt n) = keptWord

@@ -11,7 +11,7 @@ ghost use mathlib.Core.Bool.{true};
 ghost use Rattle.store_code.specs.Fits.{Fitting};
 ghost use Rattle.store.specs.Form.{goodForm};
 ghost use Rattle.save.specs.Lines.{streamOf};
-ghost use Rattle.show.specs.Calls.{admissionOf, loadCall, loaded, putCall, writeCall, written, emptyCall, emptied, LookedUp, lookAt, lookCall, cue, placedAt, findCall};
+ghost use Rattle.show.specs.Calls.{admissionOf, loadCall, loadedAs, putCall, writeCall, writtenAs, emptyCall, emptiedAs, LookedUp, lookAt, lookCall, cueName, placedAt, findCall};
 ghost use Rattle.store.specs.Slots.{find as findSlot, placeOf};
 
 // The longest stream that is read or written, in bytes.
@@ -59,7 +59,7 @@ fn turned_away(desk: Desk, store: &[u8]) -> Admission
 
 // Reads a stream into a store.
 pub fn load(desk: Desk, store: &mut [u8], stream: &[u8], reports: &mut [u32]) -> Loaded
-    ensures { λ r. ⌜ loaded r (now (store .exit)) (now (reports .exit))
+    ensures { λ r. ⌜ loadedAs r (now (store .exit)) (now (reports .exit))
         ≡ loadCall desk (now (store .entry)) (now (reports .entry)) (now (stream .entry)) ⌝ }
 {
     if MOST_BYTES < stream.len() {
@@ -75,7 +75,7 @@ pub fn load(desk: Desk, store: &mut [u8], stream: &[u8], reports: &mut [u32]) ->
 fn put(desk: Desk, store: &[u8], out: &mut [u8]) -> Written
     requires { ⌜ Fitting desk (now store) ⌝ }
     requires { ⌜ goodForm desk (now store) ≡ true ⌝ }
-    ensures { λ r. ⌜ written r (now (out .exit)) ≡ putCall (streamOf desk (now (store .entry))) (now (out .entry)) ⌝ }
+    ensures { λ r. ⌜ writtenAs r (now (out .exit)) ≡ putCall (streamOf desk (now (store .entry))) (now (out .entry)) ⌝ }
 {
     let n = save::length(desk, store);
     if MOST_BYTES < n {
@@ -89,7 +89,7 @@ fn put(desk: Desk, store: &[u8], out: &mut [u8]) -> Written
 
 // Puts a store's show back as one fixed stream.
 pub fn write(desk: Desk, store: &[u8], out: &mut [u8]) -> Written
-    ensures { λ r. ⌜ written r (now (out .exit)) ≡ writeCall desk (now (store .entry)) (now (out .entry)) ⌝ }
+    ensures { λ r. ⌜ writtenAs r (now (out .exit)) ≡ writeCall desk (now (store .entry)) (now (out .entry)) ⌝ }
 {
     match turned_away(desk, store) {
         Admission::Away(refusal) => Written::Away(refusal),
@@ -99,7 +99,7 @@ pub fn write(desk: Desk, store: &[u8], out: &mut [u8]) -> Written
 
 // Makes a store's needed bytes zero. Good form is not asked for.
 pub fn empty(desk: Desk, store: &mut [u8]) -> Emptied
-    ensures { λ r. ⌜ emptied r (now (store .exit)) ≡ emptyCall desk (now (store .entry)) ⌝ }
+    ensures { λ r. ⌜ emptiedAs r (now (store .exit)) ≡ emptyCall desk (now (store .entry)) ⌝ }
 {
     if !desk.in_range() {
         return Emptied::Away(Refusal::R2);
@@ -127,7 +127,7 @@ pub const NOT_KEPT: u32 = 1;
 fn cue_slot(desk: Desk, store: &[u8], key: Key) -> Place
     requires { ⌜ Fitting desk (now store) ⌝ }
     requires { ⌜ goodForm desk (now store) ≡ true ⌝ }
-    ensures { λ r. ⌜ r ≡ placeOf (findSlot desk (now (store .entry)) (cue key)) ⌝ }
+    ensures { λ r. ⌜ r ≡ placeOf (findSlot desk (now (store .entry)) (cueName key)) ⌝ }
 {
     if store_desk::ok_name(desk, Kind::Cue, key) {
         return store_code::find(desk, store, Kind::Cue, key);
@@ -139,7 +139,7 @@ fn cue_slot(desk: Desk, store: &[u8], key: Key) -> Place
 fn levels_of<'a, 'b>(desk: Desk, store: &'a [u8], key: Key, answer: &'b mut u32) -> &'a [u8]
     requires { ⌜ Fitting desk (now store) ⌝ }
     requires { ⌜ goodForm desk (now store) ≡ true ⌝ }
-    ensures { λ r. ⌜ LookedUp (store .entry) r (now (answer .exit)) (lookAt desk (now (store .entry)) (findSlot desk (now (store .entry)) (cue key))) ⌝ }
+    ensures { λ r. ⌜ LookedUp (store .entry) r (now (answer .exit)) (lookAt desk (now (store .entry)) (findSlot desk (now (store .entry)) (cueName key))) ⌝ }
 {
     match cue_slot(desk, store, key) {
         Place::At(slot) => {
@@ -185,7 +185,7 @@ pub fn look_up<'a, 'b>(
 fn levels_place(desk: Desk, store: &[u8], key: Key) -> Placed
     requires { ⌜ Fitting desk (now store) ⌝ }
     requires { ⌜ goodForm desk (now store) ≡ true ⌝ }
-    ensures { λ r. ⌜ r ≡ placedAt desk (findSlot desk (now (store .entry)) (cue key)) ⌝ }
+    ensures { λ r. ⌜ r ≡ placedAt desk (findSlot desk (now (store .entry)) (cueName key)) ⌝ }
 {
     match cue_slot(desk, store, key) {
         Place::At(slot) => Placed::At(slot * desk.slot_length() + store_desk::HEAD_LENGTH),

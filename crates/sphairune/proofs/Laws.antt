@@ -16,7 +16,7 @@ use Rattle.show.specs.declared.Loaded.{Loaded}
 use Rattle.show.specs.declared.Written.{Written}
 use Rattle.show.specs.declared.Emptied.{Emptied}
 use Rattle.show.specs.declared.Placed.{Placed}
-use Rattle.show.specs.Calls.{LoadCall, loadCall, loaded, WriteCall, writeCall, written, emptyCall, emptied, findCall}
+use Rattle.show.specs.Calls.{LoadCall, loadCall, loadedAs, WriteCall, writeCall, writtenAs, emptyCall, emptiedAs, findCall}
 use Rattle.show.specs.Calls.{loadNumber, writeNumber, emptyNumber}
 use Rattle.sphairune.specs.Calls.{deskOf, totalsIn, lengthIn, toldIn, Exported, exported}
 use Rattle.sphairune.specs.Calls.{neededBy, exportNeeded, emptyBy, exportEmpty, loadTotals, loadedBy, exportLoad, writeLength, writtenBy, exportWrite, placedBy, exportFind}
@@ -59,13 +59,13 @@ module _ (limits : List ℕ) {d : Desk} (e : d ≡ deskOf limits) where
   pub needed-by : (l : List ℕ) {a : Needed} → a ≡ neededOf d → (b : Needed) → a ≡ b → neededBy b l ≡ exportNeeded limits l
   needed-by l f b g = ap (λ (x : Needed). neededBy x l) (sym g ∙ f ∙ ap neededOf e)
 
-  pub empty-by : (s : List ℕ) {a : Emptied} {t : List ℕ} → emptied a t ≡ emptyCall d s → (b : Emptied) → a ≡ b
+  pub empty-by : (s : List ℕ) {a : Emptied} {t : List ℕ} → emptiedAs a t ≡ emptyCall d s → (b : Emptied) → a ≡ b
       → exported (emptyNumber b) (t ∷ []) ≡ exportEmpty limits s
   unfolding emptyBy
   empty-by s {a} {t} f b g =
       sym (ap (λ (x : Emptied). exported (emptyNumber x) (t ∷ [])) g) ∙ ap emptyBy f ∙ ap (λ (x : Desk). emptyBy (emptyCall x s)) e
 
-  pub load-by : (s stream reps l : List ℕ) {a : Loaded} {t q k : List ℕ} → loaded a t q ≡ loadCall d s reps stream → (b : Loaded) → a ≡ b
+  pub load-by : (s stream reps l : List ℕ) {a : Loaded} {t q k : List ℕ} → loadedAs a t q ≡ loadCall d s reps stream → (b : Loaded) → a ≡ b
       → k ≡ loadTotals b l → exported (loadNumber b) (t ∷ q ∷ k ∷ []) ≡ exportLoad limits s stream reps l
   unfolding loadedBy
   load-by s stream reps l {a} {t} {q} f b g h =
@@ -74,7 +74,7 @@ module _ (limits : List ℕ) {d : Desk} (e : d ≡ deskOf limits) where
       ∙ ap (λ (x : LoadCall). loadedBy x l) f
       ∙ ap (λ (x : Desk). loadedBy (loadCall x s reps stream) l) e
 
-  pub write-by : (s out l : List ℕ) {a : Written} {o k : List ℕ} → written a o ≡ writeCall d s out → (b : Written) → a ≡ b
+  pub write-by : (s out l : List ℕ) {a : Written} {o k : List ℕ} → writtenAs a o ≡ writeCall d s out → (b : Written) → a ≡ b
       → k ≡ writeLength b l → exported (writeNumber b) (o ∷ k ∷ []) ≡ exportWrite limits s out l
   unfolding writtenBy
   write-by s out l {a} {o} f b g h =

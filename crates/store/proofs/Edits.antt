@@ -31,7 +31,7 @@ use Rattle.store.specs.Slots.{slotAt, entryAt, headAt, levelPlace, putLe
 use Rattle.store.specs.View.{Memory, Kept, absent, kept, memoryAt, memoryOf}
 use Rattle.store.specs.Change.{editHead, withHead, editSlot, editAt, edited}
 use Rattle.store.specs.Form.{hasTimes, hasLink, timeFits, linkFits, valuesFit}
-use Rattle.store.specs.Memories.{memoryIn, editLevels, editMemory, mapKept, has, EditFits, InTime}
+use Rattle.store.specs.Memories.{memoryIn, editLevels, editMemory, mapKept, canHave, EditFits, InTime}
 use Rattle.store.specs.Good.{Ready}
 use Rattle.store.proofs.Places.{slot-length, slot-headed, put-length, slot-same, slot-other, slot-patch, slot-tail}
 use Rattle.store.proofs.Levels.{level-slot}
@@ -238,11 +238,11 @@ edited-length d s long n e g = cases (find d s n) refl
 
 -- ---- by computation, 001 §6.3: what CUE, GROUP and SUB can have of UP, DOWN, FOLLOWON, LINK and CHAN
 abbrev pub row : Kind → List Bool
-row k = has k (Up 0 0) ∷ has k (Down 0 0) ∷ has k (Followon 0) ∷ has k (Link 0 0) ∷ has k (Level 1 0) ∷ []
+row k = canHave k (Up 0 0) ∷ canHave k (Down 0 0) ∷ canHave k (Followon 0) ∷ canHave k (Link 0 0) ∷ canHave k (Level 1 0) ∷ []
 
 pub secondaries : row Cue ++ (row Group ++ row Sub)
     ≡ true ∷ true ∷ true ∷ true ∷ true ∷ false ∷ false ∷ false ∷ false ∷ true ∷ true ∷ true ∷ false ∷ false ∷ true ∷ []
-unfolding has hasTimes hasLink
+unfolding canHave hasTimes hasLink
 secondaries = refl
 
 -- ---- good form
@@ -299,8 +299,8 @@ of-values k h v = seven-joined _ _ _ _ _ _ _ (v .upFade) (v .upDelay) (v .downFa
 time-set : (can : Bool) (t : ℕ) → can ≡ true → t ≤ timeMax → timeFits can 1 t ≡ true
 time-set can t c l = and-true can (leb t timeMax) c (le-leb t timeMax l)
 
-pub edit-values : (k : Kind) (e : Edit) (h : Head) → valuesFit k h ≡ true → has k e ≡ true → InTime e → valuesFit k (editHead e h) ≡ true
-unfolding has editHead put linkFits
+pub edit-values : (k : Kind) (e : Edit) (h : Head) → valuesFit k h ≡ true → canHave k e ≡ true → InTime e → valuesFit k (editHead e h) ≡ true
+unfolding canHave editHead put linkFits
 edit-values k (Up f y) h v c t =
     let w = values-of k h v in
     of-values k (editHead (Up f y) h)
@@ -351,7 +351,7 @@ edit-values k (Link a f) h v c t =
     })
 edit-values k (Level a l) h v c t = v
 
-pub edit-good : (d : Desk) (s : List ℕ) → Ready d s → (n : Name) (e : Edit) → has (n .kind) e ≡ true → InTime e → Ready d (edited d s n e)
+pub edit-good : (d : Desk) (s : List ℕ) → Ready d s → (n : Name) (e : Edit) → canHave (n .kind) e ≡ true → InTime e → Ready d (edited d s n e)
 unfolding x editAt
 edit-good d s r n e c t = cases (find d s n) refl
   where

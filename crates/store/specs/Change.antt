@@ -16,7 +16,7 @@ use Rattle.store_desk.specs.Size.{headLength, entryLength, slotLength, levelsLe
 use Rattle.store_desk.specs.Name.{Name, eqKind, firstSlot, slotCount, subSlot, entryOf}
 use Rattle.store_head.specs.declared.Head.{Head}
 use Rattle.store_head.specs.declared.Patch.{Patch}
-use Rattle.store_head.specs.Layout.{linkAt, upAt, downAt, followonAt, headValues, headOf, decodeHead, encodeHead, encodePatch}
+use Rattle.store_head.specs.Layout.{linkAt, upAt, downAt, followonAt, headValues, headFrom, decodeHead, encodeHead, encodePatch}
 use Rattle.store.specs.declared.Edit.{Edit}
 use Rattle.store.specs.declared.Edit.the-variants.{Up, Down, Followon, Link, Level}
 use Rattle.store.specs.Slots.{slotAt, putSlot, putEntry, headAt, putLevel, isUsed, find, onFound}
@@ -37,7 +37,7 @@ seat d s n = onFound (find d s n) (λ i. at i) (newSeat d s (n .kind) (n .key))
 
 -- afresh: no levels, times or link
 unfoldable pub blankHead : Key → Head
-blankHead key = headOf (1 ∷ key .page ∷ key .whole ∷ key .fraction ∷ [])
+blankHead key = headFrom (1 ∷ key .page ∷ key .whole ∷ key .fraction ∷ [])
 
 unfoldable pub blankSlot : Desk → Key → List ℕ
 blankSlot d key = encodeHead (blankHead key) ++ replicate (levelsLength d) 0
@@ -49,10 +49,10 @@ started d s n = onFound (seat d s n) (λ i. putSlot d s i (blankSlot d (n .key))
 
 -- the fields of the head that it sets, from one on; all others stay
 unfoldable pub editHead : Edit → Head → Head
-editHead (Up fade delay) h = headOf (put (headValues h) upAt (1 ∷ fade ∷ delay ∷ []))
-editHead (Down fade delay) h = headOf (put (headValues h) downAt (1 ∷ fade ∷ delay ∷ []))
-editHead (Followon time) h = headOf (put (headValues h) followonAt (1 ∷ time ∷ []))
-editHead (Link whole fraction) h = headOf (put (headValues h) linkAt (1 ∷ whole ∷ fraction ∷ []))
+editHead (Up fade delay) h = headFrom (put (headValues h) upAt (1 ∷ fade ∷ delay ∷ []))
+editHead (Down fade delay) h = headFrom (put (headValues h) downAt (1 ∷ fade ∷ delay ∷ []))
+editHead (Followon time) h = headFrom (put (headValues h) followonAt (1 ∷ time ∷ []))
+editHead (Link whole fraction) h = headFrom (put (headValues h) linkAt (1 ∷ whole ∷ fraction ∷ []))
 editHead (Level channel v) h = h
 
 unfoldable pub withHead : Edit → List ℕ → List ℕ

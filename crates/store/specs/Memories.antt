@@ -48,12 +48,12 @@ mapKept f absent = absent
 mapKept f (kept m) = kept (f m)
 
 -- ---- 001 §6.3: CUE (§9.1) has CHAN, UP, DOWN, FOLLOWON, LINK; GROUP (§9.2) has CHAN; SUB (§9.3) has CHAN, UP, DOWN
-unfoldable pub has : Kind → Edit → Bool
-has k (Up fade delay) = hasTimes k
-has k (Down fade delay) = hasTimes k
-has k (Followon time) = hasLink k
-has k (Link whole fraction) = hasLink k
-has k (Level channel v) = true
+unfoldable pub canHave : Kind → Edit → Bool
+canHave k (Up fade delay) = hasTimes k
+canHave k (Down fade delay) = hasTimes k
+canHave k (Followon time) = hasLink k
+canHave k (Link whole fraction) = hasLink k
+canHave k (Level channel v) = true
 
 -- the values of a change fit their bits in the head
 abbrev pub EditFits : Edit → Type 0

@@ -34,7 +34,7 @@ use Rattle.store.proofs.Find.{head-fits}
 use Rattle.store.proofs.Ordered.{word-is}
 use Rattle.store_code.specs.Fits.{Fitting}
 use Rattle.store_code.proofs.Word.{word-test, unused-test}
-use Rattle.store_form.specs.Keys.{mostKeys, keyWords, isWord, countWord, kindStart, seenBefore, Topped, topOf}
+use Rattle.store_form.specs.Keys.{mostKeys, keyWords, isKeyWord, countWord, kindStart, seenBefore, Topped, topOf}
 
 -- ---- a search, and the number of places that pass
 count-found : (p : ℕ → Bool) (m n i : ℕ) → n ≡ m → ltb 0 (countFrom p n i) ≡ not (isNowhere (firstFrom p n i))
@@ -148,9 +148,9 @@ module _ (d : Desk) (s : List ℕ) (f : Fitting d s) (b : Bytes s) where
       let q : ltb w usedWord ≡ not (isUsed (headAt d s i)) = ap (λ (z : ℕ). ltb z usedWord) (key-at i h) ∙ unused-word d s f b i l in
       by-bool (isUsed (headAt d s i))
       (λ u.
-      cond-false (ltb w usedWord) false (ltb 0 (countFrom (isWord (keyWords d s) w) (i - a) a)) (q ∙ ap not u)
+      cond-false (ltb w usedWord) false (ltb 0 (countFrom (isKeyWord (keyWords d s) w) (i - a) a)) (q ∙ ap not u)
       ∙ ap (λ (k : ℕ). ltb 0 k)
-      (count-same (isWord (keyWords d s) w) (holdsAt d s (keyOf (headAt d s i))) (i - a) a
+      (count-same (isKeyWord (keyWords d s) w) (holdsAt d s (keyOf (headAt d s i))) (i - a) a
       (λ j x y.
       let g : j < firstSlot d Sub = omega arith in
       let k : j < slotsOf d = omega arith in
@@ -158,7 +158,7 @@ module _ (d : Desk) (s : List ℕ) (f : Fitting d s) (b : Bytes s) where
       ∙ count-found (holdsAt d s (keyOf (headAt d s i))) (i - a) (i - a) a refl
       ∙ sym (repeats-is d s i l u a (start-is d i h)))
       (λ u.
-      cond-true (ltb w usedWord) false (ltb 0 (countFrom (isWord (keyWords d s) w) (i - a) a)) (q ∙ ap not u)
+      cond-true (ltb w usedWord) false (ltb 0 (countFrom (isKeyWord (keyWords d s) w) (i - a) a)) (q ∙ ap not u)
       ∙ sym (unused-not d s i u))
 
 -- ---- submasters
@@ -277,8 +277,8 @@ unfolding seenBefore countWord
 seen-above c ks i top t u h =
     let w = getD ks i 0 in
     let a = kindStart c i in
-    let none : countFrom (isWord ks w) (i - a) a ≡ 0 =
-    none-counted (isWord ks w) (i - a) a
+    let none : countFrom (isKeyWord ks w) (i - a) a ≡ 0 =
+    none-counted (isKeyWord ks w) (i - a) a
     (λ k f g. ne-eqb (getD ks k 0) w (λ e. let l = t .above k f (omega arith) in absurd (omega arith)))
     in
     sym (cond-false (ltb w usedWord) false _ (le-ltb w usedWord u) ∙ ap (λ (k : ℕ). ltb 0 k) none ∙ le-ltb 0 0 (omega arith))
@@ -327,21 +327,21 @@ topped-turn c ks i top {t} p q =
           (λ d. let l = p .above j (omega arith) (omega arith) in omega arith);
     })
 
-pub count-start : (ks : List ℕ) (w a e : ℕ) → 0 + countFrom (isWord ks w) (e - a) a ≡ countWord ks w a e
+pub count-start : (ks : List ℕ) (w a e : ℕ) → 0 + countFrom (isKeyWord ks w) (e - a) a ≡ countWord ks w a e
 unfolding countWord
 count-start ks w a e = zero-add _
 
 -- a loop from i up to e that has counted n, before and after a turn
-pub word-hit : (ks : List ℕ) (w e i n : ℕ) {m a : ℕ} → i < e → getD ks i 0 ≡ w → m ≡ n + 1 → n ≤ i → n + countFrom (isWord ks w) (e - i) i ≡ a
-    → (m ≤ i + 1) × (m + countFrom (isWord ks w) (e - (i + 1)) (i + 1) ≡ a)
+pub word-hit : (ks : List ℕ) (w e i n : ℕ) {m a : ℕ} → i < e → getD ks i 0 ≡ w → m ≡ n + 1 → n ≤ i → n + countFrom (isKeyWord ks w) (e - i) i ≡ a
+    → (m ≤ i + 1) × (m + countFrom (isKeyWord ks w) (e - (i + 1)) (i + 1) ≡ a)
 word-hit ks w e i n h t q l g = (
   omega arith,
-  ap (λ (k : ℕ). k + countFrom (isWord ks w) (e - (i + 1)) (i + 1)) q ∙ count-turn (isWord ks w) e i n h refl (eq-eqb (getD ks i 0) w t) g,
+  ap (λ (k : ℕ). k + countFrom (isKeyWord ks w) (e - (i + 1)) (i + 1)) q ∙ count-turn (isKeyWord ks w) e i n h refl (eq-eqb (getD ks i 0) w t) g,
 )
 
-pub word-miss : (ks : List ℕ) (w e i n : ℕ) {m a : ℕ} → i < e → (getD ks i 0 ≡ w → ⊥) → m ≡ n → n ≤ i → n + countFrom (isWord ks w) (e - i) i ≡ a
-    → (m ≤ i + 1) × (m + countFrom (isWord ks w) (e - (i + 1)) (i + 1) ≡ a)
+pub word-miss : (ks : List ℕ) (w e i n : ℕ) {m a : ℕ} → i < e → (getD ks i 0 ≡ w → ⊥) → m ≡ n → n ≤ i → n + countFrom (isKeyWord ks w) (e - i) i ≡ a
+    → (m ≤ i + 1) × (m + countFrom (isKeyWord ks w) (e - (i + 1)) (i + 1) ≡ a)
 word-miss ks w e i n h t q l g = (
   omega arith,
-  ap (λ (k : ℕ). k + countFrom (isWord ks w) (e - (i + 1)) (i + 1)) q ∙ count-skip (isWord ks w) e i n h refl (ne-eqb (getD ks i 0) w t) g,
+  ap (λ (k : ℕ). k + countFrom (isKeyWord ks w) (e - (i + 1)) (i + 1)) q ∙ count-skip (isKeyWord ks w) e i n h refl (ne-eqb (getD ks i 0) w t) g,
 )

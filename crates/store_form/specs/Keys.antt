@@ -24,11 +24,11 @@ unfoldable pub keyWords : Desk → List ℕ → List ℕ
 keyWords d s = padded mostKeys (tab (slotWord d s) 0 (firstSlot d Sub))
 
 -- how often w stands at the places from a on, before e
-abbrev pub isWord : List ℕ → ℕ → ℕ → Bool
-isWord ks w j = eqb (getD ks j 0) w
+abbrev pub isKeyWord : List ℕ → ℕ → ℕ → Bool
+isKeyWord ks w j = eqb (getD ks j 0) w
 
 unfoldable pub countWord : List ℕ → ℕ → ℕ → ℕ → ℕ
-countWord ks w a e = countFrom (isWord ks w) (e - a) a
+countWord ks w a e = countFrom (isKeyWord ks w) (e - a) a
 
 -- where the slots of slot i's kind begin: cues, then groups
 unfoldable pub kindStart : ℕ → ℕ → ℕ

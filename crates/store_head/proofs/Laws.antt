@@ -13,7 +13,8 @@ use lib.Seq.{drop-drop, getD-drop}
 use Rattle.store_head.specs.declared.Head.{Head}
 use Rattle.store_head.specs.declared.Patch.{Patch}
 use Rattle.store_head.specs.Pack.{total, packed, unpacked, FitsIn, Bytes}
-use Rattle.store_head.specs.Layout.{octets, headWidths, headValues, headOf, HeadFits, encodeHead, decodeHead, firstWord, secondWord, thirdWord, keyWidths, usedWord, pageWord, wholeWord, wordOf, quickOf, patchWidths, patchValues, patchOf, PatchFits, encodePatch, decodePatch}
+use Rattle.store_head.specs.Layout.{octets, headWidths, headValues, headFrom, HeadFits, encodeHead, decodeHead, keyWidths, usedWord, pageWord, wholeWord, wordOf, quickOf, patchWidths, patchValues, patchOf, PatchFits, encodePatch, decodePatch}
+use Rattle.store_head.specs.Words.{firstWord, secondWord, thirdWord}
 use Rattle.store_head.proofs.Pack.{packed-lt, unpacked-fits, unpack-pack, pack-unpack-lt, unpacked-append, packed-at, packed-append, packed-cut-in, field-high, field-below, field-across, length-unpacked, packed-front, packed-take, octets-fit, unpacked-bytes, packed-zeros}
 
 -- ---- bytes as numbers
@@ -76,7 +77,7 @@ module _ (a b c : ℕ) (hb : b < 2 ^ 64) (hc : c < 2 ^ 64) where
   zero-bits : (beside (beside a b) c) / 2 ^ 0 % 2 ^ 23 ≡ c % 8388608
   zero-bits = in-third 41 23 0 refl ∙ ap (λ (z : ℕ). z % 8388608) (div-one c)
 
-  pub words-decode : headOf (unpacked headWidths (beside (beside a b) c))
+  pub words-decode : headFrom (unpacked headWidths (beside (beside a b) c))
       ≡ record {
         used = a / 9223372036854775808 % 2;
         page = a / 144115188075855872 % 64;
@@ -117,7 +118,7 @@ module _ (a b c : ℕ) (hb : b < 2 ^ 64) (hc : c < 2 ^ 64) where
       }
 
 pub words-of : (s : List ℕ) {a b c : ℕ} → a ≡ packed (octets 8) (drop 0 s) → b ≡ packed (octets 8) (drop 8 s) → c ≡ packed (octets 8) (drop 16 s)
-    → headOf (unpacked headWidths (beside (beside a b) c)) ≡ decodeHead s
+    → headFrom (unpacked headWidths (beside (beside a b) c)) ≡ decodeHead s
 unfolding decodeHead total
 words-of s {a} {b} {c} ea eb ec =
     let p : packed (octets 16) s ≡ beside (packed (octets 8) s) (packed (octets 8) (drop 8 s)) = packed-append (octets 8) (octets 8) s in
@@ -129,7 +130,7 @@ words-of s {a} {b} {c} ea eb ec =
     ∙ ap (λ (z : ℕ). beside z (packed (octets 8) (drop 16 s))) (sym p)
     ∙ sym q
     in
-    ap (λ (z : ℕ). headOf (unpacked headWidths z)) e
+    ap (λ (z : ℕ). headFrom (unpacked headWidths z)) e
 
 -- ---- encoding by words
 fits-in : (h : Head) → HeadFits h → FitsIn headWidths (headValues h)
@@ -223,9 +224,9 @@ words-encode h f =
     ∙ ap (λ (z : List ℕ). unpacked (octets 8) (firstWord h) ++ z) (unpacked-append (octets 8) (octets 8) (secondWord h) (thirdWord h) lc)
 
 -- ---- there and back
-head-values : (ws : List ℕ) (n : ℕ) → ws ≡ headWidths → headValues (headOf (unpacked ws n)) ≡ unpacked ws n
+head-values : (ws : List ℕ) (n : ℕ) → ws ≡ headWidths → headValues (headFrom (unpacked ws n)) ≡ unpacked ws n
 unfolding unpacked
-head-values ws n e = subst (λ (z : List ℕ). headValues (headOf (unpacked z n)) ≡ unpacked z n) (sym e) refl
+head-values ws n e = subst (λ (z : List ℕ). headValues (headFrom (unpacked z n)) ≡ unpacked z n) (sym e) refl
 
 head-lt : (h : Head) → HeadFits h → packed headWidths (headValues h) < 2 ^ total (octets 24)
 unfolding total
@@ -236,8 +237,8 @@ unfolding encodeHead decodeHead
 decode-encode h f xs =
     let n = packed headWidths (headValues h) in
     let l : length (octets 24) ≤ length (unpacked (octets 24) n) = let e = length-unpacked (octets 24) n in omega arith in
-    ap (λ (z : ℕ). headOf (unpacked headWidths z)) (packed-front (octets 24) (unpacked (octets 24) n) xs l ∙ pack-unpack-lt (octets 24) n (head-lt h f))
-    ∙ ap headOf (unpack-pack headWidths (headValues h) (fits-in h f))
+    ap (λ (z : ℕ). headFrom (unpacked headWidths z)) (packed-front (octets 24) (unpacked (octets 24) n) xs l ∙ pack-unpack-lt (octets 24) n (head-lt h f))
+    ∙ ap headFrom (unpack-pack headWidths (headValues h) (fits-in h f))
 
 pub encode-decode : (s : List ℕ) → 24 ≤ length s → Bytes s → encodeHead (decodeHead s) ≡ take 24 s
 unfolding encodeHead decodeHead total
@@ -283,14 +284,14 @@ decode-fits s =
     }
 
 -- zero bytes are a head of zeros
-pub decode-zeros : (n : ℕ) → decodeHead (replicate n 0) ≡ headOf (replicate 16 0)
+pub decode-zeros : (n : ℕ) → decodeHead (replicate n 0) ≡ headFrom (replicate 16 0)
 unfolding decodeHead unpacked total
-decode-zeros n = ap (λ (z : ℕ). headOf (unpacked headWidths z)) (packed-zeros (octets 24) n)
+decode-zeros n = ap (λ (z : ℕ). headFrom (unpacked headWidths z)) (packed-zeros (octets 24) n)
 
 -- the head is in the first 24 bytes
 pub decode-take : (s : List ℕ) → decodeHead (take 24 s) ≡ decodeHead s
 unfolding decodeHead
-decode-take s = ap (λ (z : ℕ). headOf (unpacked headWidths z)) (packed-take (octets 24) s 24 refl)
+decode-take s = ap (λ (z : ℕ). headFrom (unpacked headWidths z)) (packed-take (octets 24) s 24 refl)
 
 -- ---- the quick number of a key
 pub word-sum : (u p w f : ℕ) → wordOf u p w f ≡ u * usedWord + (p * pageWord + (w * wholeWord + f))
@@ -432,7 +433,7 @@ patch-octets p {n} e =
     ∙ ap (λ (z : ℕ). unpacked (octets 3) z) m
 
 -- by computation: cue 2.5 on page 1 with UP 3, bit by bit
-pub sample : encodeHead (headOf (1 ∷ 1 ∷ 2 ∷ 5 ∷ 0 ∷ 0 ∷ 0 ∷ 1 ∷ 30 ∷ []))
+pub sample : encodeHead (headFrom (1 ∷ 1 ∷ 2 ∷ 5 ∷ 0 ∷ 0 ∷ 0 ∷ 1 ∷ 30 ∷ []))
     ≡ 130 ∷ 1 ∷ 40 ∷ 0 ∷ 8 ∷ 0 ∷ 0 ∷ 60 ∷ 0 ∷ 0 ∷ 0 ∷ 0 ∷ 0 ∷ 0 ∷ 0 ∷ 0 ∷ 0 ∷ 0 ∷ 0 ∷ 0 ∷ 0 ∷ 0 ∷ 0 ∷ 0 ∷ []
 unfolding encodeHead packed unpacked total
 sample = refl

@@ -1,7 +1,7 @@
 -- The head of a slot and the patch entry as tables of widths (paper 01, "The store"), and their bytes.
 -- Assumes nothing.
 use mathlib.Core.List.{List, [], _∷_}
-use Prim.Native.Nat.{ℕ, _+_, _/_, _%_, _^_, _<_}
+use Prim.Native.Nat.{ℕ, _+_, _/_, _^_, _<_}
 use lib.ListN.{getD, replicate}
 use Rattle.store_head.specs.declared.Head.{Head}
 use Rattle.store_head.specs.declared.Patch.{Patch}
@@ -106,8 +106,8 @@ headValues h =
     ∷ h .rest
     ∷ []
 
-abbrev pub headOf : List ℕ → Head
-headOf vs =
+abbrev pub headFrom : List ℕ → Head
+headFrom vs =
     record {
       used = getD vs 0 0;
       page = getD vs 1 0;
@@ -151,31 +151,7 @@ encodeHead h = unpacked (octets 24) (packed headWidths (headValues h))
 
 -- of the first 24 bytes of a list
 unfoldable pub decodeHead : List ℕ → Head
-decodeHead s = headOf (unpacked headWidths (packed (octets 24) s))
-
--- the head as the code builds it: three words of eight bytes, of which the first two end inside a delay (law `words-head`)
-unfoldable pub firstWord : Head → ℕ
-firstWord h =
-    packed (1 ∷ 6 ∷ 10 ∷ 4 ∷ 1 ∷ 10 ∷ 4 ∷ 1 ∷ 26 ∷ 1 ∷ [])
-    (h .used
-    ∷ h .page
-    ∷ h .whole
-    ∷ h .fraction
-    ∷ h .link
-    ∷ h .«link_whole»
-    ∷ h .«link_fraction»
-    ∷ h .up
-    ∷ h .«up_fade»
-    ∷ h .«up_delay» / 2 ^ 25
-    ∷ [])
-
-unfoldable pub secondWord : Head → ℕ
-secondWord h =
-    packed (25 ∷ 1 ∷ 26 ∷ 12 ∷ []) (h .«up_delay» % 2 ^ 25 ∷ h .down ∷ h .«down_fade» ∷ h .«down_delay» / 2 ^ 14 ∷ [])
-
-unfoldable pub thirdWord : Head → ℕ
-thirdWord h =
-    packed (14 ∷ 1 ∷ 26 ∷ 23 ∷ []) (h .«down_delay» % 2 ^ 14 ∷ h .followon ∷ h .«followon_time» ∷ h .rest ∷ [])
+decodeHead s = headFrom (unpacked headWidths (packed (octets 24) s))
 
 -- ---- the key in one number, for a fast search: the first 21 bits of a head, three bytes without their last three bits
 abbrev pub keyWidths : List ℕ

@@ -8,7 +8,7 @@ use lib.Dec.{eqb}
 use lib.ListN.{length, drop, length-map}
 use Rattle.cells.specs.Scan.{span}
 use Rattle.cells.proofs.Split.{by-test}
-use Rattle.text_records.specs.Cleaning.{Kept, keptOf, chars, columns}
+use Rattle.text_records.specs.Cleaning.{KeptChar, keptOf, chars, columns}
 use Rattle.text_fields.specs.Words.{Word, isDelimiter, isWord, wordsIn, wordsOf, fieldsOf}
 
 pub words-in-few : (n : ℕ) (text at : List ℕ) → length (wordsIn n text at) ≤ n
@@ -28,5 +28,5 @@ pub fields-few : (r : List ℕ) → length (fieldsOf r) ≤ length (keptOf r)
 unfolding fieldsOf
 fields-few r =
     let h : length (wordsOf (chars (keptOf r)) (columns (keptOf r))) ≤ length (chars (keptOf r)) = words-few (chars (keptOf r)) (columns (keptOf r)) in
-    let l : length (chars (keptOf r)) ≡ length (keptOf r) = length-map (keptOf r) (λ (k : Kept). k .char) in
+    let l : length (chars (keptOf r)) ≡ length (keptOf r) = length-map (keptOf r) (λ (k : KeptChar). k .char) in
     omega arith

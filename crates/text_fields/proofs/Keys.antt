@@ -14,12 +14,12 @@ use borrow.Author.Tests.{eqb-true, eq-eqb, ne-eqb, leb-true, lt-leb}
 use Rattle.cells.proofs.Scan.{span-hit, span-miss}
 use Rattle.cells.proofs.Split.{by-bool, by-test, cond-true, cond-false, same-test, and-left, and-right, and-true, and-false-left}
 use Rattle.text_fields.specs.Keywords.{upper, sameText, sameWord, Row, meaningOf, keywordRows, itemRows, dollar, keywordOf, itemOf}
-use Rattle.text_fields.specs.Tables.{meanings, keywordAt, itemAt}
+use Rattle.text_fields.specs.Tables.{meanings, keywordAt, itemRow}
 use Rattle.text_fields.specs.declared.Keyword.{Keyword}
 use Rattle.text_fields.specs.declared.Keyword.the-variants.{Local, Comment, Unknown}
 use Rattle.text_fields.specs.declared.Item.{Item}
 use Rattle.text_fields.specs.declared.Item.the-variants.{Local as localItem, Other}
-use Rattle.text_fields.specs.Tables.{isCapital, capitalOf, keyOf, keysOf, differs, rowAt}
+use Rattle.text_fields.specs.Tables.{isCapital, capitalOf, fieldKey, keysOf, differs, rowAt}
 
 -- ---- a character's five bits
 capital-low : (c : ℕ) → 65 ≤ capitalOf c
@@ -69,14 +69,14 @@ allCapitals : List ℕ → Bool
 allCapitals [] = true
 allCapitals (d ∷ ds) = isCapital d && allCapitals ds
 
-same-key : (w n : List ℕ) → allCapitals n ≡ true → sameText (map upper w) n ≡ eqb (keyOf w) (keyOf n)
-unfolding sameText keyOf allCapitals
+same-key : (w n : List ℕ) → allCapitals n ≡ true → sameText (map upper w) n ≡ eqb (fieldKey w) (fieldKey n)
+unfolding sameText fieldKey allCapitals
 same-key [] [] h = refl
-same-key [] (d ∷ n) h = let l : 65 ≤ capitalOf d = capital-low d in sym (ne-eqb 0 (keyOf n * 32 + (capitalOf d - 64)) (omega arith))
-same-key (c ∷ w) [] h = let l : 65 ≤ capitalOf c = capital-low c in sym (ne-eqb (keyOf w * 32 + (capitalOf c - 64)) 0 (omega arith))
+same-key [] (d ∷ n) h = let l : 65 ≤ capitalOf d = capital-low d in sym (ne-eqb 0 (fieldKey n * 32 + (capitalOf d - 64)) (omega arith))
+same-key (c ∷ w) [] h = let l : 65 ≤ capitalOf c = capital-low c in sym (ne-eqb (fieldKey w * 32 + (capitalOf c - 64)) 0 (omega arith))
 same-key (c ∷ w) (d ∷ n) h =
     let hd : isCapital d ≡ true = and-left (isCapital d) (allCapitals n) h in
-    let i : sameText (map upper w) n ≡ eqb (keyOf w) (keyOf n) = same-key w n (and-right (isCapital d) (allCapitals n) h) in
+    let i : sameText (map upper w) n ≡ eqb (fieldKey w) (fieldKey n) = same-key w n (and-right (isCapital d) (allCapitals n) h) in
     let l₁ : 65 ≤ capitalOf c = capital-low c in
     let l₂ : 65 ≤ capitalOf d = capital-low d in
     let l₃ : capitalOf c ≤ 95 = capital-high c in
@@ -84,14 +84,14 @@ same-key (c ∷ w) (d ∷ n) h =
     same-test (eqb (upper c) d && sameText (map upper w) n) _
     (λ e.
     let a : capitalOf c ≡ capitalOf d = capital-of c d hd (eqb-true (upper c) d (and-left (eqb (upper c) d) (sameText (map upper w) n) e)) in
-    let b : keyOf w ≡ keyOf n = eqb-true (keyOf w) (keyOf n) (sym i ∙ and-right (eqb (upper c) d) (sameText (map upper w) n) e) in
-    eq-eqb (keyOf w * 32 + (capitalOf c - 64)) (keyOf n * 32 + (capitalOf d - 64)) (omega arith))
+    let b : fieldKey w ≡ fieldKey n = eqb-true (fieldKey w) (fieldKey n) (sym i ∙ and-right (eqb (upper c) d) (sameText (map upper w) n) e) in
+    eq-eqb (fieldKey w * 32 + (capitalOf c - 64)) (fieldKey n * 32 + (capitalOf d - 64)) (omega arith))
     (λ e.
-    let k : keyOf w * 32 + (capitalOf c - 64) ≡ keyOf n * 32 + (capitalOf d - 64) =
-    eqb-true (keyOf w * 32 + (capitalOf c - 64)) (keyOf n * 32 + (capitalOf d - 64)) e in
+    let k : fieldKey w * 32 + (capitalOf c - 64) ≡ fieldKey n * 32 + (capitalOf d - 64) =
+    eqb-true (fieldKey w * 32 + (capitalOf c - 64)) (fieldKey n * 32 + (capitalOf d - 64)) e in
     let a : capitalOf c ≡ capitalOf d = omega arith in
-    let b : keyOf w ≡ keyOf n = omega arith in
-    and-true (eqb (upper c) d) (sameText (map upper w) n) (eq-eqb (upper c) d (capital-same c d hd a)) (i ∙ eq-eqb (keyOf w) (keyOf n) b))
+    let b : fieldKey w ≡ fieldKey n = omega arith in
+    and-true (eqb (upper c) d) (sameText (map upper w) n) (eq-eqb (upper c) d (capital-same c d hd a)) (i ∙ eq-eqb (fieldKey w) (fieldKey n) b))
 
 -- ---- a table of such names
 capitalRows : {A : Type 0} → List (Row A) → Bool
@@ -99,31 +99,31 @@ capitalRows [] = true
 capitalRows (r ∷ rs) = allCapitals (take 10 (r .name)) && capitalRows rs
 
 meaning-row : {A : Type 0} (rows : List (Row A)) (other : A) (w : List ℕ) → capitalRows rows ≡ true
-    → meaningOf rows other w ≡ getD (meanings rows) (rowAt (keysOf rows) (keyOf (take 10 w))) other
+    → meaningOf rows other w ≡ getD (meanings rows) (rowAt (keysOf rows) (fieldKey (take 10 w))) other
 unfolding meaningOf rowAt keysOf capitalRows sameWord
 meaning-row [] other w h = refl
 meaning-row {A} (r ∷ rs) other w h =
     let n : List ℕ = take 10 (r .name) in
-    let k : ℕ = keyOf (take 10 w) in
-    let e : sameWord w (r .name) ≡ eqb k (keyOf n) = same-key (take 10 w) n (and-left (allCapitals n) (capitalRows rs) h) in
+    let k : ℕ = fieldKey (take 10 w) in
+    let e : sameWord w (r .name) ≡ eqb k (fieldKey n) = same-key (take 10 w) n (and-left (allCapitals n) (capitalRows rs) h) in
     let i : meaningOf rs other w ≡ getD (meanings rs) (rowAt (keysOf rs) k) other =
     meaning-row rs other w (and-right (allCapitals n) (capitalRows rs) h) in
-    by-bool (eqb k (keyOf n))
+    by-bool (eqb k (fieldKey n))
     (λ t.
     cond-true (sameWord w (r .name)) (r .means) (meaningOf rs other w) (e ∙ t)
-    ∙ ap (λ (j : ℕ). getD (meanings (r ∷ rs)) j other) (sym (span-miss (differs k) (keyOf n) (keysOf rs) (ap not t))))
+    ∙ ap (λ (j : ℕ). getD (meanings (r ∷ rs)) j other) (sym (span-miss (differs k) (fieldKey n) (keysOf rs) (ap not t))))
     (λ t.
     cond-false (sameWord w (r .name)) (r .means) (meaningOf rs other w) (e ∙ t)
     ∙ i
-    ∙ ap (λ (j : ℕ). getD (meanings (r ∷ rs)) j other) (sym (span-hit (differs k) (keyOf n) (keysOf rs) (ap not t))))
+    ∙ ap (λ (j : ℕ). getD (meanings (r ∷ rs)) j other) (sym (span-hit (differs k) (fieldKey n) (keysOf rs) (ap not t))))
 
 -- ---- the two tables, by the byte that a `$` would be, the key, the row and what stands there
-keyword-row : (w : List ℕ) → meaningOf keywordRows Unknown w ≡ keywordAt (rowAt (keysOf keywordRows) (keyOf (take 10 w)))
+keyword-row : (w : List ℕ) → meaningOf keywordRows Unknown w ≡ keywordAt (rowAt (keysOf keywordRows) (fieldKey (take 10 w)))
 unfolding keywordAt keywordRows capitalRows allCapitals
 keyword-row w = meaning-row keywordRows Unknown w refl
 
-item-row : (w : List ℕ) → meaningOf itemRows Other w ≡ itemAt (rowAt (keysOf itemRows) (keyOf (take 10 w)))
-unfolding itemAt itemRows capitalRows allCapitals
+item-row : (w : List ℕ) → meaningOf itemRows Other w ≡ itemRow (rowAt (keysOf itemRows) (fieldKey (take 10 w)))
+unfolding itemRow itemRows capitalRows allCapitals
 item-row w = meaning-row itemRows Other w refl
 
 module _ (w : List ℕ) {b : ℕ} (e : b ≡ getD w 0 0) where
@@ -144,7 +144,7 @@ module _ (w : List ℕ) {b : ℕ} (e : b ≡ getD w 0 0) where
       sym (cond-true (eqb (getD w 0 0) dollar) _ _ (local-first f)
       ∙ cond-false (eqb (getD w 1 0) dollar) Comment Local (ne-eqb (getD w 1 0) dollar (λ d. h (g ∙ d))))
 
-  pub keyword-named : {k r : ℕ} {v : Keyword} → (b ≡ dollar → ⊥) → k ≡ keyOf (take 10 w) → r ≡ rowAt (keysOf keywordRows) k
+  pub keyword-named : {k r : ℕ} {v : Keyword} → (b ≡ dollar → ⊥) → k ≡ fieldKey (take 10 w) → r ≡ rowAt (keysOf keywordRows) k
       → v ≡ keywordAt r → v ≡ keywordOf w
   unfolding keywordOf
   keyword-named f g h d =
@@ -155,11 +155,11 @@ module _ (w : List ℕ) {b : ℕ} (e : b ≡ getD w 0 0) where
   unfolding itemOf
   item-local f = sym (cond-true (eqb (getD w 0 0) dollar) localItem _ (local-first f))
 
-  pub item-named : {k r : ℕ} {v : Item} → (b ≡ dollar → ⊥) → k ≡ keyOf (take 10 w) → r ≡ rowAt (keysOf itemRows) k
-      → v ≡ itemAt r → v ≡ itemOf w
+  pub item-named : {k r : ℕ} {v : Item} → (b ≡ dollar → ⊥) → k ≡ fieldKey (take 10 w) → r ≡ rowAt (keysOf itemRows) k
+      → v ≡ itemRow r → v ≡ itemOf w
   unfolding itemOf
   item-named f g h d =
-      d ∙ ap itemAt (h ∙ ap (λ (k : ℕ). rowAt (keysOf itemRows) k) g) ∙ sym (item-row w)
+      d ∙ ap itemRow (h ∙ ap (λ (k : ℕ). rowAt (keysOf itemRows) k) g) ∙ sym (item-row w)
       ∙ sym (cond-false (eqb (getD w 0 0) dollar) localItem _ (plain-first f))
 
 -- a table's entry needs no default
@@ -169,23 +169,23 @@ getD-any (x ∷ xs) zero d e h = refl
 getD-any (x ∷ xs) (suc k) d e h = getD-any xs k d e (le-of-suc-le-suc h)
 
 -- ---- the key of the first ten characters, made from the last of them back
-key-bound : (n : ℕ) (xs : List ℕ) → length xs ≤ n → keyOf xs < 32 ^ n
-unfolding keyOf
+key-bound : (n : ℕ) (xs : List ℕ) → length xs ≤ n → fieldKey xs < 32 ^ n
+unfolding fieldKey
 key-bound zero [] h = omega arith
 key-bound zero (c ∷ cs) h = absurd (not-suc-le-zero h)
 key-bound (suc n) [] h =
-    let i : keyOf [] < 32 ^ n = key-bound n [] zero-le in
+    let i : fieldKey [] < 32 ^ n = key-bound n [] zero-le in
     let p : 32 ^ suc n ≡ 32 ^ n * 32 = pow-suc 32 n in
     omega arith
 key-bound (suc n) (c ∷ cs) h =
-    let i : keyOf cs < 32 ^ n = key-bound n cs (le-of-suc-le-suc h) in
+    let i : fieldKey cs < 32 ^ n = key-bound n cs (le-of-suc-le-suc h) in
     let p : 32 ^ suc n ≡ 32 ^ n * 32 = pow-suc 32 n in
     let l : capitalOf c ≤ 95 = capital-high c in
     omega arith
 
 module _ (w : List ℕ) (i : ℕ) where
   abbrev made : ℕ
-  made = keyOf (drop i (take 10 w))
+  made = fieldKey (drop i (take 10 w))
 
   ten : length (take 10 w) ≡ min 10 (length w)
   ten = length-take 10 w
@@ -198,15 +198,15 @@ module _ (w : List ℕ) (i : ℕ) where
       omega arith
 
   pub key-none : i ≡ min (length w) 10 → 0 ≡ made
-  unfolding keyOf
+  unfolding fieldKey
   key-none e =
       let t : length (take 10 w) ≡ min 10 (length w) = ten in
       let l : length (take 10 w) ≤ i = omega arith in
-      sym (ap keyOf (drop-of-length-le (take 10 w) l))
+      sym (ap fieldKey (drop-of-length-le (take 10 w) l))
 
   pub key-more : {k c : ℕ} → 0 < i → i ≤ min (length w) 10 → k ≡ made → c ≡ capitalOf (getD w (i - 1) 0)
-      → k * 32 + c - 64 ≡ keyOf (drop (i - 1) (take 10 w))
-  unfolding keyOf
+      → k * 32 + c - 64 ≡ fieldKey (drop (i - 1) (take 10 w))
+  unfolding fieldKey
   key-more {k} {c} p h e f =
       let t : length (take 10 w) ≡ min 10 (length w) = ten in
       let l : i - 1 < length (take 10 w) = omega arith in
@@ -216,7 +216,7 @@ module _ (w : List ℕ) (i : ℕ) where
       drop-cons (take 10 w) (i - 1) 0 l ∙ (λ j. g j ∷ drop (s j) (take 10 w)) in
       let m : 65 ≤ capitalOf (getD w (i - 1) 0) = capital-low (getD w (i - 1) 0) in
       let z : k * 32 + c - 64 ≡ made * 32 + (capitalOf (getD w (i - 1) 0) - 64) = omega arith in
-      z ∙ sym (ap keyOf d)
+      z ∙ sym (ap fieldKey d)
 
   pub key-low : {c : ℕ} → c ≡ capitalOf (getD w i 0) → 64 ≤ c
   key-low e = let m : 65 ≤ capitalOf (getD w i 0) = capital-low (getD w i 0) in omega arith

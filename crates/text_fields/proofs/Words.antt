@@ -18,19 +18,21 @@ use Rattle.text_records.specs.declared.Cleaned.{Cleaned}
 use Rattle.text_records.specs.Cleaning.{cleanedOf, chars, columns}
 use Rattle.text_records.proofs.Cleaning.{cleaned-text, cleaned-columns}
 use Rattle.text_fields.specs.declared.Field.{Field}
-use Rattle.text_fields.specs.Words.{isDelimiter, isWord, Word, missing, wordsIn, wordsOf, wordsFrom}
-use Rattle.text_fields.specs.Tables.{delimiterClass, wordClass, classOf, ofClass}
-use Rattle.text_fields.specs.Words.{fieldsOf, headOf, tailOf, startAt, endAt, isMore, fieldAt, wordAt}
+use Rattle.text_fields.specs.Words.{isDelimiter, isWord, Word, missing, wordsIn, wordsOf}
+use Rattle.text_fields.specs.Places.{wordsFrom}
+use Rattle.text_fields.specs.Tables.{delimiterClass, wordClass, charClass, ofClass}
+use Rattle.text_fields.specs.Words.{fieldsOf, headOf, tailOf}
+use Rattle.text_fields.specs.Places.{startAt, endAt, isMore, fieldAt, wordAt}
 
 -- ---- the classes are the two tests
 class-delimiter : (c : ℕ) → ofClass delimiterClass c ≡ isDelimiter c
-unfolding classOf
+unfolding charClass
 class-delimiter c = by-bool (isDelimiter c)
     (λ e. ap (λ (b : Bool). eqb (cond b delimiterClass wordClass) delimiterClass) e ∙ sym e)
     (λ e. ap (λ (b : Bool). eqb (cond b delimiterClass wordClass) delimiterClass) e ∙ sym e)
 
 class-word : (c : ℕ) → ofClass wordClass c ≡ isWord c
-unfolding classOf
+unfolding charClass
 class-word c = by-bool (isDelimiter c)
     (λ e. ap (λ (b : Bool). eqb (cond b delimiterClass wordClass) wordClass) e ∙ sym (ap not e))
     (λ e. ap (λ (b : Bool). eqb (cond b delimiterClass wordClass) wordClass) e ∙ sym (ap not e))

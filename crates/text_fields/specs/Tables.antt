@@ -21,11 +21,11 @@ delimiterClass = 100
 abbrev pub wordClass : ℕ
 wordClass = 119
 
-unfoldable pub classOf : ℕ → ℕ
-classOf c = cond (isDelimiter c) delimiterClass wordClass
+unfoldable pub charClass : ℕ → ℕ
+charClass c = cond (isDelimiter c) delimiterClass wordClass
 
 abbrev pub ofClass : ℕ → ℕ → Bool
-ofClass k c = eqb (classOf c) k
+ofClass k c = eqb (charClass c) k
 
 abbrev pub isCapital : ℕ → Bool
 isCapital c = leb 65 c && leb c 90
@@ -35,13 +35,13 @@ unfoldable pub capitalOf : ℕ → ℕ
 capitalOf c = cond (isCapital (upper c)) (upper c) 95
 
 -- five bits a character, the first lowest
-unfoldable pub keyOf : List ℕ → ℕ
-keyOf [] = 0
-keyOf (c ∷ cs) = keyOf cs * 32 + (capitalOf c - 64)
+unfoldable pub fieldKey : List ℕ → ℕ
+fieldKey [] = 0
+fieldKey (c ∷ cs) = fieldKey cs * 32 + (capitalOf c - 64)
 
 -- the keys of a table's names
 unfoldable pub keysOf : {A : Type 0} → List (Row A) → List ℕ
-keysOf rows = map (λ r. keyOf (take 10 (r .name))) rows
+keysOf rows = map (λ r. fieldKey (take 10 (r .name))) rows
 
 abbrev pub differs : ℕ → ℕ → Bool
 differs k x = not (eqb k x)
@@ -57,5 +57,5 @@ meanings rows = map (λ r. r .means) rows
 unfoldable pub keywordAt : ℕ → Keyword
 keywordAt row = getD (meanings keywordRows) row Unknown
 
-unfoldable pub itemAt : ℕ → Item
-itemAt row = getD (meanings itemRows) row Other
+unfoldable pub itemRow : ℕ → Item
+itemRow row = getD (meanings itemRows) row Other

@@ -1,14 +1,13 @@
--- The fields of a record: paper 01, "Records (§5)", on delimiters, and §5.3.
+-- The fields of a record: paper 01, "Records (§5)", on delimiters and fields; §5.4.
 -- Assumes nothing.
 use mathlib.Core.Bool.{Bool, cond, not}
 use mathlib.Core.List.{List, [], _∷_}
-use Prim.Native.Nat.{ℕ, zero, suc, _+_, _-_}
-use lib.Dec.{eqb, ltb}
+use Prim.Native.Nat.{ℕ, zero, suc}
+use lib.Dec.{eqb}
 use lib.ListN.{length, getD, take, drop}
 use Rattle.cells.specs.Text.{bytes}
 use Rattle.cells.specs.Scan.{span}
 use Rattle.text_records.specs.Cleaning.{has, chars, columns, keptOf}
-use Rattle.text_fields.specs.declared.Field.{Field}
 
 -- tab, space, and , / ; < = > @
 unfoldable pub isDelimiter : ℕ → Bool
@@ -39,10 +38,6 @@ wordsIn (suc n) text columns =
 unfoldable pub wordsOf : List ℕ → List ℕ → List Word
 wordsOf text columns = wordsIn (length text) text columns
 
--- those from a place on
-abbrev pub wordsFrom : List ℕ → List ℕ → ℕ → List Word
-wordsFrom text columns at = wordsOf (drop at text) (drop at columns)
-
 -- the fields of a record, from its characters as received
 unfoldable pub fieldsOf : List ℕ → List Word
 fieldsOf xs = wordsOf (chars (keptOf xs)) (columns (keptOf xs))
@@ -55,23 +50,3 @@ headOf (w ∷ ws) = w
 abbrev pub tailOf : List Word → List Word
 tailOf [] = []
 tailOf (w ∷ ws) = ws
-
--- where the first field from a place on starts and ends: both at the end of the text where there is none
-unfoldable pub startAt : List ℕ → ℕ → ℕ
-startAt text at = at + span isDelimiter (drop at text)
-
-unfoldable pub endAt : List ℕ → ℕ → ℕ
-endAt text at = startAt text at + span isWord (drop (startAt text at) text)
-
-abbrev pub isMore : List ℕ → ℕ → Bool
-isMore text at = ltb (startAt text at) (length text)
-
-abbrev pub fieldAt : List ℕ → List ℕ → ℕ → Field
-fieldAt text columns at = record { start = startAt text at; end = endAt text at; column = getD columns (startAt text at) 0 }
-
--- the field that stands at a place in the text
-abbrev pub wordIn : List ℕ → Field → Word
-wordIn text f = record { chars = take (f .end - f .start) (drop (f .start) text); column = f .column }
-
-abbrev pub wordAt : List ℕ → List ℕ → ℕ → Word
-wordAt text columns at = wordIn text (fieldAt text columns at)

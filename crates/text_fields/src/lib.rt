@@ -4,11 +4,11 @@ ghost use mathlib.Core.Path.{_≡_};
 ghost use Prim.Native.Nat.{_+_, _-_, _≤_, _<_};
 ghost use lib.ListN.{length, take, drop};
 ghost use Rattle.cells.specs.Scan.{span};
-ghost use Rattle.text_fields.specs.Words.{isMore, fieldAt, wordIn};
-ghost use Rattle.text_fields.specs.Tables.{classOf, ofClass};
+ghost use Rattle.text_fields.specs.Places.{isMore, fieldAt, wordIn};
+ghost use Rattle.text_fields.specs.Tables.{charClass, ofClass};
 ghost use Rattle.text_fields.specs.Keywords.{keywordOf, itemOf};
-ghost use Rattle.text_fields.specs.Tables.{keywordAt, itemAt};
-ghost use Rattle.text_fields.specs.Tables.{capitalOf, keyOf, rowAt};
+ghost use Rattle.text_fields.specs.Tables.{keywordAt, itemRow};
+ghost use Rattle.text_fields.specs.Tables.{capitalOf, fieldKey, rowAt};
 use cells::at_most;
 use cells::byte;
 
@@ -70,7 +70,7 @@ const LAST_DELIMITER: u8 = b'@';
 const DELIMITERS: u64 = 52917604867637249;
 
 fn class(c: u8) -> u8
-    ensures { λ r. ⌜ r ≡ classOf c ⌝ }
+    ensures { λ r. ⌜ r ≡ charClass c ⌝ }
 {
     if c < FIRST_DELIMITER {
         return WORD;
@@ -150,7 +150,7 @@ fn capital(c: u8) -> u8
 
 // The first ten characters as one number, five bits each, so that a word is compared at once.
 fn key(word: &[u8]) -> u64
-    ensures { λ r. ⌜ r ≡ keyOf (take 10 (now (word .entry))) ⌝ }
+    ensures { λ r. ⌜ r ≡ fieldKey (take 10 (now (word .entry))) ⌝ }
 {
     let mut i = at_most(word.len(), 10);
     let mut k = 0u64;
@@ -236,7 +236,7 @@ const ITEM_KEYS: [u64; 5] = [
 const ITEMS: [Item; 5] = [Item::All, Item::Cues, Item::Groups, Item::Patch, Item::Subs];
 
 fn item_at(row: usize) -> Item
-    ensures { λ r. ⌜ r ≡ itemAt row ⌝ }
+    ensures { λ r. ⌜ r ≡ itemRow row ⌝ }
 {
     if row < 5 { ITEMS[row] } else { Item::Other }
 }

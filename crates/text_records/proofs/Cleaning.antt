@@ -19,7 +19,7 @@ use Rattle.text_records.specs.declared.Seen.{Seen}
 use Rattle.text_records.specs.declared.Record.{Record}
 use Rattle.text_records.specs.Received.{longest, recordOf, textOf}
 use Rattle.text_records.proofs.Received.{received-text}
-use Rattle.text_records.specs.Cleaning.{isHigh, isControl, isMark, Kept, keptFrom, keptOf, has, chars, columns, cleanedOf}
+use Rattle.text_records.specs.Cleaning.{isHigh, isControl, isMark, KeptChar, keptFrom, keptOf, has, chars, columns, cleanedOf}
 use Rattle.text_records.specs.Kinds.{highKind, controlKind, markKind, keptKind, kindOf, seenFrom}
 
 -- ---- a character's kind
@@ -165,7 +165,7 @@ seen-all s i high control h =
 
 -- ---- one pass: what holds before place i
 pub record Sofar (s text places : List ℕ) (n : ℕ) (high control : Bool) (i : ℕ) : Type 0 where
-  pub ks : List Kept
+  pub ks : List KeptChar
   pub within : i ≤ length s
   pub size : n ≡ length ks
   pub few : n ≤ i
@@ -188,24 +188,24 @@ sofar-none s =
     }
 
 -- the answer, where all that is kept is held
-cleaned-is : (s text places : List ℕ) (n : ℕ) (ks : List Kept) {h c : Bool} → n ≡ length ks → text ≡ padded longest (chars ks)
+cleaned-is : (s text places : List ℕ) (n : ℕ) (ks : List KeptChar) {h c : Bool} → n ≡ length ks → text ≡ padded longest (chars ks)
     → places ≡ padded longest (columns ks) → keptOf s ≡ ks → seenFrom false false s ≡ seen h c
     → _≡_ {A = Cleaned} (record { text = text; columns = places; count = n; high = h; control = c }) (cleanedOf s)
 unfolding cleanedOf seenFrom
 cleaned-is s text places n ks e f g k v =
-    let f' : text ≡ padded longest (chars (keptOf s)) = f ∙ ap (λ (x : List Kept). padded longest (chars x)) (sym k) in
-    let g' : places ≡ padded longest (columns (keptOf s)) = g ∙ ap (λ (x : List Kept). padded longest (columns x)) (sym k) in
-    let e' : n ≡ length (keptOf s) = e ∙ ap (λ (x : List Kept). length x) (sym k) in
+    let f' : text ≡ padded longest (chars (keptOf s)) = f ∙ ap (λ (x : List KeptChar). padded longest (chars x)) (sym k) in
+    let g' : places ≡ padded longest (columns (keptOf s)) = g ∙ ap (λ (x : List KeptChar). padded longest (columns x)) (sym k) in
+    let e' : n ≡ length (keptOf s) = e ∙ ap (λ (x : List KeptChar). length x) (sym k) in
     λ j. record { text = f' j; columns = g' j; count = e' j; high = sym v j .high; control = sym v j .control }
 
 module _ (s text places : List ℕ) (n : ℕ) (high control : Bool) (i : ℕ) {k : ℕ}
     (o : Sofar s text places n high control i) (l : i < length s) (e : k ≡ kindOf (getD s i 0)) where
-  abbrev this : Kept
+  abbrev this : KeptChar
   this = record { char = getD s i 0; column = i + 1 }
 
-  is-at : {ys : List Kept} → keptFrom (i + 1) (getD s i 0 ∷ drop (i + 1) s) ≡ ys → keptOf s ≡ o .ks ++ ys
+  is-at : {ys : List KeptChar} → keptFrom (i + 1) (getD s i 0 ∷ drop (i + 1) s) ≡ ys → keptOf s ≡ o .ks ++ ys
   is-at f =
-      o .same ∙ ap (λ (xs : List ℕ). o .ks ++ keptFrom (i + 1) xs) (front s i l) ∙ ap (λ (ys : List Kept). o .ks ++ ys) f
+      o .same ∙ ap (λ (xs : List ℕ). o .ks ++ keptFrom (i + 1) xs) (front s i l) ∙ ap (λ (ys : List KeptChar). o .ks ++ ys) f
 
   -- a character that is kept
   pub sofar-kept : length s ≤ longest → k ≡ keptKind → Sofar s (set text n (getD s i 0)) (set places n (i + 1)) (n + 1) high control (i + 1)
@@ -280,8 +280,8 @@ unfolding keptFrom
 kept-few column [] = zero-le
 kept-few column (c ∷ cs) =
     let r : length (keptFrom (column + 1) cs) ≤ length cs = kept-few (column + 1) cs in
-    by-test (λ (ks : List Kept). length ks ≤ suc (length cs)) (isMark c) _ _ (λ e. zero-le)
-    (λ e. by-test (λ (ks : List Kept). length ks ≤ suc (length cs)) (isHigh c || isControl c) _ _ (λ f. omega arith) (λ f. suc-le-suc r))
+    by-test (λ (ks : List KeptChar). length ks ≤ suc (length cs)) (isMark c) _ _ (λ e. zero-le)
+    (λ e. by-test (λ (ks : List KeptChar). length ks ≤ suc (length cs)) (isHigh c || isControl c) _ _ (λ f. omega arith) (λ f. suc-le-suc r))
 
 pub kept-length : (xs : List ℕ) → length (keptOf xs) ≤ length xs
 kept-length xs = kept-few 1 xs

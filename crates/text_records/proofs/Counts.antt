@@ -10,7 +10,7 @@ use lib.ListN.{length, length-append, length-take}
 use Rattle.cells.specs.Scan.{span}
 use Rattle.cells.proofs.Split.{clash}
 use Rattle.text_records.specs.Stream.{isText, piecesOf, bare, recordsOf}
-use Rattle.text_records.specs.Cleaning.{isHigh, isControl, isMark, has, Kept, keptFrom, keptOf}
+use Rattle.text_records.specs.Cleaning.{isHigh, isControl, isMark, has, KeptChar, keptFrom, keptOf}
 use Rattle.text_records.proofs.Stream.{pieces-join}
 use Rattle.text_records.proofs.Cleaning.{high-control, mark-plain, mark-text}
 
@@ -18,7 +18,7 @@ use Rattle.text_records.proofs.Cleaning.{high-control, mark-plain, mark
 abbrev pub tell : Bool → ℕ
 tell b = cond b 1 0
 
-seen-by : (a b m : Bool) (p q : Bool) (n : ℕ) (k : Kept) (ks : List Kept) → (a ≡ true → b ≡ false) → (m ≡ true → a ≡ false) → (m ≡ true → b ≡ false)
+seen-by : (a b m : Bool) (p q : Bool) (n : ℕ) (k : KeptChar) (ks : List KeptChar) → (a ≡ true → b ≡ false) → (m ≡ true → a ≡ false) → (m ≡ true → b ≡ false)
     → tell p + tell q + length ks ≤ n → tell (a || p) + tell (b || q) + length (cond m [] (cond (a || b) ks (k ∷ ks))) ≤ suc n
 seen-by true true m p q n k ks e f g h = clash refl (e refl)
 seen-by true false true p q n k ks e f g h = clash refl (f refl)

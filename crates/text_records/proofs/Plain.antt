@@ -14,11 +14,11 @@ use Rattle.cells.specs.Search.{countFrom}
 use Rattle.cells.proofs.Search.{count-hit, count-miss, count-turn, count-skip, count-end}
 use Rattle.cells.proofs.Split.{by-bool, by-eq, or-left, or-right}
 use Rattle.text_records.specs.Cleaning.{isHigh, isControl, isMark}
-use Rattle.text_records.specs.Kinds.{keptKind, kindOf, isOther, otherAt, othersOf, allPlain}
+use Rattle.text_records.specs.Kinds.{keptKind, kindOf, isSpecial, otherAt, othersOf, allPlain}
 
 -- ---- a plain character is kept
-other-kind : (c : ℕ) → isOther c ≡ false → keptKind ≡ kindOf c
-unfolding isOther kindOf isHigh isControl isMark
+other-kind : (c : ℕ) → isSpecial c ≡ false → keptKind ≡ kindOf c
+unfolding isSpecial kindOf isHigh isControl isMark
 other-kind c e =
     let f : (leb 127 c || eqb c 33) ≡ false = or-right (ltb c 32) (leb 127 c || eqb c 33) e in
     let a : 32 ≤ c = ltb-false c 32 (or-left (ltb c 32) (leb 127 c || eqb c 33) e) in

@@ -22,19 +22,19 @@ unfoldable pub isMark : ℕ → Bool
 isMark c = eqb c 33
 
 -- a character that is kept, and its column in the record as received
-pub record Kept : Type 0 where
+pub record KeptChar : Type 0 where
   pub char : ℕ
   pub column : ℕ
 
 -- of the characters from a column on: those up to the first `!` that are not ignored
-unfoldable pub keptFrom : ℕ → List ℕ → List Kept
+unfoldable pub keptFrom : ℕ → List ℕ → List KeptChar
 keptFrom column [] = []
 keptFrom column (c ∷ cs) =
     let r = keptFrom (column + 1) cs in
     cond (isMark c) [] (cond (isHigh c || isControl c) r (record { char = c; column = column } ∷ r))
 
 -- columns are counted from 1
-abbrev pub keptOf : List ℕ → List Kept
+abbrev pub keptOf : List ℕ → List KeptChar
 keptOf xs = keptFrom 1 xs
 
 -- whether a character of a sort stands anywhere in the record, its comment with it
@@ -43,11 +43,11 @@ has p [] = false
 has p (c ∷ cs) = p c || has p cs
 
 -- the characters and the columns of what is kept
-abbrev pub chars : List Kept → List ℕ
-chars ks = map (λ (k : Kept). k .char) ks
+abbrev pub chars : List KeptChar → List ℕ
+chars ks = map (λ (k : KeptChar). k .char) ks
 
-abbrev pub columns : List Kept → List ℕ
-columns ks = map (λ (k : Kept). k .column) ks
+abbrev pub columns : List KeptChar → List ℕ
+columns ks = map (λ (k : KeptChar). k .column) ks
 
 -- all of it, each list filled up with zeros to the length of a record
 unfoldable pub cleanedOf : List ℕ → Cleaned

@@ -27,11 +27,11 @@ unfoldable pub kindOf : ℕ → ℕ
 kindOf c = cond (isHigh c) highKind (cond (isControl c) controlKind (cond (isMark c) markKind keptKind))
 
 -- not plain: below 20 hex, above 7E hex, or `!`
-unfoldable pub isOther : ℕ → Bool
-isOther c = ltb c 32 || (leb 127 c || eqb c 33)
+unfoldable pub isSpecial : ℕ → Bool
+isSpecial c = ltb c 32 || (leb 127 c || eqb c 33)
 
 abbrev pub otherAt : List ℕ → ℕ → Bool
-otherAt s i = isOther (getD s i 0)
+otherAt s i = isSpecial (getD s i 0)
 
 -- how many characters are not plain
 unfoldable pub othersOf : List ℕ → ℕ

@@ -8,7 +8,7 @@ ghost use lib.ListN.{length, take, drop};
 ghost use Rattle.text_records.specs.Stream.{isEnd, terminated, recordEnd, nextStart};
 ghost use Rattle.text_records.specs.Received.{recordOf, overLong, textOf};
 ghost use Rattle.text_records.specs.Cleaning.{cleanedOf};
-ghost use Rattle.text_records.specs.Kinds.{kindOf, isOther, allPlain, seenFrom};
+ghost use Rattle.text_records.specs.Kinds.{kindOf, isSpecial, allPlain, seenFrom};
 use cells::at_most;
 use cells::byte;
 
@@ -148,7 +148,7 @@ fn kind(c: u8) -> u8
 
 // A character that is not plain: it may be ignored, or end the text. A tab is rare, and counts as such.
 fn is_other(c: u8) -> bool
-    ensures { λ r. ⌜ r ≡ isOther c ⌝ }
+    ensures { λ r. ⌜ r ≡ isSpecial c ⌝ }
 {
     if c < SPACE {
         return true;

@@ -31,13 +31,14 @@ use Rattle.theorem_told.specs.Edges.{smallest}
 use Rattle.show.specs.declared.Admission.the-variants.{Admitted}
 use Rattle.show.specs.declared.Loaded.the-variants.{Done}
 use Rattle.show.specs.declared.Written.the-variants.{Done as WriteDone}
-use Rattle.show.specs.Calls.{mostBytes, admissionOf, loaded, loadDone, loadBy, loadCall, written, putCall, writeBy, writeCall}
+use Rattle.show.specs.Calls.{mostBytes, admissionOf, loadedAs, loadDone, loadBy, loadCall, writtenAs, putCall, writeBy, writeCall}
 use Rattle.show.proofs.Laws.{admitted, load-by, write-by}
 use Rattle.cells.specs.Search.{firstFrom, allFrom, countFrom}
 use Rattle.store_desk.specs.Size.{allOf, inRangeOf, levelWidth, levelsLength, slotLength, subSlots, slotsOf, patchStart, entriesOf, neededOf}
 use Rattle.store_desk.specs.Name.{firstSlot, slotCount, pagesOf, kindAt, supported, eqKind, eqKey, eqName, lessKey, okNumber, okSub, okWithin, okPage, okName, subSlot, entryOf}
 use Rattle.store_head.specs.Pack.{total, packed, unpacked}
-use Rattle.store_head.specs.Layout.{encodeHead, decodeHead, firstWord, secondWord, thirdWord, wordOf, quickOf, encodePatch, decodePatch}
+use Rattle.store_head.specs.Layout.{encodeHead, decodeHead, wordOf, quickOf, encodePatch, decodePatch}
+use Rattle.store_head.specs.Words.{firstWord, secondWord, thirdWord}
 use Rattle.store.specs.Slots.{slotAt, putSlot, entryAt, putEntry, headAt, levelsAt, levelPlace, holdsAt, find, onFound, placeOf}
 use Rattle.store.specs.Form.{hasTimes, hasLink, isZero, linkFits, valuesFit, placeFits, shares, slotFits, patchFits, entryFits}
 use Rattle.theorem_called.specs.Called.{WriteThenLoad, EdgesCalled, GoodAfter, RehearsedCalls}
@@ -54,7 +55,7 @@ load-answers d t reps stream r h = sym (load-by d t reps stream Admitted (not-aw
 
 -- and writing it, where the stream is short enough and the output has room
 pub write-answers : (d : Desk) (s out : List ℕ) → Ready d s → length (streamOf d s) ≤ mostBytes → length (streamOf d s) ≤ length out
-    → writeCall d s out ≡ written (WriteDone (length (streamOf d s))) (put out 0 (streamOf d s))
+    → writeCall d s out ≡ writtenAs (WriteDone (length (streamOf d s))) (put out 0 (streamOf d s))
 unfolding writeBy putCall
 write-answers d s out r h g =
     let a : ltb mostBytes (length (streamOf d s)) ≡ false = le-ltb _ _ h in
@@ -69,8 +70,8 @@ write-then-load d s out t reps rs b rt h g =
       stream = part-same out 0 (streamOf d s) (length (streamOf d s)) (omega arith) refl;
       loads =
           load-answers d t reps (streamOf d s) rt h
-          ∙ ap (λ z. loaded (Done z) (loadOf d t (streamOf d s) .store) (storedIn reps (allReports (loadOf d t (streamOf d s))))) (x .told)
-          ∙ ap (λ (q : List ℕ). loaded (Done (allObeyed (length (linesOf d s)))) (loadOf d t (streamOf d s) .store) q) (x .list reps);
+          ∙ ap (λ z. loadedAs (Done z) (loadOf d t (streamOf d s) .store) (storedIn reps (allReports (loadOf d t (streamOf d s))))) (x .told)
+          ∙ ap (λ (q : List ℕ). loadedAs (Done (allObeyed (length (linesOf d s)))) (loadOf d t (streamOf d s) .store) q) (x .list reps);
       show = x .show;
     }
 

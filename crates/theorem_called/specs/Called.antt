@@ -21,15 +21,15 @@ use Rattle.theorem_told.specs.Edges.{smallest}
 use Rattle.show.specs.declared.Loaded.the-variants.{Done}
 use Rattle.show.specs.declared.Written.the-variants.{Done as WriteDone}
 use Rattle.show.specs.declared.Admission.the-variants.{Admitted}
-use Rattle.show.specs.Calls.{mostBytes, admissionOf, loaded, loadDone, loadCall, written, writeCall}
+use Rattle.show.specs.Calls.{mostBytes, admissionOf, loadedAs, loadDone, loadCall, writtenAs, writeCall}
 
 -- Write a show, and load what was written into any store in good form of the same desk: both calls answer, the load with no report and only
 -- obeyed records, the lent list as it was, and the same show is kept
 pub record CallsReadBack (d : Desk) (s out t reps : List ℕ) : Type 0 where
-  pub writes : writeCall d s out ≡ written (WriteDone (length (streamOf d s))) (put out 0 (streamOf d s))
+  pub writes : writeCall d s out ≡ writtenAs (WriteDone (length (streamOf d s))) (put out 0 (streamOf d s))
   pub stream : take (length (streamOf d s)) (put out 0 (streamOf d s)) ≡ streamOf d s
   pub loads : loadCall d t reps (streamOf d s)
-      ≡ loaded (Done (allObeyed (length (linesOf d s)))) (loadOf d t (streamOf d s) .store) reps
+      ≡ loadedAs (Done (allObeyed (length (linesOf d s)))) (loadOf d t (streamOf d s) .store) reps
   pub show : SameShow d s (loadOf d t (streamOf d s) .store)
 
 -- where the stream is at most 262,143 characters, and the output has room for it

@@ -36,15 +36,15 @@ use Rattle.load.proofs.Read.{ChangeOk}
 use Rattle.load.proofs.Deed.{WipesFit, Deed, resting, skipping, opening, editing, setting, patching, clearing, record-deed}
 use Rattle.load.proofs.Steps.{level-ready, untouched}
 use Rattle.theorem_rehearse.specs.Frame.{wipesMemory, targetsMemory, changesMemory, patchesDimmer, wipesDimmers, targetsDimmer, changesDimmer}
-use Rattle.theorem_rehearse.specs.Frame.{Framed, Frame, IsOpen, Own, Quiet, Idle}
+use Rattle.theorem_rehearse.specs.Frame.{Framed, Frame, NamesOpen, Own, Quiet, Idle}
 
 -- ---- what holds of an ask, by its form
 abbrev pub AskFits : Desk → State → Ask → Type 0
 AskFits d s (rests o) = Unit {0}
 AskFits d s (skips o) = Unit {0}
 AskFits d s (opens k y) = InRange d → okName d (name k y) ≡ true
-AskFits d s (edits n e) = IsOpen s n × ChangeOk (n .kind) e
-AskFits d s (items (memory n) es) = IsOpen s n × AllFit d es
+AskFits d s (edits n e) = NamesOpen s n × ChangeOk (n .kind) e
+AskFits d s (items (memory n) es) = NamesOpen s n × AllFit d es
 AskFits d s (items (page p) es) = Within 1 p (d .«patch_pages») × AllFit d es
 AskFits d s (clears xs) = WipesFit d xs
 

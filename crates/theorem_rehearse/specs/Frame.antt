@@ -84,12 +84,12 @@ abbrev pub Frame : Desk → List ℕ → State → List ℕ → Type 0
 Frame d t s r = Ready d t → Framed d t (recordStep d s r t .store) (changesMemory (askOf d s r)) (changesDimmer (askOf d s r))
 
 -- the memory of a change, or of levels, is the open one
-abbrev pub IsOpen : State → Name → Type 0
-IsOpen s n = (s .«open» ≡ Memory (n .kind)) × (n .key ≡ s .key)
+abbrev pub NamesOpen : State → Name → Type 0
+NamesOpen s n = (s .«open» ≡ Memory (n .kind)) × (n .key ≡ s .key)
 
 pub record Own (d : Desk) (s : State) (r : List ℕ) : Type 0 where
-  pub change : (n : Name) (e : Edit) → askOf d s r ≡ edits n e → IsOpen s n
-  pub levels : (n : Name) (es : List Entry) → askOf d s r ≡ items (memory n) es → IsOpen s n
+  pub change : (n : Name) (e : Edit) → askOf d s r ≡ edits n e → NamesOpen s n
+  pub levels : (n : Name) (es : List Entry) → askOf d s r ≡ items (memory n) es → NamesOpen s n
 
 -- one that asks for nothing of the store changes no byte, on whatever store
 pub record Quiet (d : Desk) (t : List ℕ) (s : State) (r : List ℕ) : Type 0 where

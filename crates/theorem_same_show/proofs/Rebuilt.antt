@@ -26,7 +26,7 @@ use Rattle.store.specs.Slots.{keyOf}
 use Rattle.store.specs.View.{Memory}
 use Rattle.store.specs.Change.{blankHead, editHead}
 use Rattle.store.specs.Form.{hasTimes, hasLink, timeFits, linkFits}
-use Rattle.store.specs.Memories.{blankMemory, editLevels, editMemory, has, InTime}
+use Rattle.store.specs.Memories.{blankMemory, editLevels, editMemory, canHave, InTime}
 use Rattle.store.proofs.Levels.{level-next}
 use Rattle.store.proofs.Edits.{Values}
 use Rattle.save_lines.specs.Line.{Lit, litFrom}
@@ -46,7 +46,7 @@ edit-append d (e ∷ a) b m = edit-append d a b (editMemory d e m)
 -- of a kind that can have them, and in range
 abbrev pub AllHave : Kind → List Edit → Type 0
 AllHave k [] = Unit {0}
-AllHave k (e ∷ es) = (has k e ≡ true) × InTime e × AllHave k es
+AllHave k (e ∷ es) = (canHave k e ≡ true) × InTime e × AllHave k es
 
 pub have-append : (k : Kind) (a b : List Edit) → AllHave k a → AllHave k b → AllHave k (a ++ b)
 have-append k [] b f g = g
@@ -240,14 +240,14 @@ module _ (d : Desk) (k : Kind) (h : Head) (v : Values k h) (f : HeadFits h) (ls 
       ∙ whole-head u
 
 -- the changes are of the memory's kind, and in range
-if-have : (k : Kind) (present : ℕ) (e : Edit) → ((present ≡ 0 → ⊥) → (has k e ≡ true) × InTime e) → AllHave k (ifPresent present e)
+if-have : (k : Kind) (present : ℕ) (e : Edit) → ((present ≡ 0 → ⊥) → (canHave k e ≡ true) × InTime e) → AllHave k (ifPresent present e)
 if-have k present e f =
     by-eq present 0
     (λ z. subst (AllHave k) (sym (if-absent present e z)) tt)
     (λ ne. subst (AllHave k) (sym (if-present present e ne)) (f ne .0, f ne .1, tt))
 
 pub head-have : (k : Kind) (h : Head) → Values k h → AllHave k (headEdits h)
-unfolding headEdits has
+unfolding headEdits canHave
 head-have k h v =
     have-append k (ifPresent (h .up) (Up (h .«up_fade») (h .«up_delay»))) _
     (if-have k (h .up) (Up (h .«up_fade») (h .«up_delay»))
@@ -271,7 +271,7 @@ head-have k h v =
     (λ ne. (link-can (hasLink k) h (v .link) ne, link-number (hasLink k) h (v .link) ne)))))
 
 pub lit-have : (k : Kind) (ps : List Lit) → AllHave k (litEdits ps)
-unfolding litEdits has
+unfolding litEdits canHave
 lit-have k [] = tt
 lit-have k (p ∷ ps) = (refl, tt, lit-have k ps)
 

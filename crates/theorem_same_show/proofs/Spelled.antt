@@ -15,7 +15,8 @@ use Rattle.cells.specs.Text.{bytes}
 use Rattle.cells.proofs.Split.{or-false, not-of-true, not-of-false, not-not}
 use Rattle.cells.proofs.Scan.{span-append, span-miss, span-hit, span-nil, all-below}
 use Rattle.text_records.specs.Cleaning.{has, chars, columns, keptOf}
-use Rattle.text_fields.specs.Words.{isDelimiter, isWord, Word, wordsIn, wordsOf, fieldsOf, startAt, endAt, isMore, wordAt}
+use Rattle.text_fields.specs.Words.{isDelimiter, isWord, Word, wordsIn, wordsOf, fieldsOf}
+use Rattle.text_fields.specs.Places.{startAt, endAt, isMore, wordAt}
 use Rattle.text_fields.proofs.Words.{words-some}
 use Rattle.value_written.specs.Text.{isPlain}
 use Rattle.value_written.proofs.Texts.{by-plain, plain-in}

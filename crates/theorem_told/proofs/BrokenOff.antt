@@ -13,7 +13,7 @@ use Rattle.store_desk.specs.declared.Desk.{Desk}
 use Rattle.text_records.specs.Stream.{recordsOf}
 use Rattle.load.specs.Step.{recordStep, conditionsOf, nothingOpen}
 use Rattle.load.specs.Run.{Run, stops, reportsAt, runFrom, loadOf, allReports}
-use Rattle.theorem_told.specs.Classes.{joined, goneOn}
+use Rattle.theorem_told.specs.Classes.{runsJoined, goneOn}
 use Rattle.theorem_told.specs.Cut.{endedBefore, cutRecord, endedLoad, brokenOff}
 use Rattle.theorem_told.proofs.Runs.{run-append, run-read, alone, run-one, gone-none, gone-stopped, gone-joined}
 use Rattle.theorem_told.proofs.Cut.{records-cut, ended-few}
@@ -71,13 +71,13 @@ module _ (d : Desk) (t stream : List ℕ) (k : ℕ) where
   -- a record under way: the state after the records that ended, and then that one
   module _ (r : List ℕ) (e : cutRecord k stream ≡ r ∷ []) (h : endedLoad d t stream k .stopped ≡ false) where
     broken-joined : loadOf d t (take k stream)
-        ≡ joined (endedLoad d t stream k)
+        ≡ runsJoined (endedLoad d t stream k)
         (alone (endedBefore k stream + 1) r (recordStep d (endedLoad d t stream k .state) r (endedLoad d t stream k .store)))
     broken-joined =
         broken-load
         ∙ ap (λ (rs : List (List ℕ)). goneOn d (endedBefore k stream) (endedLoad d t stream k) rs) e
         ∙ gone-joined d (endedBefore k stream) (endedLoad d t stream k) (r ∷ []) h
-        ∙ ap (λ (x : Run). joined (endedLoad d t stream k) x)
+        ∙ ap (λ (x : Run). runsJoined (endedLoad d t stream k) x)
         (run-one d (endedBefore k stream) (endedLoad d t stream k .state) (endedLoad d t stream k .store) r)
 
     pub broken-store : loadOf d t (take k stream) .store

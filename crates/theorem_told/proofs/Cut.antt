@@ -18,7 +18,7 @@ use Rattle.cells.proofs.Put.{part-of-front}
 use Rattle.cells.proofs.Split.{by-test, by-bool, by-lt, by-le, cond-true, cond-false}
 use Rattle.text_records.specs.Stream.{CR, LF, isEnd, isText, terminated, terminatorOf, recordEnd, pieceLength, piecesIn, piecesOf, bare, recordsOf}
 use Rattle.text_records.proofs.Stream.{terminated-two, terminated-some, piece-shorter, pieces-some, bare-piece, records-at, records-end, start-within}
-use Rattle.theorem_told.specs.Cut.{endsBefore, endedIn, endedBefore, startOf, textEnd, startedBefore, ifAny, cutRecord}
+use Rattle.theorem_told.specs.Cut.{endsBefore, endedIn, endedBefore, pieceStart, textEnd, startedBefore, ifAny, cutRecord}
 
 -- what is behind the first record and its terminator
 abbrev afterFirst : List ℕ → List ℕ
@@ -168,8 +168,8 @@ module _ (s : List ℕ) (h : 0 < length s) where
     ended-none : min k (pieceLength s) ≤ span isText s → endedBefore k s ≡ 0
     ended-none g = ended-first ∙ cond-false _ _ _ (le-ltb (span isText s) (min k (pieceLength s)) g)
 
-  start-suc : (n : ℕ) → startOf s (suc n) ≡ pieceLength s + startOf (afterFirst s) n
-  unfolding startOf flatten
+  start-suc : (n : ℕ) → pieceStart s (suc n) ≡ pieceLength s + pieceStart (afterFirst s) n
+  unfolding pieceStart flatten
   start-suc n =
       let p = take (pieceLength s) s in
       let ps = piecesOf (afterFirst s) in
@@ -180,13 +180,13 @@ module _ (s : List ℕ) (h : 0 < length s) where
   started-suc : (k n : ℕ) → startedBefore k s (suc n) ≡ startedBefore (k - pieceLength s) (afterFirst s) n
   unfolding startedBefore
   started-suc k n =
-      let e : startOf s (suc n) ≡ pieceLength s + startOf (afterFirst s) n = start-suc n in
-      let m : k - startOf s (suc n) ≡ k - pieceLength s - startOf (afterFirst s) n = omega arith in
-      ap (λ (x : List (List ℕ)). take (k - startOf s (suc n)) (getD x (suc n) [])) (records-first s h)
+      let e : pieceStart s (suc n) ≡ pieceLength s + pieceStart (afterFirst s) n = start-suc n in
+      let m : k - pieceStart s (suc n) ≡ k - pieceLength s - pieceStart (afterFirst s) n = omega arith in
+      ap (λ (x : List (List ℕ)). take (k - pieceStart s (suc n)) (getD x (suc n) [])) (records-first s h)
       ∙ ap (λ (j : ℕ). take j (getD (recordsOf (afterFirst s)) n [])) m
 
   started-zero : (k : ℕ) → startedBefore k s 0 ≡ take k (take (span isText s) s)
-  unfolding startedBefore startOf flatten
+  unfolding startedBefore pieceStart flatten
   started-zero k =
       ap (λ (x : List (List ℕ)). take (k - 0) (getD x 0 [])) (records-first s h) ∙ ap (λ (j : ℕ). take j (take (span isText s) s)) (sub-zero k)
 
@@ -196,7 +196,7 @@ CutAt s k = recordsOf (take k s) ≡ take (endedBefore k s) (recordsOf s) ++ ifA
 
 cut-nil : (k : ℕ) → CutAt [] k
 unfolding endedBefore endedIn startedBefore ifAny recordsOf piecesOf piecesIn
-cut-nil k = ap recordsOf (take-nil k) ∙ ap ifAny (sym (take-nil (k - startOf [] 0)))
+cut-nil k = ap recordsOf (take-nil k) ∙ ap ifAny (sym (take-nil (k - pieceStart [] 0)))
 
 cut-some : (s : List ℕ) (k : ℕ) → 0 < length s → CutAt (afterFirst s) (k - pieceLength s) → CutAt s k
 cut-some s k h ih =
@@ -243,7 +243,7 @@ ended-few stream k =
 -- ---- which they are: record i has ended exactly if the place behind its characters lies in the stream and before k
 module _ (s : List ℕ) (h : 0 < length s) where
   end-zero : textEnd s 0 ≡ span isText s
-  unfolding startOf flatten
+  unfolding pieceStart flatten
   end-zero =
       let e : length (getD (recordsOf s) 0 []) ≡ span isText s =
       ap (λ (x : List (List ℕ)). length (getD x 0 [])) (records-first s h) ∙ length-take-le (span isText s) s (span-le isText s) in
@@ -251,7 +251,7 @@ module _ (s : List ℕ) (h : 0 < length s) where
 
   end-suc : (i : ℕ) → textEnd s (suc i) ≡ pieceLength s + textEnd (afterFirst s) i
   end-suc i =
-      let e : startOf s (suc i) ≡ pieceLength s + startOf (afterFirst s) i = start-suc s h i in
+      let e : pieceStart s (suc i) ≡ pieceLength s + pieceStart (afterFirst s) i = start-suc s h i in
       let f : length (getD (recordsOf s) (suc i) []) ≡ length (getD (recordsOf (afterFirst s)) i []) =
       ap (λ (x : List (List ℕ)). length (getD x (suc i) [])) (records-first s h) in
       omega arith

@@ -12,7 +12,7 @@ use Rattle.store_desk.specs.declared.Desk.{Desk}
 use Rattle.load.specs.declared.State.{State}
 use Rattle.load.specs.Step.{Step, recordStep, conditionsOf}
 use Rattle.load.specs.Run.{Run, Report, stops, only, andThen, reportsAt, runFrom}
-use Rattle.theorem_told.specs.Classes.{joined, goneOn}
+use Rattle.theorem_told.specs.Classes.{runsJoined, goneOn}
 
 -- ---- in two parts
 pub gone-stopped : (d : Desk) (n : ℕ) (x : Run) (rs : List (List ℕ)) → x .stopped ≡ true → goneOn d n x rs ≡ x
@@ -20,7 +20,7 @@ unfolding goneOn
 gone-stopped d n x rs e = cond-true _ _ _ e
 
 pub gone-joined : (d : Desk) (n : ℕ) (x : Run) (rs : List (List ℕ)) → x .stopped ≡ false
-    → goneOn d n x rs ≡ joined x (runFrom d n (x .state) (x .store) rs)
+    → goneOn d n x rs ≡ runsJoined x (runFrom d n (x .state) (x .store) rs)
 unfolding goneOn
 gone-joined d n x rs e = cond-false _ _ _ e
 
@@ -30,7 +30,7 @@ and-goes : (d : Desk) (n m : ℕ) (r : List ℕ) (x : Step) (y : Run) (rs : List
 unfolding goneOn
 and-goes d n m r x y rs =
     let z = runFrom d m (y .state) (y .store) rs in
-    cond-ap (λ (w : Run). andThen n r x w) (y .stopped) y (joined y z)
+    cond-ap (λ (w : Run). andThen n r x w) (y .stopped) y (runsJoined y z)
     ∙ ap
     (λ (l : List Report). cond (y .stopped) (andThen n r x y)
     (record { state = z .state; store = z .store; stopped = z .stopped; outcomes = x .outcome ∷ (y .outcomes ++ z .outcomes); reports = l }))

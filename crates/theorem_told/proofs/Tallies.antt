@@ -9,22 +9,22 @@ use lib.ListN.{length, length-map}
 use Rattle.store_desk.specs.declared.Desk.{Desk}
 use Rattle.load.specs.declared.Outcome.{Outcome}
 use Rattle.load.specs.Run.{Run, Class, blank, passed, dropped, obeyed, classOf, eqClass, tallyOf, loadOf, totalsOf}
-use Rattle.theorem_told.specs.Classes.{classesOf, countOf}
+use Rattle.theorem_told.specs.Classes.{classesOf, howMany}
 
 pub class-each : (x : Run) → length (classesOf x) ≡ length (x .outcomes)
 unfolding classesOf
 class-each x = length-map (x .outcomes) classOf
 
-tally-counts : (k : Class) (os : List Outcome) → tallyOf k os ≡ countOf k (map classOf os)
-unfolding tallyOf countOf
+tally-counts : (k : Class) (os : List Outcome) → tallyOf k os ≡ howMany k (map classOf os)
+unfolding tallyOf howMany
 tally-counts k [] = refl
 tally-counts k (o ∷ os) = ap (λ (n : ℕ). cond (eqClass k (classOf o)) (suc n) n) (tally-counts k os)
 
 module _ (d : Desk) (t stream : List ℕ) where
-  pub load-counts : (totalsOf (loadOf d t stream) .blank ≡ countOf blank (classesOf (loadOf d t stream)))
-      × (totalsOf (loadOf d t stream) .passed ≡ countOf passed (classesOf (loadOf d t stream)))
-      × (totalsOf (loadOf d t stream) .dropped ≡ countOf dropped (classesOf (loadOf d t stream)))
-      × (totalsOf (loadOf d t stream) .obeyed ≡ countOf obeyed (classesOf (loadOf d t stream)))
+  pub load-counts : (totalsOf (loadOf d t stream) .blank ≡ howMany blank (classesOf (loadOf d t stream)))
+      × (totalsOf (loadOf d t stream) .passed ≡ howMany passed (classesOf (loadOf d t stream)))
+      × (totalsOf (loadOf d t stream) .dropped ≡ howMany dropped (classesOf (loadOf d t stream)))
+      × (totalsOf (loadOf d t stream) .obeyed ≡ howMany obeyed (classesOf (loadOf d t stream)))
   unfolding totalsOf classesOf
   load-counts =
       let os = loadOf d t stream .outcomes in

@@ -11,13 +11,13 @@ unfoldable pub classesOf : Run → List Class
 classesOf x = map classOf (x .outcomes)
 
 -- how many of them are of class k
-unfoldable pub countOf : Class → List Class → ℕ
-countOf k [] = 0
-countOf k (c ∷ cs) = let n = countOf k cs in cond (eqClass k c) (suc n) n
+unfoldable pub howMany : Class → List Class → ℕ
+howMany k [] = 0
+howMany k (c ∷ cs) = let n = howMany k cs in cond (eqClass k c) (suc n) n
 
 -- a run, and another that took over where it ended
-abbrev pub joined : Run → Run → Run
-joined x y =
+abbrev pub runsJoined : Run → Run → Run
+runsJoined x y =
     record {
       state = y .state;
       store = y .store;
@@ -28,7 +28,7 @@ joined x y =
 
 -- a run that has read n records goes on with others, unless it stopped
 unfoldable pub goneOn : Desk → ℕ → Run → List (List ℕ) → Run
-goneOn d n x rs = let y = runFrom d n (x .state) (x .store) rs in cond (x .stopped) x (joined x y)
+goneOn d n x rs = let y = runFrom d n (x .state) (x .store) rs in cond (x .stopped) x (runsJoined x y)
 
 -- the same run, in a store that has more bytes behind it
 abbrev pub withBehind : List ℕ → Run → Run

@@ -25,16 +25,16 @@ unfoldable pub endedBefore : ℕ → List ℕ → ℕ
 endedBefore k stream = endedIn k (piecesOf stream)
 
 -- where a record starts; records are counted from 0
-unfoldable pub startOf : List ℕ → ℕ → ℕ
-startOf stream n = length (flatten (take n (piecesOf stream)))
+unfoldable pub pieceStart : List ℕ → ℕ → ℕ
+pieceStart stream n = length (flatten (take n (piecesOf stream)))
 
 -- where its characters end
 abbrev pub textEnd : List ℕ → ℕ → ℕ
-textEnd stream n = startOf stream n + length (getD (recordsOf stream) n [])
+textEnd stream n = pieceStart stream n + length (getD (recordsOf stream) n [])
 
 -- the characters of record n that stand before place k
 unfoldable pub startedBefore : ℕ → List ℕ → ℕ → List ℕ
-startedBefore k stream n = take (k - startOf stream n) (getD (recordsOf stream) n [])
+startedBefore k stream n = take (k - pieceStart stream n) (getD (recordsOf stream) n [])
 
 -- a record without a terminator counts if it has a character
 unfoldable pub ifAny : List ℕ → List (List ℕ)

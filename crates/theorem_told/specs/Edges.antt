@@ -43,12 +43,12 @@ keptBy (kept m) = m .head .up ∷ m .head .«up_fade» ∷ m .head .«up_delay»
 abbrev pub cueOf : Key → Name
 cueOf key = record { kind = Cue; key = key }
 
-unfoldable pub loaded : Edge → Run
-loaded e = loadOf (e .desk) (replicate (storeLength (e .desk)) 0) (e .stream)
+unfoldable pub edgeLoaded : Edge → Run
+edgeLoaded e = loadOf (e .desk) (replicate (storeLength (e .desk)) 0) (e .stream)
 
 unfoldable pub answerOf : Edge → List (List ℕ)
 answerOf e =
-    let x = loaded e in
+    let x = edgeLoaded e in
     map reportWord (allReports x) ∷ toldBy (totalsOf x) ∷ keptBy (memoryOf (e .desk) (x .store) (cueOf (e .cue))) ∷ []
 
 abbrev pub wantedOf : Edge → List (List ℕ)

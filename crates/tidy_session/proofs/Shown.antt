@@ -25,7 +25,7 @@ use Rattle.text_room.specs.Room.{Room}
 use Rattle.show.specs.declared.Admission.the-variants.{Admitted}
 use Rattle.show.specs.declared.Written.{Written}
 use Rattle.show.specs.declared.Written.the-variants.{Away, Done}
-use Rattle.show.specs.Calls.{mostBytes, WriteCall, written, putCall, writeBy, writeCall}
+use Rattle.show.specs.Calls.{mostBytes, WriteCall, writtenAs, putCall, writeBy, writeCall}
 use Rattle.show.proofs.Laws.{write-by}
 use Rattle.theorem_called.proofs.Called.{not-away}
 use Rattle.tidy_printed.specs.Text.{neededText}
@@ -82,7 +82,7 @@ back-same o at h =
     ∙ put-part o at (at + mostShown - at) (omega arith)
 
 module _ (s o : List ℕ) (at : ℕ) (r : Ready house s) (room : at + mostShown ≤ length o) {a : Written} {ys : List ℕ}
-    (e : written a ys ≡ writeCall house s (part o at)) where
+    (e : writtenAs a ys ≡ writeCall house s (part o at)) where
   shown : Shown s (part o at) a ys
   unfolding writeBy
   shown =

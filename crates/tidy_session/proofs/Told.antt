@@ -25,7 +25,7 @@ use Rattle.text_room.specs.Room.{Room}
 use Rattle.text_room.proofs.Chain.{wrote-length}
 use Rattle.show.specs.declared.Loaded.{Loaded}
 use Rattle.show.specs.declared.Loaded.the-variants.{Away, Done}
-use Rattle.show.specs.Calls.{LoadCall, loaded, loadDone, loadCall}
+use Rattle.show.specs.Calls.{LoadCall, loadedAs, loadDone, loadCall}
 use Rattle.theorem_called.proofs.Called.{load-answers, load-ready}
 use Rattle.tidy_printed.specs.Text.{toldText}
 use Rattle.tidy_printed.proofs.Lengths.{Tallies, told-length}
@@ -56,8 +56,8 @@ Told x (Away r) = ⊥
 Told x (Done t) = t ≡ totalsOf x
 
 module _ (stream : List ℕ) (short : length stream ≤ mostInput) {a : Loaded} {s reps : List ℕ}
-    (e : loaded a s reps ≡ loadCall house (replicate 35136 0) (replicate 1024 0) stream) where
-  answered : loaded a s reps ≡ loadDone (readIn stream) reportList
+    (e : loadedAs a s reps ≡ loadCall house (replicate 35136 0) (replicate 1024 0) stream) where
+  answered : loadedAs a s reps ≡ loadDone (readIn stream) reportList
   unfolding readIn
   answered =
       e ∙ ap (λ (k : ℕ). loadCall house (replicate k 0) reportList stream) (sym house-needs)

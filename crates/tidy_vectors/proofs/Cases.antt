@@ -9,39 +9,39 @@ use lib.ListN.{length, take, drop}
 use Rattle.text_records.specs.Stream.{recordEnd}
 use Rattle.text_records.proofs.Stream.{end-from, end-within}
 use Rattle.text_fields.specs.declared.Field.{Field}
-use Rattle.text_fields.specs.Words.{fieldAt, endAt, wordIn}
+use Rattle.text_fields.specs.Places.{fieldAt, endAt, wordIn}
 use Rattle.value.specs.declared.Integer.{Integer}
 use Rattle.value.specs.declared.Integer.the-variants.{Malformed, Value}
 use Rattle.value.specs.Integer.{integerOf}
 use Rattle.tidy_vectors.specs.declared.Case.{Case}
-use Rattle.tidy_vectors.specs.Case.{lengthBy, lengthIn, caseOf, caseAt}
+use Rattle.tidy_vectors.specs.Case.{lengthBy, lengthGiven, caseOf, caseAt}
 
 -- ---- the length
 module _ (line : List ℕ) {f g : Field} {x : List ℕ} {i : Integer} (a : f ≡ fieldAt line line 0) (b : g ≡ fieldAt line line (f .end))
     (c : x ≡ wordIn line g .chars) (e : i ≡ integerOf x) where
-  length-by : lengthBy i ≡ lengthIn line
-  unfolding lengthIn
+  length-by : lengthBy i ≡ lengthGiven line
+  unfolding lengthGiven
   length-by =
       let h : g ≡ fieldAt line line (endAt line 0) = b ∙ ap (λ (k : Field). fieldAt line line (k .end)) a in
       ap lengthBy (e ∙ ap integerOf (c ∙ ap (λ (k : Field). wordIn line k .chars) h))
 
-  pub length-none : i ≡ Malformed → 0 ≡ lengthIn line
+  pub length-none : i ≡ Malformed → 0 ≡ lengthGiven line
   unfolding lengthBy
   length-none h = sym (ap lengthBy h) ∙ length-by
 
-  pub length-value : {n r : ℕ} → i ≡ Value n → r ≡ n → r ≡ lengthIn line
+  pub length-value : {n r : ℕ} → i ≡ Value n → r ≡ n → r ≡ lengthGiven line
   unfolding lengthBy
   length-value h k = k ∙ sym (ap lengthBy h) ∙ length-by
 
 -- ---- the session
 pub case-is : (s : List ℕ) (at : ℕ) {line body n count : ℕ} → line ≡ recordEnd s at → body ≡ min (line + 1) (length s)
-    → n ≡ lengthIn (take (line - at) (drop at s)) → count ≡ min n (length s - body)
+    → n ≡ lengthGiven (take (line - at) (drop at s)) → count ≡ min n (length s - body)
     → _≡_ {A = Case} (record { line = line; body = body; end = body + count }) (caseAt s at)
 unfolding caseAt caseOf
 case-is s at {line} {body} {n} {count} a b c e =
     ap (λ (k : ℕ). record { line = line; body = body; end = body + k }) (e ∙ ap (λ (k : ℕ). min k (length s - body)) c)
-    ∙ ap (λ (k : ℕ). caseOf s line k (lengthIn (take (line - at) (drop at s)))) b
-    ∙ ap (λ (k : ℕ). caseOf s k (min (k + 1) (length s)) (lengthIn (take (k - at) (drop at s)))) a
+    ∙ ap (λ (k : ℕ). caseOf s line k (lengthGiven (take (line - at) (drop at s)))) b
+    ∙ ap (λ (k : ℕ). caseOf s k (min (k + 1) (length s)) (lengthGiven (take (k - at) (drop at s)))) a
 
 -- where it lies
 pub record Lies (s : List ℕ) (at : ℕ) (c : Case) : Type 0 where
@@ -60,7 +60,7 @@ pub lies : (s : List ℕ) (at : ℕ) {c : Case} → at < length s → c ≡ case
 unfolding caseAt
 lies s at h e =
     subst (Lies s at) (sym e)
-    (of-lies s at (recordEnd s at) (lengthIn (take (recordEnd s at - at) (drop at s))) (end-from s at) (end-within s at (omega arith)) h)
+    (of-lies s at (recordEnd s at) (lengthGiven (take (recordEnd s at - at) (drop at s))) (end-from s at) (end-within s at (omega arith)) h)
 
 -- where the next begins
 pub ends : (s : List ℕ) (at : ℕ) {r : ℕ} → at < length s → r ≡ caseAt s at .end → (at < r) × (r ≤ length s)

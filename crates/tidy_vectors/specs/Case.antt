@@ -4,7 +4,7 @@ use mathlib.Core.List.{List}
 use Prim.Native.Nat.{ℕ, _+_, _-_, min}
 use lib.ListN.{length, take, drop}
 use Rattle.text_records.specs.Stream.{recordEnd}
-use Rattle.text_fields.specs.Words.{endAt, wordAt}
+use Rattle.text_fields.specs.Places.{endAt, wordAt}
 use Rattle.value.specs.declared.Integer.{Integer}
 use Rattle.value.specs.declared.Integer.the-variants.{Malformed, Value}
 use Rattle.value.specs.Integer.{integerOf}
@@ -16,8 +16,8 @@ lengthBy Malformed = 0
 lengthBy (Value n) = n
 
 -- the second field of a line
-unfoldable pub lengthIn : List ℕ → ℕ
-lengthIn line = lengthBy (integerOf (wordAt line line (endAt line 0) .chars))
+unfoldable pub lengthGiven : List ℕ → ℕ
+lengthGiven line = lengthBy (integerOf (wordAt line line (endAt line 0) .chars))
 
 -- the input begins behind the line's end, and ends after so many bytes or with the file
 unfoldable pub caseOf : List ℕ → ℕ → ℕ → ℕ → Case
@@ -26,4 +26,4 @@ caseOf s line body count = record { line = line; body = body; end = body + min c
 unfoldable pub caseAt : List ℕ → ℕ → Case
 caseAt s at =
     let line = recordEnd s at in
-    caseOf s line (min (line + 1) (length s)) (lengthIn (take (line - at) (drop at s)))
+    caseOf s line (min (line + 1) (length s)) (lengthGiven (take (line - at) (drop at s)))

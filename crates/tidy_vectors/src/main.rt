@@ -6,7 +6,7 @@ use value::Integer;
 ghost use mathlib.Core.Path.{_≡_};
 ghost use Prim.Native.Nat.{_<_, _≤_};
 ghost use lib.ListN.{length, replicate};
-ghost use Rattle.tidy_vectors.specs.Case.{lengthIn, caseAt};
+ghost use Rattle.tidy_vectors.specs.Case.{lengthGiven, caseAt};
 
 // Where a session's header line ends, and where its input begins and ends.
 pub struct Case {
@@ -25,7 +25,7 @@ fn buffer() -> [u8; 131072]
 
 // The length that a header line gives: its second field.
 fn length_in(line: &[u8]) -> usize
-    ensures { λ r. ⌜ r ≡ lengthIn (now (line .entry)) ⌝ }
+    ensures { λ r. ⌜ r ≡ lengthGiven (now (line .entry)) ⌝ }
 {
     let name = text_fields::field_at(line, line, 0);
     let count = text_fields::field_at(line, line, name.end);

@@ -15,7 +15,7 @@ use Rattle.value.specs.declared.Integer.the-variants.{Malformed, Value}
 use Rattle.value.specs.declared.Timed.the-variants.{Malformed as BadTime, Value as IsTime}
 use Rattle.value.specs.Integer.{cap, integerOf, AtMost}
 use Rattle.value.specs.Parts.{point, colon, cutAt, before, after, decimalsOf}
-use Rattle.value.specs.Time.{firstMax, laterMax, clockMax, tenthsDigits, rangedOf, partOf, joinOf, laterOf, clockOf, timedOf, timeOf}
+use Rattle.value.specs.Time.{firstMax, laterMax, clockMax, tenthsDigits, boundedOf, partOf, joinOf, laterOf, clockOf, timedOf, timeOf}
 use Rattle.value.proofs.Digits.{at-most-of}
 
 pub at-most-up : {n m : ℕ} (i : Integer) → AtMost n i → n ≤ m → AtMost m i
@@ -23,19 +23,19 @@ at-most-up Malformed h g = tt
 at-most-up (Value v) h g = le-trans h g
 
 -- ---- a part
-pub part-malformed : (most : ℕ) {i : Integer} → i ≡ Malformed → rangedOf most i ≡ Malformed
-unfolding rangedOf
-part-malformed most e = ap (λ (x : Integer). rangedOf most x) e
+pub part-malformed : (most : ℕ) {i : Integer} → i ≡ Malformed → boundedOf most i ≡ Malformed
+unfolding boundedOf
+part-malformed most e = ap (λ (x : Integer). boundedOf most x) e
 
-pub part-large : (most : ℕ) {i : Integer} {v : ℕ} → i ≡ Value v → most < v → rangedOf most i ≡ Malformed
-unfolding rangedOf
-part-large most {i} {v} e h = ap (λ (x : Integer). rangedOf most x) e ∙ rw (lt-ltb most v h)
+pub part-large : (most : ℕ) {i : Integer} {v : ℕ} → i ≡ Value v → most < v → boundedOf most i ≡ Malformed
+unfolding boundedOf
+part-large most {i} {v} e h = ap (λ (x : Integer). boundedOf most x) e ∙ rw (lt-ltb most v h)
 
-pub part-good : (most : ℕ) {i : Integer} {v : ℕ} → i ≡ Value v → v ≤ most → rangedOf most i ≡ Value v
-unfolding rangedOf
-part-good most {i} {v} e h = ap (λ (x : Integer). rangedOf most x) e ∙ rw (le-ltb most v h)
+pub part-good : (most : ℕ) {i : Integer} {v : ℕ} → i ≡ Value v → v ≤ most → boundedOf most i ≡ Value v
+unfolding boundedOf
+part-good most {i} {v} e h = ap (λ (x : Integer). boundedOf most x) e ∙ rw (le-ltb most v h)
 
-ranged-most : (most : ℕ) (i : Integer) → AtMost most (rangedOf most i)
+ranged-most : (most : ℕ) (i : Integer) → AtMost most (boundedOf most i)
 ranged-most most Malformed = at-most-of most (part-malformed most refl) tt
 ranged-most most (Value v) =
     by-le v most (λ h. at-most-of most (part-good most refl h) h) (λ h. at-most-of most (part-large most refl h) tt)
@@ -122,9 +122,9 @@ unfolding timedOf
 time-good e = ap timedOf e
 
 -- ---- from the parts as the code has them
-pub part-is : (most : ℕ) (s : List ℕ) {i : Integer} → i ≡ integerOf s → rangedOf most i ≡ partOf most s
+pub part-is : (most : ℕ) (s : List ℕ) {i : Integer} → i ≡ integerOf s → boundedOf most i ≡ partOf most s
 unfolding partOf
-part-is most s e = ap (λ (x : Integer). rangedOf most x) e
+part-is most s e = ap (λ (x : Integer). boundedOf most x) e
 
 pub part-at-most : (n most : ℕ) (s : List ℕ) {i : Integer} → i ≡ partOf most s → most ≤ n → AtMost n i
 part-at-most n most s e h = at-most-of n e (at-most-up (partOf most s) (part-most most s) h)

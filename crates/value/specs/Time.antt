@@ -28,12 +28,12 @@ abbrev pub timeMax : ℕ
 timeMax = clockMax * 10 + 9
 
 -- an integer in its range
-unfoldable pub rangedOf : ℕ → Integer → Integer
-rangedOf most Malformed = Malformed
-rangedOf most (Value v) = cond (ltb most v) Malformed (Value v)
+unfoldable pub boundedOf : ℕ → Integer → Integer
+boundedOf most Malformed = Malformed
+boundedOf most (Value v) = cond (ltb most v) Malformed (Value v)
 
 unfoldable pub partOf : ℕ → List ℕ → Integer
-partOf most s = rangedOf most (integerOf s)
+partOf most s = boundedOf most (integerOf s)
 
 -- two parts, of which the first counts `base` units of the second
 unfoldable pub joinOf : Integer → ℕ → Integer → Integer

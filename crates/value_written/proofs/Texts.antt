@@ -17,7 +17,7 @@ use Rattle.cells.proofs.Put.{put-nil, put-comm, put-next, set-is-put}
 use Rattle.value.specs.Parts.{point, colon}
 use Rattle.value.specs.Number.{wholeMax, fractionDigits}
 use Rattle.value.specs.Time.{tenthsDigits, clockMax, timeMax}
-use Rattle.value_written.specs.Text.{digitChar, digitsOn, digitsText, countFrom, countOf, integerText, fractionText, numberText, levelText, partText, clockText, timeText, markedText, isPlain}
+use Rattle.value_written.specs.Text.{digitChar, digitsOn, digitsText, digitCountFrom, digitCount, integerText, fractionText, numberText, levelText, partText, clockText, timeText, markedText, isPlain}
 
 -- ---- a digit's character
 pub char-decimal : (d : ℕ) → d < 10 → digitChar d ≡ 48 + d
@@ -79,14 +79,14 @@ digits-done t a r k n h =
     ap (λ (m : ℕ). put t a (digitsText r m n)) e ∙ ap (λ (z : List ℕ). put t a z) (digits-none r n) ∙ put-nil t a
 
 -- ---- how many digits
-pub count-one : (f n : ℕ) → n < 10 → countFrom f n ≡ 1
-unfolding countFrom
+pub count-one : (f n : ℕ) → n < 10 → digitCountFrom f n ≡ 1
+unfolding digitCountFrom
 count-one zero n h = refl
-count-one (suc f) n h = cond-true (ltb n 10) 1 (suc (countFrom f (n / 10))) (lt-ltb n 10 h)
+count-one (suc f) n h = cond-true (ltb n 10) 1 (suc (digitCountFrom f (n / 10))) (lt-ltb n 10 h)
 
-count-more : (f n : ℕ) → 10 ≤ n → countFrom (suc f) n ≡ suc (countFrom f (n / 10))
-unfolding countFrom
-count-more f n h = cond-false (ltb n 10) 1 (suc (countFrom f (n / 10))) (le-ltb n 10 h)
+count-more : (f n : ℕ) → 10 ≤ n → digitCountFrom (suc f) n ≡ suc (digitCountFrom f (n / 10))
+unfolding digitCountFrom
+count-more f n h = cond-false (ltb n 10) 1 (suc (digitCountFrom f (n / 10))) (le-ltb n 10 h)
 
 tenth-below : (n k : ℕ) → n < 10 ^ suc k → n / 10 < 10 ^ k
 tenth-below n k h = div-lt-iff-lt-mul {k = 10} (omega arith) .1 (subst (λ (x : ℕ). n < x) (pow-suc 10 k) h)
@@ -95,86 +95,86 @@ below-tenth : (n k : ℕ) → n / 10 < 10 ^ k → n < 10 ^ suc k
 below-tenth n k h = subst (λ (x : ℕ). n < x) (sym (pow-suc 10 k)) (div-lt-iff-lt-mul {k = 10} (omega arith) .0 h)
 
 -- as many digits as it takes
-count-enough : (f n : ℕ) → n < 10 ^ suc f → n < 10 ^ countFrom f n
+count-enough : (f n : ℕ) → n < 10 ^ suc f → n < 10 ^ digitCountFrom f n
 count-enough zero n h = subst (λ (k : ℕ). n < 10 ^ k) (sym (count-one zero n h)) h
 count-enough (suc f) n h =
     by-lt n 10
     (λ l. subst (λ (k : ℕ). n < 10 ^ k) (sym (count-one (suc f) n l)) l)
     (λ l.
     subst (λ (k : ℕ). n < 10 ^ k) (sym (count-more f n l))
-    (below-tenth n (countFrom f (n / 10)) (count-enough f (n / 10) (tenth-below n (suc f) h))))
+    (below-tenth n (digitCountFrom f (n / 10)) (count-enough f (n / 10) (tenth-below n (suc f) h))))
 
-count-last : (n : ℕ) → countFrom zero n ≡ 1
-unfolding countFrom
+count-last : (n : ℕ) → digitCountFrom zero n ≡ 1
+unfolding digitCountFrom
 count-last n = refl
 
 -- and no more
-count-short-more : (f n k : ℕ) → 10 ≤ n → n < 10 ^ suc k → ((j : ℕ) → n / 10 < 10 ^ suc j → countFrom f (n / 10) ≤ suc j) → countFrom (suc f) n ≤ suc k
+count-short-more : (f n k : ℕ) → 10 ≤ n → n < 10 ^ suc k → ((j : ℕ) → n / 10 < 10 ^ suc j → digitCountFrom f (n / 10) ≤ suc j) → digitCountFrom (suc f) n ≤ suc k
 count-short-more f n zero l h g = absurd (let m : n < 10 = h in omega arith)
 count-short-more f n (suc k) l h g =
-    let e : countFrom (suc f) n ≡ suc (countFrom f (n / 10)) = count-more f n l in
-    let m : countFrom f (n / 10) ≤ suc k = g k (tenth-below n (suc k) h) in
+    let e : digitCountFrom (suc f) n ≡ suc (digitCountFrom f (n / 10)) = count-more f n l in
+    let m : digitCountFrom f (n / 10) ≤ suc k = g k (tenth-below n (suc k) h) in
     omega arith
 
-count-short : (f n k : ℕ) → n < 10 ^ suc k → countFrom f n ≤ suc k
-count-short zero n k h = let e : countFrom zero n ≡ 1 = count-last n in omega arith
+count-short : (f n k : ℕ) → n < 10 ^ suc k → digitCountFrom f n ≤ suc k
+count-short zero n k h = let e : digitCountFrom zero n ≡ 1 = count-last n in omega arith
 count-short (suc f) n k h =
     by-lt n 10
-    (λ l. let e : countFrom (suc f) n ≡ 1 = count-one (suc f) n l in omega arith)
+    (λ l. let e : digitCountFrom (suc f) n ≡ 1 = count-one (suc f) n l in omega arith)
     (λ l. count-short-more f n k l h (λ j g. count-short f (n / 10) j g))
 
-pub count-some : (f n : ℕ) → 1 ≤ countFrom f n
-count-some zero n = let e : countFrom zero n ≡ 1 = count-last n in omega arith
+pub count-some : (f n : ℕ) → 1 ≤ digitCountFrom f n
+count-some zero n = let e : digitCountFrom zero n ≡ 1 = count-last n in omega arith
 count-some (suc f) n =
     by-lt n 10
-    (λ l. let e : countFrom (suc f) n ≡ 1 = count-one (suc f) n l in omega arith)
-    (λ l. let e : countFrom (suc f) n ≡ suc (countFrom f (n / 10)) = count-more f n l in omega arith)
+    (λ l. let e : digitCountFrom (suc f) n ≡ 1 = count-one (suc f) n l in omega arith)
+    (λ l. let e : digitCountFrom (suc f) n ≡ suc (digitCountFrom f (n / 10)) = count-more f n l in omega arith)
 
 -- a loop that counts the digits
 pub record Counting (n rest count : ℕ) : Type 0 where
   pub left : ℕ
   pub within : count + left ≡ 10
   pub small : rest < 10 ^ suc left
-  pub same : countOf n + 1 ≡ count + countFrom left rest
+  pub same : digitCount n + 1 ≡ count + digitCountFrom left rest
 
 pub counting-start : (n : ℕ) → n < 10 ^ 10 → Counting n n 1
-unfolding countOf
-counting-start n h = record { left = 9; within = refl; small = h; same = (let e : countFrom 9 n + 1 ≡ 1 + countFrom 9 n = omega arith in e) }
+unfolding digitCount
+counting-start n h = record { left = 9; within = refl; small = h; same = (let e : digitCountFrom 9 n + 1 ≡ 1 + digitCountFrom 9 n = omega arith in e) }
 
-counting-by : {n rest : ℕ} (count f : ℕ) → count + f ≡ 10 → rest < 10 ^ suc f → countOf n + 1 ≡ count + countFrom f rest → 10 ≤ rest
+counting-by : {n rest : ℕ} (count f : ℕ) → count + f ≡ 10 → rest < 10 ^ suc f → digitCount n + 1 ≡ count + digitCountFrom f rest → 10 ≤ rest
     → Counting n (rest / 10) (count + 1)
 counting-by {n} {rest} count zero e s q h = absurd (let m : rest < 10 = s in omega arith)
 counting-by {n} {rest} count (suc f) e s q h =
-    let m : countFrom (suc f) rest ≡ suc (countFrom f (rest / 10)) = count-more f rest h in
+    let m : digitCountFrom (suc f) rest ≡ suc (digitCountFrom f (rest / 10)) = count-more f rest h in
     record {
       left = f;
       within = (let w : count + 1 + f ≡ 10 = omega arith in w);
       small = tenth-below rest (suc f) s;
-      same = (let w : countOf n + 1 ≡ count + 1 + countFrom f (rest / 10) = omega arith in w);
+      same = (let w : digitCount n + 1 ≡ count + 1 + digitCountFrom f (rest / 10) = omega arith in w);
     }
 
 pub counting-turn : {n rest count : ℕ} → Counting n rest count → 10 ≤ rest → Counting n (rest / 10) (count + 1)
 counting-turn {n} {rest} {count} w h = counting-by count (w .left) (w .within) (w .small) (w .same) h
 
-pub counting-end : {n rest count : ℕ} → Counting n rest count → rest < 10 → count ≡ countOf n
-counting-end {n} {rest} {count} w h = let e : countFrom (w .left) rest ≡ 1 = count-one (w .left) rest h in omega (arith, w .same)
+pub counting-end : {n rest count : ℕ} → Counting n rest count → rest < 10 → count ≡ digitCount n
+counting-end {n} {rest} {count} w h = let e : digitCountFrom (w .left) rest ≡ 1 = count-one (w .left) rest h in omega (arith, w .same)
 
 -- ---- lengths
-pub integer-length : (n : ℕ) → length (integerText n) ≡ countOf n
+pub integer-length : (n : ℕ) → length (integerText n) ≡ digitCount n
 unfolding integerText
-integer-length n = text-length 10 (countOf n) n
+integer-length n = text-length 10 (digitCount n) n
 
-pub integer-enough : (n : ℕ) → n < 10 ^ 10 → n < 10 ^ countOf n
-unfolding countOf
+pub integer-enough : (n : ℕ) → n < 10 ^ 10 → n < 10 ^ digitCount n
+unfolding digitCount
 integer-enough n h = count-enough 9 n h
 
-pub integer-count : (n : ℕ) → 1 ≤ countOf n
-unfolding countOf
+pub integer-count : (n : ℕ) → 1 ≤ digitCount n
+unfolding digitCount
 integer-count n = count-some 9 n
 
 -- a number below 10 ^ (k + 1) has at most k + 1 digits
 pub integer-short : (n k : ℕ) → n < 10 ^ suc k → length (integerText n) ≤ suc k
-unfolding countOf
+unfolding digitCount
 integer-short n k h = subst (λ (x : ℕ). x ≤ suc k) (sym (integer-length n)) (count-short 9 n k h)
 
 pub integer-some : (n : ℕ) → 1 ≤ length (integerText n)
@@ -322,7 +322,7 @@ module _ (p : ℕ → Bool) (f : (c : ℕ) → 48 ≤ c → c ≤ 57 → p c ≡
 
   pub integer-all : (n : ℕ) → span p (integerText n) ≡ length (integerText n)
   unfolding integerText
-  integer-all n = decimals-all (countOf n) n
+  integer-all n = decimals-all (digitCount n) n
 
   -- and the colon
   module _ (g : p colon ≡ true) where

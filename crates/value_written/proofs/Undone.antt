@@ -27,7 +27,7 @@ use Rattle.value.proofs.Numbers.{number-good, page-good, page-is}
 use Rattle.value.proofs.Times.{part-good, part-is, join-good, time-good}
 use Rattle.value.proofs.Splits.{number-whole, number-parts, time-whole, time-parts, clock-whole, clock-parts, later-whole, later-parts}
 use Rattle.value_level.proofs.Levels.{hex-read, hex-byte, level-hex}
-use Rattle.value_written.specs.Text.{digitChar, digitsOn, digitsText, countOf, integerText, numberText, levelText, partText, clockText, timeText}
+use Rattle.value_written.specs.Text.{digitChar, digitsOn, digitsText, digitCount, integerText, numberText, levelText, partText, clockText, timeText}
 use Rattle.value_written.proofs.Texts.{char-decimal, char-capital, text-length, integer-enough, integer-count, fraction-none, fraction-some, decimals-all, integer-all, clock-all, clock-seconds, clock-minutes, clock-hours}
 
 -- ---- digits
@@ -91,7 +91,7 @@ pub integer-read : (n : ℕ) → n ≤ cap → integerOf (integerText n) ≡ Val
 unfolding integerText
 integer-read n l =
     let e : n < 10 ^ 10 = (let m : n < 10000000000 = omega arith in m) in
-    fixed-read (countOf n) n (integer-count n) (integer-enough n e) l
+    fixed-read (digitCount n) n (integer-count n) (integer-enough n e) l
 
 pub page-read : (limit n : ℕ) → 1 ≤ n → n ≤ limit → n ≤ cap → pageOf limit (integerText n) ≡ IsPage n
 page-read limit n a b l =

@@ -22,18 +22,18 @@ abbrev pub digitsText : ℕ → ℕ → ℕ → List ℕ
 digitsText r k n = digitsOn r k n []
 
 -- how many digits n has, in f + 1 of them at most
-unfoldable pub countFrom : ℕ → ℕ → ℕ
-countFrom zero n = 1
-countFrom (suc f) n = let m = suc (countFrom f (n / 10)) in cond (ltb n 10) 1 m
+unfoldable pub digitCountFrom : ℕ → ℕ → ℕ
+digitCountFrom zero n = 1
+digitCountFrom (suc f) n = let m = suc (digitCountFrom f (n / 10)) in cond (ltb n 10) 1 m
 
 -- a number of 32 bits has ten digits at most
-unfoldable pub countOf : ℕ → ℕ
-countOf n = countFrom 9 n
+unfoldable pub digitCount : ℕ → ℕ
+digitCount n = digitCountFrom 9 n
 
 -- ---- values
 -- no leading zeros
 unfoldable pub integerText : ℕ → List ℕ
-integerText n = digitsText 10 (countOf n) n
+integerText n = digitsText 10 (digitCount n) n
 
 -- a point and k digits, and nothing for zero
 unfoldable pub fractionText : ℕ → ℕ → List ℕ

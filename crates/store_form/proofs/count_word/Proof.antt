@@ -2,7 +2,7 @@
 -- Assumes nothing.
 use Rattle.store_form.proofs.Keys.{word-hit, word-miss, count-start}
 use mathlib.Core.Logic.{⊎-elim}
-use Rattle.store_form.specs.Keys.{isWord, countWord}
+use Rattle.store_form.specs.Keys.{isKeyWord, countWord}
 use Rattle.cells.proofs.Search.{count-end}
 use Rattle.cells.specs.Search.{countFrom}
 use Prim.Native.Nat.{_+_, _-_, _≤_}
@@ -12,7 +12,7 @@ use Rattle.store_form.proofs.count_word.Statement.{statement}
 use Rattle.store_form.proofs.count_word.Tie as tie
 
 abbrev Inv-loop : tie.InvT-loop
-Inv-loop words word from to n₀ i₀ n i = (n ≤ i) × (n + countFrom (isWord words word) (to - i) i ≡ countWord words word from to)
+Inv-loop words word from to n₀ i₀ n i = (n ≤ i) × (n + countFrom (isKeyWord words word) (to - i) i ≡ countWord words word from to)
 
 abbrev μ-loop : tie.MeasureT-loop
 μ-loop words word from to n₀ i₀ n i = to - i

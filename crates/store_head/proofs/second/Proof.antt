@@ -1,6 +1,6 @@
 -- `second` meets its contract: the sum is the packed row.
 -- Assumes nothing.
-use Rattle.store_head.specs.Layout.{secondWord}
+use Rattle.store_head.specs.Words.{secondWord}
 use Rattle.store_head.specs.Pack.{packed, total}
 use native.Mathlib.Omega.{arith}
 use borrow.Author.Needs.{needs}

@@ -4,7 +4,7 @@ use mathlib.Core.Path.{sym}
 use lib.ListN.{List·getD-eq-default}
 use Rattle.text_fields.specs.declared.Item.the-variants.{All, Other}
 use Rattle.text_fields.specs.Keywords.{itemRows}
-use Rattle.text_fields.specs.Tables.{meanings, itemAt}
+use Rattle.text_fields.specs.Tables.{meanings, itemRow}
 use Rattle.text_fields.proofs.Keys.{getD-any}
 use borrow.Author.Needs.{needs}
 use Rattle.text_fields.proofs.item_at.Statement.{statement}
@@ -14,11 +14,11 @@ array-copy-out-result : tie.Need-array-copy-out-result
 array-copy-out-result c = search needs
 
 returns : tie.Need-returns
-unfolding itemAt itemRows
+unfolding itemRow itemRows
 returns c = getD-any (meanings itemRows) (c .before .before .args .row) All Other (c .before .if1 .taken)
 
 returns-2 : tie.Need-returns-2
-unfolding itemAt itemRows
+unfolding itemRow itemRows
 returns-2 c = sym (List·getD-eq-default (meanings itemRows) Other (c .if1 .left))
 
 pub item-at-spec : {M : Type 1} → statement M

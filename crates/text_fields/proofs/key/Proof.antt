@@ -4,14 +4,14 @@ use mathlib.Core.Path.{_≡_, ap, _∙_}
 use Prim.Native.Nat.{ℕ, _≤_, _-_, min}
 use native.Mathlib.Omega.{arith}
 use lib.ListN.{length, take, drop}
-use Rattle.text_fields.specs.Tables.{keyOf}
+use Rattle.text_fields.specs.Tables.{fieldKey}
 use Rattle.text_fields.proofs.Keys.{key-none, key-more, key-fits, key-low, key-high}
 use borrow.Author.Needs.{needs}
 use Rattle.text_fields.proofs.key.Statement.{statement}
 use Rattle.text_fields.proofs.key.Tie as tie
 
 abbrev Inv-loop : tie.InvT-loop
-Inv-loop word i₀ k₀ i k = (i ≤ min (length word) 10) × (k ≡ keyOf (drop i (take 10 word)))
+Inv-loop word i₀ k₀ i k = (i ≤ min (length word) 10) × (k ≡ fieldKey (drop i (take 10 word)))
 
 abbrev μ-loop : tie.MeasureT-loop
 μ-loop word i₀ k₀ i k = i
@@ -50,7 +50,7 @@ loop-again : tie.Need-loop-again Inv-loop μ-loop
 loop-again c = (omega arith, key-more (c .before .before .before .before .before .before .args .word .now) (c .before .before .before .loop .i) (c .before .before .loop-test .taken) (c .before .before .before .loop .inv .0) (c .before .before .before .loop .inv .1) (c .capital .ensures))
 
 returns : tie.Need-returns Inv-loop μ-loop
-returns c = let z : c .before .loop .i ≡ 0 = omega arith in c .before .loop .inv .1 ∙ ap (λ (j : ℕ). keyOf (drop j (take 10 (c .before .before .before .before .args .word .now)))) z
+returns c = let z : c .before .loop .i ≡ 0 = omega arith in c .before .loop .inv .1 ∙ ap (λ (j : ℕ). fieldKey (drop j (take 10 (c .before .before .before .before .args .word .now)))) z
 
 pub key-spec : {M : Type 1} → statement M
 key-spec =

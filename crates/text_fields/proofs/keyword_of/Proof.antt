@@ -1,7 +1,7 @@
 -- `fields::keyword_of` meets its contract: the keys are the names', so the row that has the word's key has its meaning.
 -- Assumes nothing.
 use Rattle.text_fields.specs.Keywords.{upper, keywordRows}
-use Rattle.text_fields.specs.Tables.{capitalOf, keyOf, keysOf}
+use Rattle.text_fields.specs.Tables.{capitalOf, fieldKey, keysOf}
 use Rattle.text_fields.proofs.Keys.{keyword-comment, keyword-local, keyword-named}
 use borrow.Author.Needs.{needs}
 use Rattle.text_fields.proofs.keyword_of.Statement.{statement}
@@ -32,7 +32,7 @@ keyword-at-requires : tie.Need-keyword-at-requires
 keyword-at-requires c κs = search needs
 
 returns-3 : tie.Need-returns-3
-unfolding keysOf keywordRows keyOf capitalOf upper
+unfolding keysOf keywordRows fieldKey capitalOf upper
 returns-3 c = keyword-named _ (c .before .before .before .before .before .byte .ensures) (c .before .before .before .before .if1 .left) (c .before .before .key .ensures) (c .before .row-of .ensures) (c .keyword-at .ensures)
 
 pub keyword-of-spec : {M : Type 1} → statement M
