@@ -1,4 +1,4 @@
--- The written stream as lines in order (paper 01, "The written stream"); each line by itself is in crate `lines`.
+-- The written stream as lines in order (paper 01, "The written stream"); each line by itself is in crate `save_lines`.
 -- Assumes nothing.
 use mathlib.Core.List.{List, [], _∷_, _++_}
 use Prim.Native.Nat.{ℕ, zero, suc, _+_}

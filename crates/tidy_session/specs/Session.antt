@@ -1,5 +1,5 @@
 -- All that the program `tidy` prints, of the bytes that it reads (paper 01, "The written stream", the program `tidy`). The lines ahead of the
--- stream are in crate `printed`, the stream in crate `save`.
+-- stream are in crate `tidy_printed`, the stream in crate `save`.
 -- Assumes nothing.
 use mathlib.Core.Bool.{cond}
 use mathlib.Core.List.{List, _++_}
