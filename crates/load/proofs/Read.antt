@@ -32,7 +32,8 @@ use Rattle.value.specs.Field.{pagedOf, pageOf}
 use Rattle.store.specs.declared.Edit.{Edit}
 use Rattle.store.specs.declared.Edit.the-variants.{Up as SetUp, Down as SetDown, Followon as SetFollowon, Link as SetLink, Level as SetLevel}
 use Rattle.store.specs.Form.{hasLink}
-use Rattle.store.specs.Memories.{canHave, InTime}
+use Rattle.store.specs.Memories.{canHave}
+use Rattle.store.specs.Fits.{InTime}
 use Rattle.load.specs.declared.Secondary.{Secondary}
 use Rattle.load.specs.declared.Secondary.the-variants.{Chan, Up, Down, Followon, Link}
 use Rattle.load.specs.declared.Numeral.{Numeral}

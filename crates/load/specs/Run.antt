@@ -99,23 +99,14 @@ classOf (Dropped c) = dropped
 classOf Obeyed = obeyed
 classOf (Stopped c) = cond (eqb c 0) obeyed dropped
 
+abbrev pub classNumber : Class → ℕ
+classNumber blank = 0
+classNumber passed = 1
+classNumber dropped = 2
+classNumber obeyed = 3
+
 unfoldable pub eqClass : Class → Class → Bool
-eqClass blank blank = true
-eqClass blank passed = false
-eqClass blank dropped = false
-eqClass blank obeyed = false
-eqClass passed blank = false
-eqClass passed passed = true
-eqClass passed dropped = false
-eqClass passed obeyed = false
-eqClass dropped blank = false
-eqClass dropped passed = false
-eqClass dropped dropped = true
-eqClass dropped obeyed = false
-eqClass obeyed blank = false
-eqClass obeyed passed = false
-eqClass obeyed dropped = false
-eqClass obeyed obeyed = true
+eqClass a b = eqb (classNumber a) (classNumber b)
 
 unfoldable pub tallyOf : Class → List Outcome → ℕ
 tallyOf k [] = 0

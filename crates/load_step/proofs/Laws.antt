@@ -20,7 +20,7 @@ use Rattle.text_fields.proofs.Counts.{words-few}
 use Rattle.store.specs.declared.Edit.{Edit}
 use Rattle.store.specs.Slots.{find}
 use Rattle.store.specs.Change.{blankSlot, seat, started, edited, editAt}
-use Rattle.store.specs.Memories.{EditFits}
+use Rattle.store.specs.Fits.{EditFits}
 use Rattle.store.proofs.Places.{put-length}
 use Rattle.store.proofs.Start.{blank-length, started-at, start-own, found-used}
 use Rattle.store.proofs.Edits.{edited-at, edit-at-find, edit-at-length, in-time-fits}

@@ -15,7 +15,7 @@ use Rattle.store_desk.specs.declared.Kind.the-variants.{Cue, Group, Sub}
 use Rattle.store_desk.specs.Size.{InRange, headLength, slotsOf, storeLength}
 use Rattle.store_desk.proofs.Size.{slot-le}
 use Rattle.store_desk.proofs.Name.{kind-end}
-use Rattle.store_head.specs.Layout.{PatchFits}
+use Rattle.store_head.specs.Fits.{PatchFits}
 use Rattle.store_head.proofs.Laws.{decode-patch-fits}
 use Rattle.store.specs.Slots.{slotAt, headAt, levelsAt, keyOf}
 use Rattle.store.specs.View.{memoryAt, patchedTo}

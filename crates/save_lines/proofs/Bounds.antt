@@ -14,7 +14,7 @@ use Rattle.store_desk.specs.declared.Key.{Key}
 use Rattle.store_desk.specs.declared.Kind.{Kind}
 use Rattle.store_head.specs.declared.Head.{Head}
 use Rattle.store_head.specs.declared.Patch.{Patch}
-use Rattle.store_head.specs.Layout.{HeadFits, PatchFits}
+use Rattle.store_head.specs.Fits.{HeadFits, PatchFits}
 use Rattle.value_written.specs.Text.{integerText, numberText, timeText}
 use Rattle.value_written.proofs.Texts.{integer-short}
 use Rattle.save_lines.specs.Line.{crlf, joined, patchLine, kindText, primaryText, delayText, timeLine, linkLine, headLines, Lit, litFrom, pairText, pairsText, mostPairs, chanLinesIn, chanLines}

@@ -18,7 +18,7 @@ use Rattle.store_desk.specs.declared.Kind.{Kind}
 use Rattle.store_desk.specs.declared.Kind.the-variants.{Cue, Group, Sub}
 use Rattle.store_head.specs.declared.Head.{Head}
 use Rattle.store_head.specs.declared.Patch.{Patch}
-use Rattle.store_head.specs.Layout.{HeadFits, PatchFits}
+use Rattle.store_head.specs.Fits.{HeadFits, PatchFits}
 use Rattle.value.specs.Number.{fractionDigits}
 use Rattle.value.specs.Time.{tenthsDigits}
 use Rattle.value_written.specs.Text.{isPlain, integerText, fractionText, numberText, levelText, clockText, timeText}

@@ -23,7 +23,8 @@ use Rattle.store_desk.specs.Size.{headLength, slotLength, slotsOf, storeLength}
 use Rattle.store_desk.specs.Name.{Name, firstSlot, slotCount, kindAt, eqKey, eqName, okNumber}
 use Rattle.store_desk.proofs.Name.{eq-name, ok-number}
 use Rattle.store_head.specs.declared.Head.{Head}
-use Rattle.store_head.specs.Layout.{HeadFits, encodeHead, decodeHead}
+use Rattle.store_head.specs.Layout.{encodeHead, decodeHead}
+use Rattle.store_head.specs.Fits.{HeadFits}
 use Rattle.store_head.proofs.Laws.{decode-encode, length-encode, decode-take, decode-fits}
 use Rattle.store.specs.declared.Edit.{Edit}
 use Rattle.store.specs.declared.Edit.the-variants.{Up, Down, Followon, Link, Level}
@@ -31,7 +32,8 @@ use Rattle.store.specs.Slots.{slotAt, entryAt, headAt, levelPlace, putLe
 use Rattle.store.specs.View.{Memory, Kept, absent, kept, memoryAt, memoryOf}
 use Rattle.store.specs.Change.{editHead, withHead, editSlot, editAt, edited}
 use Rattle.store.specs.Form.{hasTimes, hasLink, timeFits, linkFits, valuesFit}
-use Rattle.store.specs.Memories.{memoryIn, editLevels, editMemory, mapKept, canHave, EditFits, InTime}
+use Rattle.store.specs.Memories.{memoryIn, editLevels, editMemory, mapKept, canHave}
+use Rattle.store.specs.Fits.{EditFits, InTime}
 use Rattle.store.specs.Good.{Ready}
 use Rattle.store.proofs.Places.{slot-length, slot-headed, put-length, slot-same, slot-other, slot-patch, slot-tail}
 use Rattle.store.proofs.Levels.{level-slot}

@@ -15,7 +15,8 @@ use Rattle.store_desk.specs.declared.Key.{Key}
 use Rattle.store_desk.specs.Size.{slotLength, slotsOf, storeLength}
 use Rattle.store_desk.specs.Name.{Name, firstSlot, slotCount, slotsEnd, kindAt, eqKey, eqName}
 use Rattle.store_desk.proofs.Name.{eq-key, eq-key-true, eq-name, eq-name-key, kind-of, kind-end}
-use Rattle.store_head.specs.Layout.{HeadFits, decodeHead}
+use Rattle.store_head.specs.Layout.{decodeHead}
+use Rattle.store_head.specs.Fits.{HeadFits}
 use Rattle.store_head.proofs.Laws.{decode-fits}
 use Rattle.store.specs.Slots.{slotAt, putSlot, headAt, levelsAt, keyOf, isUsed, holdsAt, find, onFound}
 use Rattle.store.specs.View.{Memory, absent, kept, memoryAt, memoryOf}

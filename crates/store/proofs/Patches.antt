@@ -21,7 +21,8 @@ use Rattle.store_desk.specs.declared.Desk.{Desk}
 use Rattle.store_desk.specs.Size.{Within, InRange, entryLength, slotLength, slotsOf, patchStart, entriesOf, storeLength}
 use Rattle.store_desk.specs.Name.{Name, firstSlot, slotCount, entryOf}
 use Rattle.store_desk.proofs.Name.{kind-end, entry-inside, entry-same}
-use Rattle.store_head.specs.Layout.{PatchFits, encodePatch, decodePatch}
+use Rattle.store_head.specs.Layout.{encodePatch, decodePatch}
+use Rattle.store_head.specs.Fits.{PatchFits}
 use Rattle.store_head.proofs.Laws.{decode-encode-patch, length-encode-patch, decode-patch-zeros}
 use Rattle.store.specs.Slots.{slotAt, entryAt, isUsed, holdsAt, find, onFound}
 use Rattle.store.specs.View.{absent, kept, memoryAt, memoryOf, patchedTo}

@@ -18,7 +18,8 @@ use Rattle.store_desk.specs.declared.Kind.the-variants.{Cue, Group, Sub}
 use Rattle.store_desk.specs.Size.{headLength, slotLength, levelsLength, slotsOf, storeLength, InRange}
 use Rattle.store_desk.specs.Name.{Name, firstSlot, slotCount, slotsEnd, kindAt, eqName, okName, KeyFits, subSlot}
 use Rattle.store_desk.proofs.Name.{kind-of, kind-end, ok-fits, sub-parts, sub-inside}
-use Rattle.store_head.specs.Layout.{HeadFits, encodeHead, decodeHead}
+use Rattle.store_head.specs.Layout.{encodeHead, decodeHead}
+use Rattle.store_head.specs.Fits.{HeadFits}
 use Rattle.store_head.proofs.Laws.{decode-encode, length-encode}
 use Rattle.store.specs.Slots.{slotAt, putSlot, entryAt, headAt, keyOf, isUsed, holdsAt, find, onFound}
 use Rattle.store.specs.View.{Memory, absent, kept, memoryAt, memoryOf}

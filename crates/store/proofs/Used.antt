@@ -16,7 +16,7 @@ use Rattle.store_desk.specs.Name.{Name, firstSlot, slotCount, slotsEnd, eqName}
 use Rattle.store_desk.proofs.Name.{eq-name-true}
 use Rattle.store.specs.Slots.{headAt, isUsed, holdsAt, find}
 use Rattle.store.specs.Change.{seat}
-use Rattle.store.specs.Memories.{usedCount}
+use Rattle.store.specs.Fits.{usedCount}
 use Rattle.store.specs.Good.{GoodForm}
 use Rattle.store.proofs.Find.{holds-own, holds-true}
 use Rattle.store.proofs.Form.{placed-found}

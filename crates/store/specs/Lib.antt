@@ -5,4 +5,5 @@ pub mod Form
 pub mod First
 pub mod Order
 pub mod Memories
+pub mod Fits
 pub mod Good

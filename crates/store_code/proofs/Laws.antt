@@ -25,13 +25,14 @@ use Rattle.store_desk.proofs.Size.{slot-le, slots-le, patch-le, store-le}
 use Rattle.store_desk.proofs.Name.{kind-end, entry-inside}
 use Rattle.store_head.specs.declared.Head.{Head}
 use Rattle.store_head.specs.declared.Patch.{Patch}
-use Rattle.store_head.specs.Layout.{HeadFits, encodeHead, decodeHead, encodePatch, decodePatch}
+use Rattle.store_head.specs.Layout.{encodeHead, decodeHead, encodePatch, decodePatch}
+use Rattle.store_head.specs.Fits.{HeadFits}
 use Rattle.store_head.proofs.Laws.{length-encode, decode-fits, length-encode-patch}
 use Rattle.store.specs.declared.Edit.{Edit}
 use Rattle.store.specs.declared.Edit.the-variants.{Level}
 use Rattle.store.specs.Slots.{slotAt, putSlot, entryAt, putEntry, levelsAt, levelPlace}
 use Rattle.store.specs.Change.{blankHead, blankSlot, editHead, withHead, editSlot, editAt, hitsAt, clearFrom, patchPageLength, clearedPatch, patchEntry, patched, cleared}
-use Rattle.store.specs.Memories.{EditFits}
+use Rattle.store.specs.Fits.{EditFits}
 use Rattle.store.specs.View.{patchedTo}
 use Rattle.store.proofs.Places.{slots-end, slot-end, entry-end, slot-length, entry-length}
 use Rattle.store.proofs.Levels.{level-inside, level-slot}

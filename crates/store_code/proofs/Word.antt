@@ -18,7 +18,7 @@ use Rattle.store_desk.specs.Size.{slotsOf}
 use Rattle.store_desk.specs.Name.{KeyFits, eqKey, firstSlot, slotCount}
 use Rattle.store_desk.proofs.Name.{eq-key, eq-key-true, kind-end}
 use Rattle.store_head.specs.Pack.{Bytes}
-use Rattle.store_head.specs.Layout.{usedWord, pageWord, wholeWord, wordOf}
+use Rattle.store_head.specs.Fits.{usedWord, pageWord, wholeWord, wordOf}
 use Rattle.store_head.proofs.Laws.{word-sum}
 use Rattle.store.specs.Slots.{headAt, keyOf, isUsed, holdsAt, find}
 use Rattle.store.specs.Change.{onPage, hitsAt, lowestUnused}

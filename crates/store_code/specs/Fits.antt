@@ -8,7 +8,7 @@ use Rattle.store_desk.specs.declared.Desk.{Desk}
 use Rattle.store_desk.specs.Size.{Within, InRange, storeLength}
 use Rattle.store.specs.declared.Edit.{Edit}
 use Rattle.store.specs.declared.Edit.the-variants.{Up, Down, Followon, Link, Level}
-use Rattle.store.specs.Memories.{EditFits}
+use Rattle.store.specs.Fits.{EditFits}
 
 -- every limit is in its range, and the store has the needed length
 pub record Fitting (d : Desk) (s : List ℕ) : Type 0 where

@@ -15,7 +15,7 @@ use Rattle.store_desk.specs.declared.Kind.{Kind}
 use Rattle.store_desk.specs.declared.Kind.the-variants.{Cue, Group, Sub}
 use Rattle.store_desk.specs.Size.{Within, InRange, mostPages, subSlots, slotsOf, entriesOf}
 use Rattle.value.specs.Number.{wholeMax, fractionMax}
-use Rattle.store_head.specs.Layout.{wholeSpan, fractionSpan}
+use Rattle.store_head.specs.Fits.{wholeSpan, fractionSpan}
 use Rattle.store_desk.specs.Name.{firstSlot, slotCount, slotsEnd, pagesOf, kindAt, supported, Name, kindNumber, eqKind, eqKey, eqName, okNumber, okSub, okWithin, okPage, okName, KeyFits, subSlot, entryOf}
 use Rattle.store_desk.proofs.Size.{within, all-at, all-none, all-more}
 use Rattle.cells.proofs.Split.{by-lt, cond-true, cond-false, same-test}

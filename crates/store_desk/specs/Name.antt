@@ -5,7 +5,7 @@ use mathlib.Core.List.{[], _∷_}
 use Prim.Native.Nat.{ℕ, _+_, _-_, _*_, _<_}
 use lib.Dec.{leb, ltb, eqb}
 use Rattle.value.specs.Number.{wholeMax, fractionMax}
-use Rattle.store_head.specs.Layout.{pageSpan, wholeSpan, fractionSpan}
+use Rattle.store_head.specs.Fits.{pageSpan, wholeSpan, fractionSpan}
 use Rattle.store_desk.specs.declared.Desk.{Desk}
 use Rattle.store_desk.specs.declared.Key.{Key}
 use Rattle.store_desk.specs.declared.Kind.{Kind}

@@ -25,7 +25,7 @@ use Rattle.store_desk.specs.Size.{InRange, slotsOf, subSlots}
 use Rattle.store_desk.specs.Name.{firstSlot, slotCount, kindAt, eqKey, okName, subSlot}
 use Rattle.store_desk.proofs.Name.{eq-key, eq-key-true, kind-at, kind-of}
 use Rattle.store_head.specs.Pack.{Bytes}
-use Rattle.store_head.specs.Layout.{usedWord, wordOf}
+use Rattle.store_head.specs.Fits.{usedWord, wordOf}
 use Rattle.store.specs.Slots.{headAt, keyOf, isUsed, holdsAt, find}
 use Rattle.store.specs.Form.{placeFits, valuesFit, nameAt, slotFits}
 use Rattle.store.specs.First.{isAt, repeatsAt, badSlot, repeatedSlot, isNowhere}

@@ -13,7 +13,7 @@ use Rattle.store_desk.specs.declared.Desk.{Desk}
 use Rattle.store_desk.specs.declared.Kind.the-variants.{Sub}
 use Rattle.store_desk.specs.Size.{mostCues, mostGroups}
 use Rattle.store_desk.specs.Name.{firstSlot}
-use Rattle.store_head.specs.Layout.{usedWord}
+use Rattle.store_head.specs.Fits.{usedWord}
 use Rattle.store.specs.Order.{slotWord}
 
 -- the most cue and group slots

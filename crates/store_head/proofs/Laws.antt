@@ -13,7 +13,8 @@ use lib.Seq.{drop-drop, getD-drop}
 use Rattle.store_head.specs.declared.Head.{Head}
 use Rattle.store_head.specs.declared.Patch.{Patch}
 use Rattle.store_head.specs.Pack.{total, packed, unpacked, FitsIn, Bytes}
-use Rattle.store_head.specs.Layout.{octets, headWidths, headValues, headFrom, HeadFits, encodeHead, decodeHead, keyWidths, usedWord, pageWord, wholeWord, wordOf, quickOf, patchWidths, patchValues, patchOf, PatchFits, encodePatch, decodePatch}
+use Rattle.store_head.specs.Layout.{octets, headWidths, headValues, headFrom, encodeHead, decodeHead, patchWidths, patchValues, patchOf, encodePatch, decodePatch}
+use Rattle.store_head.specs.Fits.{HeadFits, keyWidths, usedWord, pageWord, wholeWord, wordOf, quickOf, PatchFits}
 use Rattle.store_head.specs.Words.{firstWord, secondWord, thirdWord}
 use Rattle.store_head.proofs.Pack.{packed-lt, unpacked-fits, unpack-pack, pack-unpack-lt, unpacked-append, packed-at, packed-append, packed-cut-in, field-high, field-below, field-across, length-unpacked, packed-front, packed-take, octets-fit, unpacked-bytes, packed-zeros}
 

@@ -1,7 +1,7 @@
 -- The head of a slot and the patch entry as tables of widths (paper 01, "The store"), and their bytes.
 -- Assumes nothing.
 use mathlib.Core.List.{List, [], _∷_}
-use Prim.Native.Nat.{ℕ, _+_, _/_, _^_, _<_}
+use Prim.Native.Nat.{ℕ}
 use lib.ListN.{getD, replicate}
 use Rattle.store_head.specs.declared.Head.{Head}
 use Rattle.store_head.specs.declared.Patch.{Patch}
@@ -67,25 +67,6 @@ downAt = 10
 abbrev pub followonAt : ℕ
 followonAt = 13
 
--- how many values the bits of each hold
-abbrev pub flagSpan : ℕ
-flagSpan = 2 ^ flagBits
-
-abbrev pub pageSpan : ℕ
-pageSpan = 2 ^ pageBits
-
-abbrev pub wholeSpan : ℕ
-wholeSpan = 2 ^ wholeBits
-
-abbrev pub fractionSpan : ℕ
-fractionSpan = 2 ^ fractionBits
-
-abbrev pub timeSpan : ℕ
-timeSpan = 2 ^ timeBits
-
-abbrev pub restSpan : ℕ
-restSpan = 2 ^ restBits
-
 abbrev pub headValues : Head → List ℕ
 headValues h =
     h .used
@@ -127,51 +108,12 @@ headFrom vs =
       rest = getD vs 15 0;
     }
 
--- each field fits its width
-pub record HeadFits (h : Head) : Type 0 where
-  pub used : h .used < flagSpan
-  pub page : h .page < pageSpan
-  pub whole : h .whole < wholeSpan
-  pub fraction : h .fraction < fractionSpan
-  pub link : h .link < flagSpan
-  pub linkWhole : h .«link_whole» < wholeSpan
-  pub linkFraction : h .«link_fraction» < fractionSpan
-  pub up : h .up < flagSpan
-  pub upFade : h .«up_fade» < timeSpan
-  pub upDelay : h .«up_delay» < timeSpan
-  pub down : h .down < flagSpan
-  pub downFade : h .«down_fade» < timeSpan
-  pub downDelay : h .«down_delay» < timeSpan
-  pub followon : h .followon < flagSpan
-  pub followonTime : h .«followon_time» < timeSpan
-  pub rest : h .rest < restSpan
-
 unfoldable pub encodeHead : Head → List ℕ
 encodeHead h = unpacked (octets 24) (packed headWidths (headValues h))
 
 -- of the first 24 bytes of a list
 unfoldable pub decodeHead : List ℕ → Head
 decodeHead s = headFrom (unpacked headWidths (packed (octets 24) s))
-
--- ---- the key in one number, for a fast search: the first 21 bits of a head, three bytes without their last three bits
-abbrev pub keyWidths : List ℕ
-keyWidths = flagBits ∷ pageBits ∷ wholeBits ∷ fractionBits ∷ []
-
--- what the used bit, one page and one whole number count in it; a used slot's is the first of these or more (law `word-sum`)
-abbrev pub usedWord : ℕ
-usedWord = 2 ^ (pageBits + wholeBits + fractionBits)
-
-abbrev pub pageWord : ℕ
-pageWord = 2 ^ (wholeBits + fractionBits)
-
-abbrev pub wholeWord : ℕ
-wholeWord = 2 ^ fractionBits
-
-unfoldable pub wordOf : ℕ → ℕ → ℕ → ℕ → ℕ
-wordOf used page whole fraction = packed keyWidths (used ∷ page ∷ whole ∷ fraction ∷ [])
-
-unfoldable pub quickOf : List ℕ → ℕ
-quickOf s = packed (octets 3) s / 8
 
 -- ---- the patch entry: 3 bytes
 
@@ -182,19 +124,11 @@ channelBits = 10
 abbrev pub patchWidths : List ℕ
 patchWidths = channelBits ∷ 8 ∷ 6 ∷ []
 
-abbrev pub channelSpan : ℕ
-channelSpan = 2 ^ channelBits
-
 abbrev pub patchValues : Patch → List ℕ
 patchValues p = p .channel ∷ p .level ∷ p .rest ∷ []
 
 abbrev pub patchOf : List ℕ → Patch
 patchOf vs = record { channel = getD vs 0 0; level = getD vs 1 0; rest = getD vs 2 0 }
-
-pub record PatchFits (p : Patch) : Type 0 where
-  pub channel : p .channel < channelSpan
-  pub level : p .level < 256
-  pub rest : p .rest < 64
 
 unfoldable pub encodePatch : Patch → List ℕ
 encodePatch p = unpacked (octets 3) (packed patchWidths (patchValues p))

@@ -1,3 +1,4 @@
 pub mod Pack
 pub mod Layout
+pub mod Fits
 pub mod Words

@@ -3,7 +3,8 @@ ghost use mathlib.Core.Path.{_≡_};
 ghost use Prim.Native.Nat.{_+_, _≤_, _<_};
 ghost use lib.ListN.{length, getD, drop};
 ghost use Rattle.store_head.specs.Pack.{packed};
-ghost use Rattle.store_head.specs.Layout.{octets, pageSpan, wholeSpan, fractionSpan, HeadFits, encodeHead, decodeHead, wordOf, quickOf, PatchFits, encodePatch, decodePatch};
+ghost use Rattle.store_head.specs.Layout.{octets, encodeHead, decodeHead, encodePatch, decodePatch};
+ghost use Rattle.store_head.specs.Fits.{pageSpan, wholeSpan, fractionSpan, HeadFits, wordOf, quickOf, PatchFits};
 ghost use Rattle.store_head.specs.Words.{firstWord, secondWord, thirdWord};
 
 // The fields of a head; the flags are 0 or 1. `rest` is the bits that good form wants zero.

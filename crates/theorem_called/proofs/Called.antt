@@ -37,7 +37,8 @@ use Rattle.cells.specs.Search.{firstFrom, allFrom, countFrom}
 use Rattle.store_desk.specs.Size.{allOf, inRangeOf, levelWidth, levelsLength, slotLength, subSlots, slotsOf, patchStart, entriesOf, neededOf}
 use Rattle.store_desk.specs.Name.{firstSlot, slotCount, pagesOf, kindAt, supported, eqKind, eqKey, eqName, lessKey, okNumber, okSub, okWithin, okPage, okName, subSlot, entryOf}
 use Rattle.store_head.specs.Pack.{total, packed, unpacked}
-use Rattle.store_head.specs.Layout.{encodeHead, decodeHead, wordOf, quickOf, encodePatch, decodePatch}
+use Rattle.store_head.specs.Layout.{encodeHead, decodeHead, encodePatch, decodePatch}
+use Rattle.store_head.specs.Fits.{wordOf, quickOf}
 use Rattle.store_head.specs.Words.{firstWord, secondWord, thirdWord}
 use Rattle.store.specs.Slots.{slotAt, putSlot, entryAt, putEntry, headAt, levelsAt, levelPlace, holdsAt, find, onFound, placeOf}
 use Rattle.store.specs.Form.{hasTimes, hasLink, isZero, linkFits, valuesFit, placeFits, shares, slotFits, patchFits, entryFits}

@@ -18,7 +18,8 @@ use Rattle.store.specs.declared.Edit.{Edit}
 use Rattle.store.specs.declared.Edit.the-variants.{Level as SetLevel}
 use Rattle.store.specs.View.{absent, kept, memoryOf, patchedTo}
 use Rattle.store.specs.Change.{seat, started, edited, onPage, hits, patchEntry, patched, cleared, clearedPatch}
-use Rattle.store.specs.Memories.{blankMemory, editMemory, mapKept, EditFits}
+use Rattle.store.specs.Memories.{blankMemory, editMemory, mapKept}
+use Rattle.store.specs.Fits.{EditFits}
 use Rattle.store.specs.Good.{Ready}
 use Rattle.store.proofs.Start.{start-view, start-patch, start-tail}
 use Rattle.store.proofs.Edits.{edit-view, edit-patch, edit-tail, in-time-fits}

@@ -20,7 +20,8 @@ use Rattle.store.specs.declared.Edit.{Edit}
 use Rattle.store.specs.declared.Edit.the-variants.{Up, Down, Followon, Link, Level}
 use Rattle.store.specs.View.{Memory, Kept, absent, kept, memoryOf}
 use Rattle.store.specs.Change.{seat, started, edited, editHead}
-use Rattle.store.specs.Memories.{blankMemory, editLevels, editMemory, mapKept, EditFits}
+use Rattle.store.specs.Memories.{blankMemory, editLevels, editMemory, mapKept}
+use Rattle.store.specs.Fits.{EditFits}
 use Rattle.store.specs.Good.{Ready}
 use Rattle.store.proofs.Start.{start-view}
 use Rattle.store.proofs.Edits.{edit-view}

@@ -19,14 +19,15 @@ use Rattle.store_desk.specs.Size.{Within, levelWidth, levelsLength}
 use Rattle.store_desk.specs.Name.{okNumber}
 use Rattle.store_head.specs.declared.Head.{Head}
 use Rattle.store_head.specs.Pack.{Bytes}
-use Rattle.store_head.specs.Layout.{HeadFits}
+use Rattle.store_head.specs.Fits.{HeadFits}
 use Rattle.store.specs.declared.Edit.{Edit}
 use Rattle.store.specs.declared.Edit.the-variants.{Up, Down, Followon, Link}
 use Rattle.store.specs.Slots.{keyOf}
 use Rattle.store.specs.View.{Memory}
 use Rattle.store.specs.Change.{blankHead, editHead}
 use Rattle.store.specs.Form.{hasTimes, hasLink, timeFits, linkFits}
-use Rattle.store.specs.Memories.{blankMemory, editLevels, editMemory, canHave, InTime}
+use Rattle.store.specs.Memories.{blankMemory, editLevels, editMemory, canHave}
+use Rattle.store.specs.Fits.{InTime}
 use Rattle.store.proofs.Levels.{level-next}
 use Rattle.store.proofs.Edits.{Values}
 use Rattle.save_lines.specs.Line.{Lit, litFrom}

@@ -20,7 +20,7 @@ use Rattle.store.specs.Change.{seat}
 use Rattle.store.specs.Form.{nameAt}
 use Rattle.store.specs.Order.{inOrder}
 use Rattle.store.specs.Good.{Ready}
-use Rattle.store.specs.Memories.{usedCount}
+use Rattle.store.specs.Fits.{usedCount}
 use Rattle.store.proofs.Form.{found-self}
 use Rattle.store.proofs.Find.{kept-absent}
 use Rattle.store.proofs.Start.{absent-at, kept-room}

@@ -4,7 +4,7 @@ use native.Mathlib.Omega.{arith}
 use mathlib.Core.Path.{sym, subst}
 use Rattle.store_code.proofs.Laws.{slot-long, slot-ends, lent-length, slot-back, blank-is}
 use Rattle.store.proofs.Start.{blank-fits, blank-length}
-use Rattle.store_head.specs.Layout.{HeadFits}
+use Rattle.store_head.specs.Fits.{HeadFits}
 use borrow.Author.Needs.{needs}
 use Rattle.store_code.proofs.blank.Statement.{statement}
 use Rattle.store_code.proofs.blank.Tie as tie

@@ -2,7 +2,8 @@
 -- Assumes nothing.
 use mathlib.Core.Path.{sym, subst, ap, _∙_}
 use Rattle.cells.specs.Put.{put}
-use Rattle.store_head.specs.Layout.{HeadFits, encodeHead}
+use Rattle.store_head.specs.Layout.{encodeHead}
+use Rattle.store_head.specs.Fits.{HeadFits}
 use Rattle.store.specs.Change.{editHead, withHead}
 use borrow.Author.Needs.{needs}
 use Rattle.store_code.proofs.change_head.Statement.{statement}

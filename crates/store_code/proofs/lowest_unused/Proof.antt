@@ -6,7 +6,7 @@ use mathlib.Core.Path.{_≡_, refl, _∙_}
 use Prim.Native.Nat.{_-_}
 use Rattle.cells.specs.Search.{firstFrom}
 use Rattle.cells.proofs.Search.{search-end}
-use Rattle.store_head.specs.Layout.{usedWord}
+use Rattle.store_head.specs.Fits.{usedWord}
 use Rattle.store_code.proofs.Laws.{kind-small, kind-slot}
 use Rattle.store_code.proofs.Found.{at-place, nowhere-place}
 use Rattle.store_code.proofs.Word.{isBelow, below-hit, below-miss, unused-words}

@@ -3,7 +3,7 @@
 use native.Mathlib.Omega.{arith}
 use mathlib.Core.Path.{_∙_, ap}
 use Rattle.store_code.proofs.Laws.{slot-head}
-use Rattle.store_head.specs.Layout.{quickOf}
+use Rattle.store_head.specs.Fits.{quickOf}
 use Rattle.store.specs.Order.{slotWord}
 use borrow.Author.Needs.{needs}
 use Rattle.store_code.proofs.word_at.Statement.{statement}

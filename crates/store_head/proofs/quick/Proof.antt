@@ -1,6 +1,6 @@
 -- `quick` meets its contract.
 -- Assumes nothing.
-use Rattle.store_head.specs.Layout.{quickOf}
+use Rattle.store_head.specs.Fits.{quickOf}
 use mathlib.Core.Path.{refl}
 use borrow.Author.Needs.{needs}
 use Rattle.store_head.proofs.quick.Statement.{statement}

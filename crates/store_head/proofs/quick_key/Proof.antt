@@ -1,6 +1,6 @@
 -- `quick_key` meets its contract: the sum is the packed row.
 -- Assumes nothing.
-use Rattle.store_head.specs.Layout.{wordOf}
+use Rattle.store_head.specs.Fits.{wordOf}
 use Rattle.store_head.specs.Pack.{packed, total}
 use native.Mathlib.Omega.{arith}
 use borrow.Author.Needs.{needs}
