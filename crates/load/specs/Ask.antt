@@ -147,7 +147,7 @@ unfoldable pub linkBy : Numeral → Reading
 linkBy (Wrong c) = Misread c
 linkBy (Number whole fraction) = Change (SetLink whole fraction)
 
--- UP, DOWN, FOLLOWON, LINK: the change that the fields ask for
+-- UP, DOWN, FOLLOWON, LINK: the change that the fields ask for. CHAN asks for items, and never comes here
 unfoldable pub timesOf : Secondary → List Word → Reading
 timesOf Chan ws = Misread 0
 timesOf Up ws = fadeOf (λ fade delay. SetUp fade delay) ws

@@ -50,7 +50,7 @@ badSub = 44
 abbrev pub malformedSub : ℕ
 malformedSub = malformedInteger
 
--- §9.2, §9.3: a desk without groups, without submasters
+-- §9.2, §9.3: a desk without groups, without submasters. Every desk has cues, so that the number for cues is never reported
 unfoldable pub unsupportedOf : Kind → ℕ
 unsupportedOf Cue = 0
 unsupportedOf Group = 51
