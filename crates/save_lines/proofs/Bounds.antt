@@ -14,7 +14,7 @@ use Rattle.store_desk.specs.declared.Key.{Key}
 use Rattle.store_desk.specs.declared.Kind.{Kind}
 use Rattle.store_head.specs.declared.Head.{Head}
 use Rattle.store_head.specs.declared.Patch.{Patch}
-use Rattle.store_head.specs.Fits.{HeadFits, PatchFits}
+use Rattle.store_head.specs.Fits.{pageSpan, wholeSpan, timeSpan, HeadFits, PatchFits}
 use Rattle.value_written.specs.Text.{integerText, numberText, timeText}
 use Rattle.value_written.proofs.Texts.{integer-short}
 use Rattle.save_lines.specs.Line.{crlf, joined, patchLine, kindText, primaryText, delayText, timeLine, linkLine, headLines, Lit, litFrom, pairText, pairsText, mostPairs, chanLinesIn, chanLines}
@@ -33,7 +33,7 @@ patch-most page dimmer p hp hd f =
     (λ e. let l = patch-length-some page dimmer p {a = length (integerText page)} refl refl refl e in omega arith)
 
 -- ---- the primary
-pub primary-most : (k : Kind) (key : Key) → key .page < 64 → key .whole < 1024 → length (joined (primaryText k key ∷ [])) ≤ 17
+pub primary-most : (k : Kind) (key : Key) → key .page < pageSpan → key .whole < wholeSpan → length (joined (primaryText k key ∷ [])) ≤ 17
 primary-most k key hp hw =
     let a = kind-long k in
     let b = number-six (key .whole) (key .fraction) hw in
@@ -42,7 +42,7 @@ primary-most k key hp hw =
     omega arith
 
 -- ---- times and LINK
-time-most : (word : List ℕ) (present fade delay n : ℕ) → fade < 67108864 → length (delayText delay) ≤ n
+time-most : (word : List ℕ) (present fade delay n : ℕ) → fade < timeSpan → length (delayText delay) ≤ n
     → length (joined (timeLine word present fade delay)) ≤ length word + 14 + n
 time-most word present fade delay n hf hd =
     let a = time-twelve fade hf in
@@ -50,7 +50,7 @@ time-most word present fade delay n hf hd =
     (λ e. let l = time-length-none word present fade delay e in omega arith)
     (λ e. let l = time-length-some word present fade delay {a = length (timeText fade)} refl refl e in omega arith)
 
-link-most : (h : Head) → h .«link_whole» < 1024 → length (joined (linkLine h)) ≤ 13
+link-most : (h : Head) → h .«link_whole» < wholeSpan → length (joined (linkLine h)) ≤ 13
 link-most h hw =
     let a = number-six (h .«link_whole») (h .«link_fraction») hw in
     by-eq (h .link) 0

@@ -18,7 +18,7 @@ use Rattle.store_desk.specs.declared.Kind.{Kind}
 use Rattle.store_desk.specs.declared.Kind.the-variants.{Cue, Group, Sub}
 use Rattle.store_head.specs.declared.Head.{Head}
 use Rattle.store_head.specs.declared.Patch.{Patch}
-use Rattle.store_head.specs.Fits.{HeadFits, PatchFits}
+use Rattle.store_head.specs.Fits.{wholeSpan, timeSpan, HeadFits, PatchFits}
 use Rattle.value.specs.Number.{fractionDigits}
 use Rattle.value.specs.Time.{tenthsDigits}
 use Rattle.value_written.specs.Text.{isPlain, integerText, fractionText, numberText, levelText, clockText, timeText}
@@ -82,7 +82,7 @@ time-source t = from-plain (timeText t) (time-plain t)
 integer-four : (n : ℕ) → n < 10000 → length (integerText n) ≤ 4
 integer-four n h = integer-short n 3 h
 
-pub number-six : (w f : ℕ) → w < 1024 → length (numberText w f) ≤ 6
+pub number-six : (w f : ℕ) → w < wholeSpan → length (numberText w f) ≤ 6
 number-six w f h =
     let a : length (integerText w) ≤ 4 = integer-four w (omega arith) in
     let b : length (fractionText fractionDigits f) ≤ fractionDigits + 1 = fraction-short fractionDigits f in
@@ -107,7 +107,7 @@ clock-ten s h =
     let e : length (clockText s) ≡ length (integerText (s / 3600)) + 6 = clock-length-hours s m in
     omega arith))
 
-pub time-twelve : (t : ℕ) → t < 67108864 → length (timeText t) ≤ 12
+pub time-twelve : (t : ℕ) → t < timeSpan → length (timeText t) ≤ 12
 time-twelve t h =
     let g : t / 10 < 6710887 = omega arith in
     let a = clock-ten (t / 10) g in
@@ -165,7 +165,7 @@ primary-source k key =
     let ep : Source p = all-append isSource (bytes " ") (integerText (key .page)) refl (integer-source (key .page)) in
     all-append isSource (kindText k) (n ++ p) (kind-source k) (all-append isSource n p (number-source (key .whole) (key .fraction)) ep)
 
-primary-short : (k : Kind) (key : Key) → key .page < 10000 → key .whole < 1024 → length (primaryText k key) ≤ 80
+primary-short : (k : Kind) (key : Key) → key .page < 10000 → key .whole < wholeSpan → length (primaryText k key) ≤ 80
 unfolding primaryText
 primary-short k key hp hw =
     let n : List ℕ = numberText (key .whole) (key .fraction) in
@@ -177,7 +177,7 @@ primary-short k key hp hw =
     let m : length (kindText k ++ (n ++ p)) ≡ length (kindText k) + length (n ++ p) = length-append (kindText k) (n ++ p) in
     omega arith
 
-pub primary-ruled : (k : Kind) (key : Key) → key .page < 10000 → key .whole < 1024 → Ruled (primaryText k key)
+pub primary-ruled : (k : Kind) (key : Key) → key .page < 10000 → key .whole < wholeSpan → Ruled (primaryText k key)
 primary-ruled k key hp hw = record { short = primary-short k key hp hw; source = primary-source k key }
 
 -- ---- times
@@ -188,7 +188,7 @@ delay-source delay =
     (λ e. subst Source (sym (delay-none delay e)) refl)
     (λ e. subst Source (delay-some delay e) (all-append isSource (bytes " ") (timeText delay) refl (time-source delay)))
 
-pub delay-short : (delay : ℕ) → delay < 67108864 → length (delayText delay) ≤ 13
+pub delay-short : (delay : ℕ) → delay < timeSpan → length (delayText delay) ≤ 13
 delay-short delay h =
     by-eq delay 0
     (λ e. let l : length (delayText delay) ≡ 0 = ap length (delay-none delay e) in omega arith)
@@ -197,7 +197,7 @@ delay-short delay h =
     let m = time-twelve delay h in
     omega arith)
 
-module _ (word : List ℕ) (present fade delay : ℕ) (s : Source word) (lw : length word ≤ 9) (lf : fade < 67108864) (ld : delay < 67108864) where
+module _ (word : List ℕ) (present fade delay : ℕ) (s : Source word) (lw : length word ≤ 9) (lf : fade < timeSpan) (ld : delay < timeSpan) where
   abbrev time-text : List ℕ
   time-text = word ++ (timeText fade ++ delayText delay)
 
@@ -226,7 +226,7 @@ module _ (word : List ℕ) (present fade delay : ℕ) (s : Source word) (lw : le
       ))
 
 -- ---- LINK
-link-ruled : (h : Head) → h .«link_whole» < 1024 → AllRuled (linkLine h)
+link-ruled : (h : Head) → h .«link_whole» < wholeSpan → AllRuled (linkLine h)
 unfolding linkLine isSource span
 link-ruled h lw =
     let n : List ℕ = numberText (h .«link_whole») (h .«link_fraction») in
