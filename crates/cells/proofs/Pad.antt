@@ -3,11 +3,11 @@
 -- Assumes nothing.
 use mathlib.Core.Path.{_≡_, sym, ap, _∙_, subst}
 use mathlib.Core.List.{List, [], _∷_, _++_}
-use Prim.Native.Nat.{ℕ, zero, suc, _+_, _-_, _<_}
+use Prim.Native.Nat.{ℕ, zero, suc, _+_, _-_, _<_, _≤_}
 use native.Mathlib.Nat.{sub-zero, zero-sub, suc-sub-suc}
 use native.Mathlib.Omega.{arith}
-use lib.ListN.{length, getD, set, take, drop, replicate, length-append, List·getD-append}
-use lib.Seq.{take-append-seam, set-append-seam, append-snoc}
+use lib.ListN.{length, getD, set, drop, replicate, length-append, length-replicate, List·getD-append}
+use lib.Seq.{set-append-seam, append-snoc}
 use Rattle.cells.specs.Pad.{padded}
 
 pub drop-replicate : (k n : ℕ) → drop k (replicate n zero) ≡ replicate (n - k) 0
@@ -15,17 +15,16 @@ drop-replicate zero n = ap (λ (j : ℕ). replicate j zero) (sym (sub-zero n))
 drop-replicate (suc k) zero = ap (λ (j : ℕ). replicate j zero) (sym (zero-sub (suc k)))
 drop-replicate (suc k) (suc n) = drop-replicate k n ∙ ap (λ (j : ℕ). replicate j zero) (sym (suc-sub-suc n k))
 
-pub take-padded : (n : ℕ) (xs : List ℕ) → take (length xs) (padded n xs) ≡ xs
-unfolding padded
-take-padded n xs = take-append-seam xs (replicate (n - length xs) 0)
-
--- the same where the count is known by an equation
-pub take-padded-at : (n : ℕ) (xs : List ℕ) (k : ℕ) → k ≡ length xs → take k (padded n xs) ≡ xs
-take-padded-at n xs k e = ap (λ (j : ℕ). take j (padded n xs)) e ∙ take-padded n xs
-
 pub getD-padded : (n : ℕ) (xs : List ℕ) (i : ℕ) → i < length xs → getD (padded n xs) i 0 ≡ getD xs i 0
 unfolding padded
 getD-padded n xs i h = List·getD-append xs (replicate (n - length xs) 0) 0 i h
+
+pub length-padded : (n : ℕ) (xs : List ℕ) → length xs ≤ n → length (padded n xs) ≡ n
+unfolding padded
+length-padded n xs h =
+    let e : length (xs ++ replicate (n - length xs) 0) ≡ length xs + length (replicate {A = ℕ} (n - length xs) 0) = length-append xs (replicate (n - length xs) 0) in
+    let f : length (replicate {A = ℕ} (n - length xs) 0) ≡ n - length xs = length-replicate (n - length xs) 0 in
+    omega arith
 
 -- nothing yet
 pub padded-nil : (n : ℕ) → padded n [] ≡ replicate n 0

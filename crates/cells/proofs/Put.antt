@@ -8,7 +8,7 @@ use native.Mathlib.Nat.{add-zero, zero-add, suc-add}
 use native.Mathlib.Numerals.{add-one}
 use native.Mathlib.Omega.{arith}
 use lib.ListN.{length, getD, set, take, drop, replicate, length-append, length-drop, length-replicate, take-append-drop}
-use lib.Seq.{length-take-le, take-all, take-nil, take-at, drop-at, set-at, drop-drop, take-take, take-suc, drop-cons, append-snoc, drop-append-add, take-append-add, take-append-le, drop-append-le}
+use lib.Seq.{length-take-le, take-all, take-nil, take-at, drop-at, set-at, drop-drop, take-take, take-suc, drop-cons, append-snoc, drop-append-add, take-append-add, take-append-le, drop-append-le, getD-drop}
 use borrow.Rule.Slice.PartMut.{put-same}
 use Rattle.cells.specs.Put.{put}
 use Rattle.cells.proofs.Split.{by-lt}
@@ -78,6 +78,14 @@ part-before t a xs b n h l =
 
 pub part-after : (t : List ℕ) (a : ℕ) (xs : List ℕ) (b n : ℕ) → a + length xs ≤ b → a ≤ length t → take n (drop b (put t a xs)) ≡ take n (drop b t)
 part-after t a xs b n h l = ap (λ (z : List ℕ). take n z) (drop-after t a xs b h l)
+
+-- an element after it
+pub getD-after : (t : List ℕ) (a : ℕ) (xs : List ℕ) (i : ℕ) → a + length xs ≤ i → a ≤ length t → getD (put t a xs) i 0 ≡ getD t i 0
+getD-after t a xs i h l =
+    let z : i + 0 ≡ i = omega arith in
+    ap (λ (k : ℕ). getD (put t a xs) k 0) (sym z) ∙ sym (getD-drop i (put t a xs) 0 0)
+    ∙ ap (λ (r : List ℕ). getD r 0 0) (drop-after t a xs i h l)
+    ∙ getD-drop i t 0 0 ∙ ap (λ (k : ℕ). getD t k 0) z
 
 -- ---- one more element at the part's end: what a writer's turn does
 pub put-snoc : (t : List ℕ) (a : ℕ) (xs : List ℕ) (v : ℕ)

@@ -151,3 +151,12 @@ span-take p (suc n) (c ∷ s) h =
     let l : span p s ≤ n = omega arith in
     span-hit p c (take n s) e ∙ ap suc (span-take p n s l) ∙ sym a)
     (λ e. span-miss p c (take n s) e ∙ sym (span-miss p c s e))
+
+-- ---- past n elements that pass
+pub span-past : (p : ℕ → Bool) (s : List ℕ) (n : ℕ) → n ≤ length s → ((k : ℕ) → k < n → p (getD s k 0) ≡ true) → span p s ≡ n + span p (drop n s)
+span-past p s zero h f = sym (zero-add (span p s))
+span-past p [] (suc n) h f = absurd (omega arith)
+span-past p (c ∷ s) (suc n) h f =
+    span-hit p c s (f 0 (omega arith))
+    ∙ ap suc (span-past p s n (omega arith) (λ k l. f (suc k) (omega arith)))
+    ∙ sym (suc-add n (span p (drop n s)))

@@ -1,28 +1,26 @@
--- What is left of a record, made in one pass: a character's kind decides, the characters kept so far are followed by those kept of
--- the rest, and what was seen so far is joined to what the rest has. By cases on a character's kind.
+-- What is left of a record: which characters are kept and which were seen, one after the other; the kept ones in front of the others. By
+-- cases on a character's tests, and by induction on the characters.
 -- Assumes nothing.
-use mathlib.Core.Path.{_≡_, refl, sym, ap, _∙_}
-use mathlib.Core.Bool.{Bool, true, false, cond, not, _||_, true≢false}
-use mathlib.Core.List.{List, [], _∷_, _++_, append-nil, map-append}
-use Prim.Native.Nat.{ℕ, suc, _+_, _-_, _≤_, _<_, zero-le, suc-le-suc}
+use mathlib.Core.Path.{_≡_, refl, sym, ap, _∙_, subst}
+use mathlib.Core.Bool.{Bool, true, false, cond, not, _||_}
+use mathlib.Core.List.{List, [], _∷_, _++_, append-nil}
+use Prim.Native.Nat.{ℕ, zero, suc, _+_, _≤_, _<_, max, zero-le, suc-le-suc}
 use native.Mathlib.Numerals.{add-one}
 use native.Mathlib.Omega.{arith}
-use lib.Dec.{eqb, ltb}
-use lib.ListN.{length, getD, set, take, drop, replicate, length-append, length-map, drop-of-length-le}
-use lib.Seq.{drop-cons, append-snoc}
-use borrow.Author.Tests.{le-ltb, lt-leb, ne-eqb, eqb-true, leb-true}
-use Rattle.cells.specs.Pad.{padded}
-use Rattle.cells.proofs.Pad.{padded-nil, padded-push, take-padded-at}
-use Rattle.cells.proofs.Split.{by-test, cond-true, cond-false, or-false, or-true-left, or-true-right}
+use lib.Dec.{eqb, ltb, leb}
+use lib.ListN.{length, getD, set, take, drop, length-append, drop-of-length-le, length-set}
+use lib.Seq.{drop-cons, append-snoc, length-take-le, take-at, take-append-le}
+use borrow.Author.Tests.{lt-ltb, le-ltb, ltb-true, ltb-false, lt-leb, le-leb, ne-eqb, eq-eqb, eqb-true, leb-true, leb-false, not-true}
+use Rattle.cells.specs.Put.{put}
+use Rattle.cells.proofs.Put.{put-nil, put-zero, put-push, put-front, put-part, length-put, getD-after}
+use Rattle.cells.proofs.Scan.{span-hit, span-miss, span-nil, span-le, span-take, all-below}
+use Rattle.cells.proofs.Split.{by-test, by-bool, by-eq, cond-true, cond-false, or-false, or-left, or-right, or-true-left, or-true-right, or-none, not-of-true, not-of-false, not-not}
 use Rattle.text_records.specs.declared.Cleaned.{Cleaned}
 use Rattle.text_records.specs.declared.Seen.{Seen}
-use Rattle.text_records.specs.declared.Record.{Record}
-use Rattle.text_records.specs.Received.{longest, recordOf, textOf}
-use Rattle.text_records.proofs.Received.{received-text}
-use Rattle.text_records.specs.Cleaning.{isHigh, isControl, isMark, KeptChar, keptFrom, keptOf, has, chars, columns, cleanedOf}
-use Rattle.text_records.specs.Kinds.{highKind, controlKind, markKind, keptKind, kindOf, seenFrom}
+use Rattle.text_records.specs.Cleaning.{isHigh, isControl, isMark, keptOf, has}
+use Rattle.text_records.specs.Window.{controlOf, seenOf, isKept, markOf, InFront, inFront, cleanedOf}
 
--- ---- a character's kind
+-- ---- a character is of one sort
 pub high-control : (c : ℕ) → isHigh c ≡ true → isControl c ≡ false
 unfolding isHigh isControl
 high-control c e =
@@ -39,76 +37,94 @@ mark-text c e =
     let h : c ≡ 33 = eqb-true c 33 e in
     cond-false (ltb c 32) (not (eqb c 9)) (eqb c 127) (le-ltb c 32 (omega arith)) ∙ ne-eqb c 127 (omega arith)
 
--- the number that three tests give tells each of them
-number : Bool → Bool → Bool → ℕ
-number h c m = cond h highKind (cond c controlKind (cond m markKind keptKind))
+-- as the code tests it
+pub high-is : (c : ℕ) → 127 < c → isHigh c ≡ true
+unfolding isHigh
+high-is c h = le-leb 128 c (omega arith)
 
-number-high : (h c m : Bool) → h ≡ eqb (number h c m) highKind
-unfolding number
-number-high true c m = refl
-number-high false true m = refl
-number-high false false true = refl
-number-high false false false = refl
+pub high-not : (c : ℕ) → c ≤ 127 → isHigh c ≡ false
+unfolding isHigh
+high-not c h = lt-leb 128 c (omega arith)
 
-number-control : (h c m : Bool) → (h ≡ true → c ≡ false) → c ≡ eqb (number h c m) controlKind
-unfolding number
-number-control true c m f = f refl
-number-control false true m f = refl
-number-control false false true f = refl
-number-control false false false f = refl
+high-above : (c : ℕ) → isHigh c ≡ true → 127 < c
+unfolding isHigh
+high-above c e = let h : 128 ≤ c = leb-true 128 c e in omega arith
 
-number-mark : (h c m : Bool) → (m ≡ true → h ≡ false) → (m ≡ true → c ≡ false) → m ≡ eqb (number h c m) markKind
-unfolding number
-number-mark true c true f g = absurd (true≢false (f refl))
-number-mark true c false f g = refl
-number-mark false true true f g = absurd (true≢false (g refl))
-number-mark false true false f g = refl
-number-mark false false true f g = refl
-number-mark false false false f g = refl
+high-below : (c : ℕ) → isHigh c ≡ false → c ≤ 127
+unfolding isHigh
+high-below c e = let h : c < 128 = leb-false 128 c e in omega arith
 
-number-last : (h c m : Bool) → (number h c m ≡ keptKind → ⊥) → (number h c m ≡ highKind → ⊥) → (number h c m ≡ controlKind → ⊥)
-    → number h c m ≡ markKind
-unfolding number
-number-last true c m f g h = absurd (g refl)
-number-last false true m f g h = absurd (h refl)
-number-last false false true f g h = refl
-number-last false false false f g h = absurd (f refl)
+pub mark-is : (c : ℕ) → c ≡ 33 → not (isMark c) ≡ false
+unfolding isMark
+mark-is c h = not-of-true (eqb c 33) (eq-eqb c 33 h)
 
-module _ (c : ℕ) {k : ℕ} (e : k ≡ kindOf c) where
-  is-high : isHigh c ≡ eqb k highKind
-  unfolding kindOf number
-  is-high = number-high (isHigh c) (isControl c) (isMark c) ∙ ap (λ (n : ℕ). eqb n highKind) (sym e)
+pub mark-not : (c : ℕ) → (c ≡ 33 → ⊥) → not (isMark c) ≡ true
+unfolding isMark
+mark-not c h = not-of-false (eqb c 33) (ne-eqb c 33 h)
 
-  is-control : isControl c ≡ eqb k controlKind
-  unfolding kindOf number
-  is-control = number-control (isHigh c) (isControl c) (isMark c) (high-control c) ∙ ap (λ (n : ℕ). eqb n controlKind) (sym e)
-
-  is-mark : isMark c ≡ eqb k markKind
-  unfolding kindOf number
-  is-mark = number-mark (isHigh c) (isControl c) (isMark c) (mark-plain c) (mark-text c) ∙ ap (λ (n : ℕ). eqb n markKind) (sym e)
-
-  -- a kind that is none of the first three is the last
-  kind-last : (k ≡ keptKind → ⊥) → (k ≡ highKind → ⊥) → (k ≡ controlKind → ⊥) → k ≡ markKind
-  unfolding kindOf number
-  kind-last f g h =
-      e ∙ number-last (isHigh c) (isControl c) (isMark c) (λ d. f (e ∙ d)) (λ d. g (e ∙ d)) (λ d. h (e ∙ d))
+-- not ignored, as the code tests it
+pub kept-is : (c : ℕ) → isKept c ≡ cond (leb 127 c) false (not (isControl c))
+unfolding isKept isControl
+kept-is c =
+    by-test (λ (b : Bool). isKept c ≡ b) (leb 127 c) false (not (isControl c))
+    (λ t.
+    let h : 127 ≤ c = leb-true 127 c t in
+    not-of-true (isHigh c || isControl c)
+    (by-eq c 127
+    (λ e.
+    or-true-right (isHigh c) (isControl c)
+    (cond-false (ltb c 32) (not (eqb c 9)) (eqb c 127) (le-ltb c 32 (omega arith)) ∙ eq-eqb c 127 e))
+    (λ ne. or-true-left (isHigh c) (isControl c) (high-is c (omega arith)))))
+    (λ t.
+    let h : c < 127 = leb-false 127 c t in
+    ap (λ (b : Bool). not (b || isControl c)) (high-not c (omega arith)))
 
 -- ---- a character at the front decides what is kept
-module _ (column c : ℕ) (cs : List ℕ) where
-  kept-this : isHigh c ≡ false → isControl c ≡ false → isMark c ≡ false
-      → keptFrom column (c ∷ cs) ≡ record { char = c; column = column } ∷ keptFrom (column + 1) cs
-  unfolding keptFrom
+kept-nil : keptOf [] ≡ []
+unfolding keptOf
+kept-nil = refl
+
+module _ (c : ℕ) (cs : List ℕ) where
+  pub kept-this : isHigh c ≡ false → isControl c ≡ false → isMark c ≡ false → keptOf (c ∷ cs) ≡ c ∷ keptOf cs
+  unfolding keptOf
   kept-this h k m =
       cond-false (isMark c) _ _ m ∙ cond-false (isHigh c || isControl c) _ _ (or-false (isHigh c) (isControl c) h k)
 
-  kept-past : (isHigh c || isControl c) ≡ true → isMark c ≡ false → keptFrom column (c ∷ cs) ≡ keptFrom (column + 1) cs
-  unfolding keptFrom
+  kept-past : (isHigh c || isControl c) ≡ true → isMark c ≡ false → keptOf (c ∷ cs) ≡ keptOf cs
+  unfolding keptOf
   kept-past h m = cond-false (isMark c) _ _ m ∙ cond-true (isHigh c || isControl c) _ _ h
 
-  kept-stop : isMark c ≡ true → keptFrom column (c ∷ cs) ≡ []
-  unfolding keptFrom
+  kept-stop : isMark c ≡ true → keptOf (c ∷ cs) ≡ []
+  unfolding keptOf
   kept-stop m = cond-true (isMark c) _ _ m
 
+pub kept-length : (xs : List ℕ) → length (keptOf xs) ≤ length xs
+unfolding keptOf
+kept-length [] = zero-le
+kept-length (c ∷ cs) =
+    let r : length (keptOf cs) ≤ length cs = kept-length cs in
+    by-test (λ (ks : List ℕ). length ks ≤ suc (length cs)) (isMark c) _ _ (λ e. zero-le)
+    (λ e. by-test (λ (ks : List ℕ). length ks ≤ suc (length cs)) (isHigh c || isControl c) _ _ (λ f. omega arith) (λ f. suc-le-suc r))
+
+-- what follows the `!` adds nothing
+abbrev unmarked : ℕ → Bool
+unmarked c = not (isMark c)
+
+kept-front : (xs : List ℕ) → keptOf (take (markOf xs) xs) ≡ keptOf xs
+kept-front [] = ap (λ (k : ℕ). keptOf (take k [])) (span-nil unmarked)
+kept-front (c ∷ cs) =
+    by-bool (isMark c)
+    (λ m. ap (λ (k : ℕ). keptOf (take k (c ∷ cs))) (span-miss unmarked c cs (not-of-true (isMark c) m)) ∙ kept-nil ∙ sym (kept-stop c cs m))
+    (λ m.
+    ap (λ (k : ℕ). keptOf (take k (c ∷ cs))) (span-hit unmarked c cs (not-of-false (isMark c) m))
+    ∙ by-bool (isHigh c || isControl c)
+    (λ h. kept-past c (take (markOf cs) cs) h m ∙ kept-front cs ∙ sym (kept-past c cs h m))
+    (λ h. more h m (take (markOf cs) cs) ∙ ap (λ (r : List ℕ). c ∷ r) (kept-front cs) ∙ sym (more h m cs)))
+  where
+    more : (isHigh c || isControl c) ≡ false → isMark c ≡ false → (ys : List ℕ) → keptOf (c ∷ ys) ≡ c ∷ keptOf ys
+    more h m ys = kept-this c ys (or-left (isHigh c) (isControl c) h) (or-right (isHigh c) (isControl c) h) m
+
+-- ---- what stands in a record
 has-this : (p : ℕ → Bool) (c : ℕ) (cs : List ℕ) → p c ≡ true → has p (c ∷ cs) ≡ true
 unfolding has
 has-this p c cs e = or-true-left (p c) (has p cs) e
@@ -117,210 +133,259 @@ has-past : (p : ℕ → Bool) (c : ℕ) (cs : List ℕ) → p c ≡ false → ha
 unfolding has
 has-past p c cs e = ap (λ (b : Bool). b || has p cs) e
 
+pub has-none : (p : ℕ → Bool) (xs : List ℕ) → ((k : ℕ) → k < length xs → p (getD xs k 0) ≡ false) → has p xs ≡ false
+unfolding has
+has-none p [] f = refl
+has-none p (c ∷ cs) f =
+    or-false (p c) (has p cs) (f 0 (omega arith)) (has-none p cs (λ k h. f (suc k) (omega arith)))
+
+pub none-has : (p : ℕ → Bool) (xs : List ℕ) → has p xs ≡ false → (k : ℕ) → k < length xs → p (getD xs k 0) ≡ false
+unfolding has
+none-has p [] e k h = absurd (omega arith)
+none-has p (c ∷ cs) e zero h = or-left (p c) (has p cs) e
+none-has p (c ∷ cs) e (suc k) h = none-has p cs (or-right (p c) (has p cs) e) k (omega arith)
+
+-- without ignored characters all is kept up to the `!`
+kept-all : (xs : List ℕ) → has isHigh xs ≡ false → has isControl xs ≡ false → keptOf xs ≡ take (markOf xs) xs
+unfolding has
+kept-all [] h k = kept-nil ∙ ap (λ (n : ℕ). take n []) (sym (span-nil unmarked))
+kept-all (c ∷ cs) h k =
+    by-bool (isMark c)
+    (λ m. kept-stop c cs m ∙ ap (λ (n : ℕ). take n (c ∷ cs)) (sym (span-miss unmarked c cs (not-of-true (isMark c) m))))
+    (λ m.
+    kept-this c cs (or-left (isHigh c) (has isHigh cs) h) (or-left (isControl c) (has isControl cs) k) m
+    ∙ ap (λ (r : List ℕ). c ∷ r) (kept-all cs (or-right (isHigh c) (has isHigh cs) h) (or-right (isControl c) (has isControl cs) k))
+    ∙ ap (λ (n : ℕ). take n (c ∷ cs)) (sym (span-hit unmarked c cs (not-of-false (isMark c) m))))
+
 -- ---- at place i
 front : (s : List ℕ) (i : ℕ) → i < length s → drop i s ≡ getD s i 0 ∷ drop (i + 1) s
 front s i h = drop-cons s i 0 h ∙ ap (λ (k : ℕ). getD s i 0 ∷ drop k s) (sym (add-one i))
 
-abbrev seen : Bool → Bool → Seen
-seen h c = record { high = h; control = c }
+-- a loop that looks for a character: b tells whether one stands before place i, so that `b || has p (drop i s) ≡ a`; m is what b becomes
+module _ (p : ℕ → Bool) (s : List ℕ) (i : ℕ) (b : Bool) {a m : Bool} where
+  pub looked-this : {t : Bool} → i < length s → t ≡ p (getD s i 0) → t ≡ true → m ≡ true → (b || has p (drop i s)) ≡ a
+      → (m || has p (drop (i + 1) s)) ≡ a
+  looked-this l e f g h =
+      or-true-left m (has p (drop (i + 1) s)) g
+      ∙ sym (or-true-right b (has p (drop i s)) (ap (has p) (front s i l) ∙ has-this p (getD s i 0) (drop (i + 1) s) (sym e ∙ f))) ∙ h
 
-module _ (s : List ℕ) (i : ℕ) {k : ℕ} (l : i < length s) (e : k ≡ kindOf (getD s i 0)) (high control : Bool) where
-  abbrev rest : List ℕ
-  rest = drop (i + 1) s
+  pub looked-past : {t : Bool} → i < length s → t ≡ p (getD s i 0) → t ≡ false → m ≡ b → (b || has p (drop i s)) ≡ a
+      → (m || has p (drop (i + 1) s)) ≡ a
+  looked-past l e f g h =
+      ap (λ (x : Bool). x || has p (drop (i + 1) s)) g
+      ∙ ap (λ (x : Bool). b || x) (sym (ap (has p) (front s i l) ∙ has-past p (getD s i 0) (drop (i + 1) s) (sym e ∙ f))) ∙ h
 
-  seen-front : {a b : Bool} → has isHigh (getD s i 0 ∷ rest) ≡ a → has isControl (getD s i 0 ∷ rest) ≡ b
-      → seenFrom high control (drop i s) ≡ seen (high || a) (control || b)
-  unfolding seenFrom
-  seen-front f g =
-      ap (seenFrom high control) (front s i l) ∙ (λ j. seen (high || f j) (control || g j))
+  -- whatever stands at place i
+  pub looked-on : i < length s → m ≡ (b || p (getD s i 0)) → (b || has p (drop i s)) ≡ a → (m || has p (drop (i + 1) s)) ≡ a
+  looked-on l g h =
+      by-bool (p (getD s i 0))
+      (λ t. looked-this l refl t (g ∙ or-true-right b (p (getD s i 0)) t) h)
+      (λ t. looked-past l refl t (g ∙ ap (λ (x : Bool). b || x) t ∙ or-none b) h)
 
-  pub seen-high : k ≡ highKind → seenFrom high control (drop i s) ≡ seenFrom true control (drop (i + 1) s)
-  unfolding seenFrom
-  seen-high f =
-      seen-front (has-this isHigh (getD s i 0) rest (is-high (getD s i 0) e ∙ ap (λ (n : ℕ). eqb n highKind) f))
-      (has-past isControl (getD s i 0) rest (is-control (getD s i 0) e ∙ ap (λ (n : ℕ). eqb n controlKind) f))
-      ∙ ap (λ (h : Bool). seen h (control || has isControl rest)) (or-true-right high true refl)
+-- the largest so far tells it
+pub high-grown : (m c : ℕ) {r : ℕ} → r ≡ max m c → ltb 127 r ≡ (ltb 127 m || isHigh c)
+high-grown m c {r} e =
+    by-bool (isHigh c)
+    (λ t. lt-ltb 127 r (let h : 127 < c = high-above c t in omega (arith, e)) ∙ sym (or-true-right (ltb 127 m) (isHigh c) t))
+    (λ t.
+    let h : c ≤ 127 = high-below c t in
+    by-bool (ltb 127 m)
+    (λ u. lt-ltb 127 r (let k : 127 < m = ltb-true 127 m u in omega (arith, e)) ∙ sym (or-true-left (ltb 127 m) (isHigh c) u))
+    (λ u. le-ltb 127 r (let k : m ≤ 127 = ltb-false 127 m u in omega (arith, e)) ∙ sym (or-false (ltb 127 m) (isHigh c) u t)))
 
-  pub seen-control : k ≡ controlKind → seenFrom high control (drop i s) ≡ seenFrom high true (drop (i + 1) s)
-  unfolding seenFrom
-  seen-control f =
-      seen-front (has-past isHigh (getD s i 0) rest (is-high (getD s i 0) e ∙ ap (λ (n : ℕ). eqb n highKind) f))
-      (has-this isControl (getD s i 0) rest (is-control (getD s i 0) e ∙ ap (λ (n : ℕ). eqb n controlKind) f))
-      ∙ ap (λ (h : Bool). seen (high || has isHigh rest) h) (or-true-right control true refl)
+pub control-is : (c : ℕ) → isControl c ≡ true → 1 ≡ controlOf c
+unfolding controlOf
+control-is c t = sym (cond-true (isControl c) 1 0 t)
 
-  pub seen-none : (k ≡ highKind → ⊥) → (k ≡ controlKind → ⊥) → seenFrom high control (drop i s) ≡ seenFrom high control (drop (i + 1) s)
-  unfolding seenFrom
-  seen-none f g =
-      seen-front (has-past isHigh (getD s i 0) rest (is-high (getD s i 0) e ∙ ne-eqb k highKind f))
-      (has-past isControl (getD s i 0) rest (is-control (getD s i 0) e ∙ ne-eqb k controlKind g))
+pub control-not : (c : ℕ) → isControl c ≡ false → _≡_ {A = ℕ} 0 (controlOf c)
+unfolding controlOf
+control-not c t = sym (cond-false (isControl c) 1 0 t)
 
-pub seen-all : (s : List ℕ) (i : ℕ) (high control : Bool) → length s ≤ i → seenFrom high control (drop i s) ≡ seen high control
-unfolding seenFrom has
-seen-all s i high control h =
-    ap (seenFrom high control) (drop-of-length-le s h) ∙ (λ j. seen (or-none high j) (or-none control j))
-  where
-    or-none : (b : Bool) → (b || false) ≡ b
-    or-none true = refl
-    or-none false = refl
+pub control-grown : (m c : ℕ) {k r : ℕ} → k ≡ controlOf c → r ≡ max m k → ltb 0 r ≡ (ltb 0 m || isControl c)
+unfolding controlOf
+control-grown m c {k} {r} e f =
+    by-bool (isControl c)
+    (λ t.
+    let h : k ≡ 1 = e ∙ cond-true (isControl c) 1 0 t in
+    lt-ltb 0 r (let q : 0 < r = omega (arith, f) in q) ∙ sym (or-true-right (ltb 0 m) (isControl c) t))
+    (λ t.
+    let h : k ≡ 0 = e ∙ cond-false (isControl c) 1 0 t in
+    by-bool (ltb 0 m)
+    (λ u. lt-ltb 0 r (let q : 0 < m = ltb-true 0 m u in omega (arith, f)) ∙ sym (or-true-left (ltb 0 m) (isControl c) u))
+    (λ u. le-ltb 0 r (let q : m ≤ 0 = ltb-false 0 m u in omega (arith, f)) ∙ sym (or-false (ltb 0 m) (isControl c) u t)))
 
--- ---- one pass: what holds before place i
-pub record Sofar (s text places : List ℕ) (n : ℕ) (high control : Bool) (i : ℕ) : Type 0 where
-  pub ks : List KeptChar
-  pub within : i ≤ length s
+pub looked-all : (p : ℕ → Bool) (s : List ℕ) (i : ℕ) {a b : Bool} → length s ≤ i → (b || has p (drop i s)) ≡ a → b ≡ a
+unfolding has
+looked-all p s i {a} {b} l h =
+    sym (or-none b) ∙ ap (λ (x : Bool). b || x) (sym (ap (has p) (drop-of-length-le s l))) ∙ h
+
+pub seen-all : (s : List ℕ) {h c : Bool} → h ≡ has isHigh s → c ≡ has isControl s
+    → _≡_ {A = Seen} (record { high = h; control = c }) (seenOf s)
+unfolding seenOf
+seen-all s e f = λ j. record { high = e j; control = f j }
+
+-- ---- the kept ones move to the front: what holds before place i
+pub record Squeezed (s₀ s : List ℕ) (n i : ℕ) : Type 0 where
+  pub ks : List ℕ
+  pub within : i ≤ length s₀
+  pub long : length s ≡ length s₀
   pub size : n ≡ length ks
   pub few : n ≤ i
-  pub chars-held : text ≡ padded longest (chars ks)
-  pub places-held : places ≡ padded longest (columns ks)
-  pub same : keptOf s ≡ ks ++ keptFrom (i + 1) (drop i s)
-  pub seen-same : seenFrom false false s ≡ seenFrom high control (drop i s)
+  pub held : s ≡ put s₀ 0 ks
+  pub same : keptOf s₀ ≡ ks ++ keptOf (drop i s₀)
 
-pub sofar-none : (s : List ℕ) → Sofar s (replicate longest 0) (replicate longest 0) 0 false false 0
-sofar-none s =
-    record {
-      ks = [];
-      within = zero-le;
-      size = refl;
-      few = zero-le;
-      chars-held = sym (padded-nil longest);
-      places-held = sym (padded-nil longest);
-      same = refl;
-      seen-same = refl;
-    }
+pub squeezed-none : (s : List ℕ) → Squeezed s s 0 0
+squeezed-none s =
+    record { ks = []; within = zero-le; long = refl; size = refl; few = zero-le; held = sym (put-nil s 0); same = refl }
 
--- the answer, where all that is kept is held
-cleaned-is : (s text places : List ℕ) (n : ℕ) (ks : List KeptChar) {h c : Bool} → n ≡ length ks → text ≡ padded longest (chars ks)
-    → places ≡ padded longest (columns ks) → keptOf s ≡ ks → seenFrom false false s ≡ seen h c
-    → _≡_ {A = Cleaned} (record { text = text; columns = places; count = n; high = h; control = c }) (cleanedOf s)
-unfolding cleanedOf seenFrom
-cleaned-is s text places n ks e f g k v =
-    let f' : text ≡ padded longest (chars (keptOf s)) = f ∙ ap (λ (x : List KeptChar). padded longest (chars x)) (sym k) in
-    let g' : places ≡ padded longest (columns (keptOf s)) = g ∙ ap (λ (x : List KeptChar). padded longest (columns x)) (sym k) in
-    let e' : n ≡ length (keptOf s) = e ∙ ap (λ (x : List KeptChar). length x) (sym k) in
-    λ j. record { text = f' j; columns = g' j; count = e' j; high = sym v j .high; control = sym v j .control }
+module _ (s₀ s : List ℕ) (n i : ℕ) {t : Bool} (o : Squeezed s₀ s n i) (w : markOf s₀ ≡ length s₀) (l : i < length s)
+    (e : t ≡ isKept (getD s i 0)) where
+  here : i < length s₀
+  here = omega (arith, o .long)
 
-module _ (s text places : List ℕ) (n : ℕ) (high control : Bool) (i : ℕ) {k : ℕ}
-    (o : Sofar s text places n high control i) (l : i < length s) (e : k ≡ kindOf (getD s i 0)) where
-  abbrev this : KeptChar
-  this = record { char = getD s i 0; column = i + 1 }
+  -- what stands at place i was not yet written to
+  as-was : getD s i 0 ≡ getD s₀ i 0
+  as-was =
+      let h : 0 + length (o .ks) ≤ i = omega (arith, o .size, o .few) in
+      ap (λ (z : List ℕ). getD z i 0) (o .held) ∙ getD-after s₀ 0 (o .ks) i h zero-le
 
-  is-at : {ys : List KeptChar} → keptFrom (i + 1) (getD s i 0 ∷ drop (i + 1) s) ≡ ys → keptOf s ≡ o .ks ++ ys
+  no-mark : isMark (getD s₀ i 0) ≡ false
+  no-mark = not-true (isMark (getD s₀ i 0)) (all-below unmarked s₀ w i here)
+
+  ignored : {b : Bool} → t ≡ b → (isHigh (getD s₀ i 0) || isControl (getD s₀ i 0)) ≡ not b
+  unfolding isKept
+  ignored f =
+      sym (not-not (isHigh (getD s₀ i 0) || isControl (getD s₀ i 0))) ∙ ap not (ap isKept (sym as-was) ∙ sym e ∙ f)
+
+  is-at : {ys : List ℕ} → keptOf (getD s₀ i 0 ∷ drop (i + 1) s₀) ≡ ys → keptOf s₀ ≡ o .ks ++ ys
   is-at f =
-      o .same ∙ ap (λ (xs : List ℕ). o .ks ++ keptFrom (i + 1) xs) (front s i l) ∙ ap (λ (ys : List KeptChar). o .ks ++ ys) f
+      o .same ∙ ap (λ (xs : List ℕ). o .ks ++ keptOf xs) (front s₀ i here) ∙ ap (λ (ys : List ℕ). o .ks ++ ys) f
 
-  -- a character that is kept
-  pub sofar-kept : length s ≤ longest → k ≡ keptKind → Sofar s (set text n (getD s i 0)) (set places n (i + 1)) (n + 1) high control (i + 1)
-  sofar-kept h f =
-      let m : n < longest = omega (arith, o .few) in
+  pub squeezed-kept : {z : List ℕ} {m : ℕ} → t ≡ true → z ≡ set s n (getD s i 0) → m ≡ n + 1 → Squeezed s₀ z m (i + 1)
+  squeezed-kept f u v =
+      let c = getD s₀ i 0 in
+      let g : (isHigh c || isControl c) ≡ false = ignored f in
+      let r : n < length s₀ = omega (arith, o .few, here) in
+      let q : n ≡ 0 + length (o .ks) = omega (arith, o .size) in
       record {
-        ks = o .ks ++ (this ∷ []);
-        within = omega arith;
-        size = ap (λ (x : ℕ). x + 1) (o .size) ∙ sym (length-append (o .ks) (this ∷ []));
+        ks = o .ks ++ (c ∷ []);
+        within = omega (arith, here);
+        long = ap (λ (x : List ℕ). length x) u ∙ length-set s n (getD s i 0) ∙ o .long;
+        size = v ∙ ap (λ (x : ℕ). x + 1) (o .size) ∙ sym (length-append (o .ks) (c ∷ []));
         few = omega (arith, o .few);
-        chars-held =
-            ap (λ (xs : List ℕ). set xs n (getD s i 0)) (o .chars-held)
-            ∙ padded-push longest (chars (o .ks)) n (getD s i 0) (o .size ∙ sym (length-map (o .ks) _)) m
-            ∙ ap (padded longest) (sym (map-append _ (o .ks) (this ∷ [])));
-        places-held =
-            ap (λ (xs : List ℕ). set xs n (i + 1)) (o .places-held)
-            ∙ padded-push longest (columns (o .ks)) n (i + 1) (o .size ∙ sym (length-map (o .ks) _)) m
-            ∙ ap (padded longest) (sym (map-append _ (o .ks) (this ∷ [])));
+        held =
+            u ∙ ap (λ (x : ℕ). set s n x) as-was ∙ ap (λ (y : List ℕ). set y n c) (o .held) ∙ put-push s₀ 0 (o .ks) n c q r;
         same =
-            is-at (kept-this (i + 1) (getD s i 0) (drop (i + 1) s) (is-high (getD s i 0) e ∙ ap (λ (x : ℕ). eqb x highKind) f)
-            (is-control (getD s i 0) e ∙ ap (λ (x : ℕ). eqb x controlKind) f) (is-mark (getD s i 0) e ∙ ap (λ (x : ℕ). eqb x markKind) f))
-            ∙ sym (append-snoc (o .ks) this _);
-        seen-same = o .seen-same ∙ seen-none s i l e high control (omega arith) (omega arith);
+            is-at (kept-this c (drop (i + 1) s₀) (or-left (isHigh c) (isControl c) g) (or-right (isHigh c) (isControl c) g) no-mark)
+            ∙ sym (append-snoc (o .ks) c (keptOf (drop (i + 1) s₀)));
       }
 
-  -- one that is ignored
-  past : {h c : Bool} → (isHigh (getD s i 0) || isControl (getD s i 0)) ≡ true → isMark (getD s i 0) ≡ false
-      → seenFrom high control (drop i s) ≡ seenFrom h c (drop (i + 1) s) → Sofar s text places n h c (i + 1)
-  past f m v =
+  pub squeezed-past : {z : List ℕ} {m : ℕ} → t ≡ false → z ≡ s → m ≡ n → Squeezed s₀ z m (i + 1)
+  squeezed-past f u v =
       record {
         ks = o .ks;
-        within = omega arith;
-        size = o .size;
+        within = omega (arith, here);
+        long = ap (λ (x : List ℕ). length x) u ∙ o .long;
+        size = v ∙ o .size;
         few = omega (arith, o .few);
-        chars-held = o .chars-held;
-        places-held = o .places-held;
-        same = is-at (kept-past (i + 1) (getD s i 0) (drop (i + 1) s) f m);
-        seen-same = o .seen-same ∙ v;
+        held = u ∙ o .held;
+        same = is-at (kept-past (getD s₀ i 0) (drop (i + 1) s₀) (ignored f) no-mark);
       }
 
-  pub sofar-high : k ≡ highKind → Sofar s text places n true control (i + 1)
-  sofar-high f =
-      past (or-true-left (isHigh (getD s i 0)) (isControl (getD s i 0)) (is-high (getD s i 0) e ∙ ap (λ (x : ℕ). eqb x highKind) f))
-      (is-mark (getD s i 0) e ∙ ap (λ (x : ℕ). eqb x markKind) f) (seen-high s i l e high control f)
+module _ (s₀ s : List ℕ) (n i : ℕ) (o : Squeezed s₀ s n i) (l : length s ≤ i) where
+  all-there : keptOf s₀ ≡ o .ks
+  unfolding keptOf
+  all-there =
+      let h : length s₀ ≤ i = omega (arith, o .long) in
+      o .same ∙ ap (λ (xs : List ℕ). o .ks ++ keptOf xs) (drop-of-length-le s₀ h) ∙ append-nil (o .ks)
 
-  pub sofar-control : k ≡ controlKind → Sofar s text places n high true (i + 1)
-  sofar-control f =
-      past (or-true-right (isHigh (getD s i 0)) (isControl (getD s i 0)) (is-control (getD s i 0) e ∙ ap (λ (x : ℕ). eqb x controlKind) f))
-      (is-mark (getD s i 0) e ∙ ap (λ (x : ℕ). eqb x markKind) f) (seen-control s i l e high control f)
+  pub squeezed-count : n ≡ length (keptOf s₀)
+  squeezed-count = o .size ∙ ap (λ (k : List ℕ). length k) (sym all-there)
 
-  -- the `!`, with what its comment adds
-  pub sofar-mark : {r : Seen} → (k ≡ keptKind → ⊥) → (k ≡ highKind → ⊥) → (k ≡ controlKind → ⊥) → r ≡ seenFrom high control (drop (i + 1) s)
-      → _≡_ {A = Cleaned} (record { text = text; columns = places; count = n; high = r .high; control = r .control }) (cleanedOf s)
-  sofar-mark f g h v =
-      let m : k ≡ markKind = kind-last (getD s i 0) e f g h in
-      cleaned-is s text places n (o .ks) (o .size) (o .chars-held) (o .places-held)
-      (is-at (kept-stop (i + 1) (getD s i 0) (drop (i + 1) s) (is-mark (getD s i 0) e ∙ ap (λ (x : ℕ). eqb x markKind) m)) ∙ append-nil (o .ks))
-      (o .seen-same ∙ seen-none s i l e high control g h ∙ sym v)
+  pub squeezed-all : s ≡ put s₀ 0 (keptOf s₀)
+  squeezed-all = o .held ∙ ap (put s₀ 0) (sym all-there)
 
--- the end
-pub sofar-all : (s text places : List ℕ) (n : ℕ) (high control : Bool) (i : ℕ) → Sofar s text places n high control i → length s ≤ i
-    → _≡_ {A = Cleaned} (record { text = text; columns = places; count = n; high = high; control = control }) (cleanedOf s)
-unfolding keptFrom
-sofar-all s text places n high control i o h =
-    cleaned-is s text places n (o .ks) (o .size) (o .chars-held) (o .places-held)
-    (o .same ∙ ap (λ (xs : List ℕ). o .ks ++ keptFrom (i + 1) xs) (drop-of-length-le s h) ∙ append-nil (o .ks))
-    (o .seen-same ∙ seen-all s i high control h)
+-- ---- the text in front
+pub mark-within : (s : List ℕ) {end : ℕ} → end ≡ markOf s → end ≤ length s
+mark-within s e = let h : markOf s ≤ length s = span-le unmarked s in omega arith
 
--- ---- what callers cite: no more is kept than there is, and the kept characters and columns back out of the answer
-kept-few : (column : ℕ) (xs : List ℕ) → length (keptFrom column xs) ≤ length xs
-unfolding keptFrom
-kept-few column [] = zero-le
-kept-few column (c ∷ cs) =
-    let r : length (keptFrom (column + 1) cs) ≤ length cs = kept-few (column + 1) cs in
-    by-test (λ (ks : List KeptChar). length ks ≤ suc (length cs)) (isMark c) _ _ (λ e. zero-le)
-    (λ e. by-test (λ (ks : List KeptChar). length ks ≤ suc (length cs)) (isHigh c || isControl c) _ _ (λ f. omega arith) (λ f. suc-le-suc r))
+pub front-length : (s : List ℕ) {end : ℕ} → end ≡ markOf s → end ≡ length (take end s)
+front-length s {end} e = sym (length-take-le end s (mark-within s e))
 
-pub kept-length : (xs : List ℕ) → length (keptOf xs) ≤ length xs
-kept-length xs = kept-few 1 xs
+-- the part before the `!` has none
+pub front-unmarked : (s : List ℕ) {end : ℕ} → end ≡ markOf s → markOf (take end s) ≡ length (take end s)
+front-unmarked s {end} e =
+    let k : markOf s ≤ end = omega arith in
+    span-take unmarked end s k ∙ sym e ∙ front-length s e
 
--- the text of a record as received is that of its characters
-pub cleaned-received : (xs : List ℕ) {q : Record} {r : Cleaned} → q ≡ recordOf xs → length xs ≤ longest → r ≡ cleanedOf (textOf q)
-    → r ≡ cleanedOf xs
-cleaned-received xs e h f = f ∙ ap cleanedOf (received-text xs e h)
+module _ (s : List ℕ) {end : ℕ} {v : Seen} (e : end ≡ markOf s) (w : v ≡ seenOf s) where
+  high-seen : v .high ≡ has isHigh s
+  unfolding seenOf
+  high-seen = ap (λ (x : Seen). x .high) w
 
--- what stands in the answer
-module _ (xs : List ℕ) {r : Cleaned} (e : r ≡ cleanedOf xs) where
+  control-seen : v .control ≡ has isControl s
+  unfolding seenOf
+  control-seen = ap (λ (x : Seen). x .control) w
+
+  front-kept : keptOf (take end s) ≡ keptOf s
+  front-kept = ap (λ (k : ℕ). keptOf (take k s)) e ∙ kept-front s
+
+  answer : {n : ℕ} {bs : List ℕ} → n ≡ length (keptOf s) → bs ≡ put s 0 (keptOf s)
+      → inFront (record { count = n; high = v .high; control = v .control }) bs ≡ cleanedOf s
+  unfolding cleanedOf
+  answer f g = λ j. inFront (record { count = f j; high = high-seen j; control = control-seen j }) (g j)
+
+  -- a part that was squeezed
+  pub cleaned-squeezed : {n : ℕ} {ys : List ℕ} → n ≡ length (keptOf (take end s)) → ys ≡ put (take end s) 0 (keptOf (take end s))
+      → inFront (record { count = n; high = v .high; control = v .control }) (ys ++ drop end s) ≡ cleanedOf s
+  cleaned-squeezed {n} {ys} f g =
+      let l : 0 + end ≤ length s = omega (arith, mark-within s e) in
+      let m : length (keptOf (take end s)) ≤ length (take end s) = kept-length (take end s) in
+      let r : end ≡ length (take end s) = front-length s e in
+      answer (f ∙ ap (λ (k : List ℕ). length k) front-kept)
+      (put-front s 0 end ys (keptOf (take end s)) g (omega arith) l ∙ ap (put s 0) front-kept)
+
+  -- nothing to move
+  pub cleaned-same : v .high ≡ false → v .control ≡ false
+      → inFront (record { count = end; high = v .high; control = v .control }) s ≡ cleanedOf s
+  cleaned-same f g =
+      let l : 0 + end ≤ length s = omega (arith, mark-within s e) in
+      let k : keptOf s ≡ take end s = kept-all s (sym high-seen ∙ f) (sym control-seen ∙ g) ∙ ap (λ (n : ℕ). take n s) (sym e) in
+      answer (front-length s e ∙ ap (λ (r : List ℕ). length r) (sym k))
+      (sym (put-part s 0 end l) ∙ ap (put s 0) (sym k))
+
+-- ---- what callers cite: what stands in the answer, and the text at the front of the bytes
+module _ (xs : List ℕ) {r : Cleaned} {bs : List ℕ} (e : inFront r bs ≡ cleanedOf xs) where
   pub cleaned-count : r .count ≡ length (keptOf xs)
   unfolding cleanedOf
-  cleaned-count = ap (λ (c : Cleaned). c .count) e
+  cleaned-count = ap (λ (c : InFront). c .cleaned .count) e
 
   pub cleaned-high : r .high ≡ has isHigh xs
   unfolding cleanedOf
-  cleaned-high = ap (λ (c : Cleaned). c .high) e
+  cleaned-high = ap (λ (c : InFront). c .cleaned .high) e
 
   pub cleaned-control : r .control ≡ has isControl xs
   unfolding cleanedOf
-  cleaned-control = ap (λ (c : Cleaned). c .control) e
+  cleaned-control = ap (λ (c : InFront). c .cleaned .control) e
 
-  pub cleaned-text : take (r .count) (r .text) ≡ chars (keptOf xs)
+  cleaned-bytes : bs ≡ put xs 0 (keptOf xs)
   unfolding cleanedOf
+  cleaned-bytes = ap (λ (c : InFront). c .bytes) e
+
+  pub cleaned-text : take (r .count) bs ≡ keptOf xs
   cleaned-text =
-      ap (λ (c : Cleaned). take (c .count) (c .text)) e
-      ∙ take-padded-at longest (chars (keptOf xs)) (length (keptOf xs)) (sym (length-map (keptOf xs) _))
+      ap (λ (z : List ℕ). take (r .count) z) (cleaned-bytes ∙ put-zero xs (keptOf xs))
+      ∙ take-at (keptOf xs) (drop (length (keptOf xs)) xs) (r .count) (sym cleaned-count)
 
-  pub cleaned-columns : take (r .count) (r .columns) ≡ columns (keptOf xs)
-  unfolding cleanedOf
-  cleaned-columns =
-      ap (λ (c : Cleaned). take (c .count) (c .columns)) e
-      ∙ take-padded-at longest (columns (keptOf xs)) (length (keptOf xs)) (sym (length-map (keptOf xs) _))
+  pub cleaned-length : length bs ≡ length xs
+  cleaned-length =
+      let l : 0 + length (keptOf xs) ≤ length xs = omega (arith, kept-length xs) in
+      ap (λ (z : List ℕ). length z) cleaned-bytes ∙ length-put xs 0 (keptOf xs) l
 
-  -- and lie within the arrays
-  module _ (h : length xs ≤ longest) where
-    pub cleaned-fits : r .count ≤ longest
-    cleaned-fits =
-        let c : r .count ≡ length (keptOf xs) = cleaned-count in
-        let f : length (keptOf xs) ≤ length xs = kept-length xs in
-        omega arith
+  -- within the record's bytes
+  pub cleaned-within : r .count ≤ length xs
+  cleaned-within = subst (λ (n : ℕ). n ≤ length xs) (sym cleaned-count) (kept-length xs)
+
+  -- and the same where these are the front of an array
+  pub cleaned-front : (rest : List ℕ) → take (r .count) (bs ++ rest) ≡ keptOf xs
+  cleaned-front rest = take-append-le (r .count) bs rest (omega (arith, cleaned-within, cleaned-length)) ∙ cleaned-text

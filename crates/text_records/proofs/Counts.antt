@@ -10,7 +10,7 @@ use lib.ListN.{length, length-append, length-take}
 use Rattle.cells.specs.Scan.{span}
 use Rattle.cells.proofs.Split.{clash}
 use Rattle.text_records.specs.Stream.{isText, piecesOf, bare, recordsOf}
-use Rattle.text_records.specs.Cleaning.{isHigh, isControl, isMark, has, KeptChar, keptFrom, keptOf}
+use Rattle.text_records.specs.Cleaning.{isHigh, isControl, isMark, has, keptOf}
 use Rattle.text_records.proofs.Stream.{pieces-join}
 use Rattle.text_records.proofs.Cleaning.{high-control, mark-plain, mark-text}
 
@@ -18,25 +18,22 @@ use Rattle.text_records.proofs.Cleaning.{high-control, mark-plain, mark
 abbrev pub tell : Bool → ℕ
 tell b = cond b 1 0
 
-seen-by : (a b m : Bool) (p q : Bool) (n : ℕ) (k : KeptChar) (ks : List KeptChar) → (a ≡ true → b ≡ false) → (m ≡ true → a ≡ false) → (m ≡ true → b ≡ false)
-    → tell p + tell q + length ks ≤ n → tell (a || p) + tell (b || q) + length (cond m [] (cond (a || b) ks (k ∷ ks))) ≤ suc n
-seen-by true true m p q n k ks e f g h = clash refl (e refl)
-seen-by true false true p q n k ks e f g h = clash refl (f refl)
-seen-by false true true p q n k ks e f g h = clash refl (g refl)
-seen-by true false false p q n k ks e f g h = omega arith
-seen-by false true false p q n k ks e f g h = omega arith
-seen-by false false true p q n k ks e f g h = omega arith
-seen-by false false false p q n k ks e f g h = omega arith
-
-seen-from : (column : ℕ) (r : List ℕ) → tell (has isHigh r) + tell (has isControl r) + length (keptFrom column r) ≤ length r
-unfolding has keptFrom
-seen-from column [] = zero-le
-seen-from column (c ∷ r) =
-    seen-by (isHigh c) (isControl c) (isMark c) (has isHigh r) (has isControl r) (length r) _ (keptFrom (column + 1) r)
-    (high-control c) (mark-plain c) (mark-text c) (seen-from (column + 1) r)
+seen-by : (a b m : Bool) (p q : Bool) (n : ℕ) (c : ℕ) (ks : List ℕ) → (a ≡ true → b ≡ false) → (m ≡ true → a ≡ false) → (m ≡ true → b ≡ false)
+    → tell p + tell q + length ks ≤ n → tell (a || p) + tell (b || q) + length (cond m [] (cond (a || b) ks (c ∷ ks))) ≤ suc n
+seen-by true true m p q n c ks e f g h = clash refl (e refl)
+seen-by true false true p q n c ks e f g h = clash refl (f refl)
+seen-by false true true p q n c ks e f g h = clash refl (g refl)
+seen-by true false false p q n c ks e f g h = omega arith
+seen-by false true false p q n c ks e f g h = omega arith
+seen-by false false true p q n c ks e f g h = omega arith
+seen-by false false false p q n c ks e f g h = omega arith
 
 pub seen-few : (r : List ℕ) → tell (has isHigh r) + tell (has isControl r) + length (keptOf r) ≤ length r
-seen-few r = seen-from 1 r
+unfolding has keptOf
+seen-few [] = zero-le
+seen-few (c ∷ r) =
+    seen-by (isHigh c) (isControl c) (isMark c) (has isHigh r) (has isControl r) (length r) c (keptOf r)
+    (high-control c) (mark-plain c) (mark-text c) (seen-few r)
 
 -- the records without their terminators
 bare-few : (p : List ℕ) → length (bare p) ≤ length p

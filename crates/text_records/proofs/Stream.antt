@@ -2,7 +2,7 @@
 -- within the stream. By cases on the first character, and by induction on the number of records.
 -- Assumes nothing.
 use mathlib.Core.Path.{_≡_, refl, sym, ap, _∙_, subst}
-use mathlib.Core.Bool.{true}
+use mathlib.Core.Bool.{Bool, true, false, _||_}
 use mathlib.Core.List.{List, [], _∷_, _++_, map, flatten}
 use Prim.Native.Nat.{ℕ, zero, suc, _+_, _-_, _≤_, _<_, zero-le, suc-le-suc}
 use native.Mathlib.Nat.{not-suc-le-zero, le-refl, le-of-suc-le-suc}
@@ -10,9 +10,10 @@ use native.Mathlib.Omega.{arith}
 use lib.Dec.{eqb}
 use lib.ListN.{length, getD, take, drop, length-drop, length-map, drop-of-length-le, take-append-drop}
 use lib.Seq.{drop-cons, drop-drop, take-take, getD-drop}
+use borrow.Author.Tests.{eqb-true, eqb-false, eq-eqb, ne-eqb}
 use Rattle.cells.specs.Scan.{span}
 use Rattle.cells.proofs.Scan.{span-hit, span-miss, span-within, span-take}
-use Rattle.cells.proofs.Split.{by-test, by-bool, by-or, clash, not-of-true, not-of-false}
+use Rattle.cells.proofs.Split.{by-test, by-bool, by-or, clash, or-left, or-right, not-of-true, not-of-false}
 use Rattle.text_records.specs.Stream.{CR, LF, isEnd, isText, terminated, terminatorOf, recordEnd, nextStart, pieceLength, piecesIn, piecesOf, bare, recordsOf}
 
 -- ---- how long a record and its terminator are
@@ -152,8 +153,40 @@ start-reads s end =
     ap (λ (c : ℕ). end + terminated c (getD (drop end s) 1 0)) (a ∙ ap (λ (k : ℕ). getD s k 0) z)
     ∙ ap (λ (d : ℕ). end + terminated (getD s end 0) d) b
 
+-- ---- the length of a terminator, one or two
+pub pair-of-cr : (c d : ℕ) → c ≡ CR → eqb d LF ≡ eqb (terminated c d) 2
+unfolding terminated
+pair-of-cr c d e = rw (eq-eqb c CR e) (by-bool (eqb d LF) (λ f. rw f refl) (λ f. rw f refl))
+
+pub pair-of-lf : (c d : ℕ) → isEnd c ≡ true → (c ≡ CR → ⊥) → eqb d CR ≡ eqb (terminated c d) 2
+unfolding terminated isEnd
+pair-of-lf c d e g =
+    let f : eqb c LF ≡ true = sym (ap (λ (b : Bool). b || eqb c LF) (ne-eqb c CR g)) ∙ e in
+    rw (ne-eqb c CR g, f) (by-bool (eqb d CR) (λ h. rw h refl) (λ h. rw h refl))
+
+terminated-none : (c d : ℕ) → isEnd c ≡ false → terminated c d ≡ 0
+unfolding terminated isEnd
+terminated-none c d e = rw (or-left (eqb c CR) (eqb c LF) e, or-right (eqb c CR) (eqb c LF) e) refl
+
 pub start-is : (s : List ℕ) (end : ℕ) {a b t : ℕ} → a ≡ getD s end 0 → b ≡ getD s (end + 1) 0 → t ≡ terminated a b → nextStart s end ≡ end + t
 start-is s end e f g = start-reads s end ∙ ap (λ (k : ℕ). end + k) (cc)
+
+module _ (s : List ℕ) (end : ℕ) {a : ℕ} (e : a ≡ getD s end 0) where
+  pub start-two : {b : ℕ} {t : Bool} → b ≡ getD s (end + 1) 0 → t ≡ eqb (terminated a b) 2 → t ≡ true → end + 2 ≡ nextStart s end
+  start-two {b} f g h = sym (start-is s end e f (sym (eqb-true (terminated a b) 2 (sym g ∙ h))))
+
+  pub start-one : {b : ℕ} {t u : Bool} → u ≡ isEnd a → u ≡ true → b ≡ getD s (end + 1) 0 → t ≡ eqb (terminated a b) 2 → t ≡ false
+      → end + 1 ≡ nextStart s end
+  start-one {b} v w f g h =
+      let x : terminated a b ≤ 2 = terminated-two a b in
+      let y : 0 < terminated a b = terminated-some a b (sym v ∙ w) in
+      let z : terminated a b ≡ 2 → ⊥ = eqb-false (terminated a b) 2 (sym g ∙ h) in
+      sym (start-is s end e f (let q : 1 ≡ terminated a b = omega arith in q))
+
+  pub start-none : {u : Bool} → u ≡ isEnd a → u ≡ false → end ≡ nextStart s end
+  start-none v w =
+      let t : nextStart s end ≡ end + 0 = start-is s end e refl (sym (terminated-none a (getD s (end + 1) 0) (sym v ∙ w))) in
+      omega arith
 
 -- at the end of the stream there is no record
 pub records-end : (s : List ℕ) (at : ℕ) → length s ≤ at → recordsOf (drop at s) ≡ []

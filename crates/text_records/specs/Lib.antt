@@ -1,4 +1,4 @@
 pub mod Stream
 pub mod Received
 pub mod Cleaning
-pub mod Kinds
+pub mod Window

@@ -3,43 +3,35 @@
 
 ghost use mathlib.Core.Path.{_≡_};
 ghost use mathlib.Core.Bool.{true};
-ghost use Prim.Native.Nat.{_+_, _-_, _≤_, _<_};
-ghost use lib.ListN.{length, take, drop};
+ghost use Prim.Native.Nat.{_+_, _-_, _≤_, _<_, max};
+ghost use lib.Dec.{eqb};
+ghost use lib.ListN.{length, drop};
+ghost use Rattle.cells.specs.Put.{put};
 ghost use Rattle.text_records.specs.Stream.{isEnd, terminated, recordEnd, nextStart};
-ghost use Rattle.text_records.specs.Received.{recordOf, overLong, textOf};
-ghost use Rattle.text_records.specs.Cleaning.{cleanedOf};
-ghost use Rattle.text_records.specs.Kinds.{kindOf, isSpecial, allPlain, seenFrom};
-use cells::at_most;
+ghost use Rattle.text_records.specs.Received.{longest};
+ghost use Rattle.text_records.specs.Cleaning.{isControl, keptOf};
+ghost use Rattle.text_records.specs.Window.{windowOf, overLong, isSpecial, isKept, block, allPlain, plainEnd, controlOf, seenOf, markOf, inFront, cleanedOf};
 use cells::byte;
 
 // How many characters a record may have.
 const LONGEST: usize = 80;
 
-// From how many characters on it pays to look whether all are plain.
-const MANY: usize = 16;
+// How many characters are looked at in one step.
+const BLOCK: usize = 8;
 
-// A record as received: its first characters, and how many it has in all. A count above 80 tells an over-long record.
+// A record as received: 80 bytes of the stream from its first character on, and how many characters it has in all. A count above 80 tells
+// an over-long record.
 pub struct Record {
     pub bytes: [u8; 80],
     pub count: usize,
 }
 
-// What is left of a record up to its `!`: the characters that are not ignored, each with its column in the record as received.
-// `high` and `control` tell whether the whole record, its comment with it, has an ignored character of each sort.
+// A record's text: how many characters it has, and whether the whole record, its comment with it, has an ignored character of each sort.
 pub struct Cleaned {
-    pub text: [u8; 80],
-    pub columns: [u8; 80],
     pub count: usize,
     pub high: bool,
     pub control: bool,
 }
-
-// The kinds of a character.
-const KEPT: u8 = b'k';
-
-const HIGH: u8 = b'h';
-
-const CONTROL: u8 = b'c';
 
 const MARK: u8 = b'!';
 
@@ -53,13 +45,73 @@ const CR: u8 = 13;
 
 const LF: u8 = 10;
 
-fn is_end(c: u8) -> bool
+pub fn is_end(c: u8) -> bool
     ensures { λ r. ⌜ r ≡ isEnd c ⌝ }
 {
     if c == CR { true } else { c == LF }
 }
 
-// The end of the record that starts at `at`: the place of its terminator, or the end of the stream.
+// ---- where records begin and end
+
+// A character that is not plain: it may be ignored, or end the text, or be a terminator. A tab is rare, and counts as such.
+fn is_other(c: u8) -> bool
+    ensures { λ r. ⌜ r ≡ isSpecial c ⌝ }
+{
+    if MARK < c {
+        return DELETE <= c;
+    }
+    c != SPACE
+}
+
+// Whether a block is plain; looked at to its end, so that it goes in one step.
+fn is_plain(s: &[u8]) -> bool
+    requires { ⌜ length (now s) ≡ block ⌝ }
+    ensures { λ r. ⌜ r ≡ allPlain (now (s .entry)) ⌝ }
+{
+    let mut other = false;
+    let mut i = 0;
+    while i < BLOCK {
+        if is_other(s[i]) {
+            other = true;
+        }
+        i += 1;
+    }
+    !other
+}
+
+// The first place from `at` on whose character is not plain: whole blocks first, then character by character.
+pub fn plain_end(stream: &[u8], at: usize) -> usize
+    requires { ⌜ at ≤ length (now stream) ⌝ }
+    ensures { λ r. ⌜ r ≡ plainEnd (now (stream .entry)) at ⌝ }
+{
+    let mut i = plain_blocks(stream, at);
+    while i < stream.len() {
+        if is_other(stream[i]) {
+            return i;
+        }
+        i += 1;
+    }
+    i
+}
+
+// The place up to which there are whole blocks of plain characters from `at` on.
+fn plain_blocks(stream: &[u8], at: usize) -> usize
+    requires { ⌜ at ≤ length (now stream) ⌝ }
+    ensures { λ r. ⌜ (r ≤ length (now (stream .entry))) × (plainEnd (now (stream .entry)) r ≡ plainEnd (now (stream .entry)) at) ⌝ }
+{
+    let mut i = at;
+    while BLOCK <= stream.len() - i {
+        let end = i + BLOCK;
+        if !is_plain(&stream[i..end]) {
+            return i;
+        }
+        i = end;
+    }
+    i
+}
+
+// The end of the record that goes on at `at`: the place of its terminator, or the end of the stream. From one character that is not plain to the
+// next.
 pub fn record_end(stream: &[u8], at: usize) -> usize
     requires { ⌜ at ≤ length (now stream) ⌝ }
     ensures { λ r. ⌜ r ≡ recordEnd (now (stream .entry)) at ⌝ }
@@ -69,52 +121,75 @@ pub fn record_end(stream: &[u8], at: usize) -> usize
         if is_end(stream[i]) {
             return i;
         }
-        i += 1;
+        i = plain_end(stream, i + 1);
     }
     i
 }
 
-// The length of the terminator that begins with `c` and may go on with `d`.
-fn terminator(c: u8, d: u8) -> usize
-    ensures { λ r. ⌜ r ≡ terminated c d ⌝ }
+// Whether a terminator that begins with `c` goes on with `d`.
+fn is_pair(c: u8, d: u8) -> bool
+    requires { ⌜ isEnd c ≡ true ⌝ }
+    ensures { λ r. ⌜ r ≡ eqb (terminated c d) 2 ⌝ }
 {
     if c == CR {
-        if d == LF {
-            return 2;
-        }
-        return 1;
+        return d == LF;
     }
-    if c == LF {
-        if d == CR {
-            return 2;
-        }
-        return 1;
-    }
-    0
+    d == CR
 }
 
-// The place past the terminator that stands at `end`: where the next record starts.
+// The place past the terminator that stands at `end`: where the next record starts. Each length has a way of its own, so that the next record
+// need not wait for this one's last character.
 pub fn next_start(stream: &[u8], end: usize) -> usize
     requires { ⌜ end ≤ length (now stream) ⌝ }
     ensures { λ r. ⌜ r ≡ nextStart (now (stream .entry)) end ⌝ }
 {
-    end + terminator(byte(stream, end), byte(stream, end + 1))
+    let c = byte(stream, end);
+    if is_end(c) {
+        if is_pair(c, byte(stream, end + 1)) {
+            return end + 2;
+        }
+        return end + 1;
+    }
+    end
+}
+
+// ---- the record by value
+
+// 80 bytes in one copy of a fixed length.
+fn whole_window(s: &[u8], count: usize) -> Record
+    requires { ⌜ length (now s) ≡ longest ⌝ }
+    ensures { λ r. ⌜ r ≡ windowOf (now (s .entry)) count ⌝ }
+{
+    let mut bytes = [0u8; 80];
+    let mut i = 0;
+    while i < LONGEST {
+        bytes[i] = s[i];
+        i += 1;
+    }
+    Record { bytes, count }
+}
+
+// Near its end the stream has fewer.
+fn last_window(s: &[u8], count: usize) -> Record
+    requires { ⌜ length (now s) ≤ longest ⌝ }
+    ensures { λ r. ⌜ r ≡ windowOf (now (s .entry)) count ⌝ }
+{
+    let mut bytes = [0u8; 80];
+    cells::copy(&mut bytes, s);
+    Record { bytes, count }
 }
 
 // The record from `at` to `end`, by value.
 pub fn receive(stream: &[u8], at: usize, end: usize) -> Record
     requires { ⌜ (at ≤ end) × (end ≤ length (now stream)) ⌝ }
-    ensures { λ r. ⌜ r ≡ recordOf (take (end - at) (drop at (now (stream .entry)))) ⌝ }
+    ensures { λ r. ⌜ r ≡ windowOf (drop at (now (stream .entry))) (end - at) ⌝ }
 {
     let count = end - at;
-    let n = at_most(count, LONGEST);
-    let mut bytes = [0u8; 80];
-    let mut i = 0;
-    while i < n {
-        bytes[i] = stream[at + i];
-        i += 1;
+    if LONGEST <= stream.len() - at {
+        let last = at + LONGEST;
+        return whole_window(&stream[at..last], count);
     }
-    Record { bytes, count }
+    last_window(&stream[at..], count)
 }
 
 // Whether the record is too long, all its characters counted.
@@ -124,123 +199,15 @@ pub fn over_long(r: Record) -> bool
     LONGEST < r.count
 }
 
-// Most characters of a show are kept, and are told by the first three tests.
-fn kind(c: u8) -> u8
-    ensures { λ r. ⌜ r ≡ kindOf c ⌝ }
+// ---- its text
+
+fn is_control(c: u8) -> bool
+    ensures { λ r. ⌜ r ≡ isControl c ⌝ }
 {
     if c < SPACE {
-        if c == TAB {
-            return KEPT;
-        }
-        return CONTROL;
+        return c != TAB;
     }
-    if c < DELETE {
-        if c == MARK {
-            return MARK;
-        }
-        return KEPT;
-    }
-    if c == DELETE {
-        return CONTROL;
-    }
-    HIGH
-}
-
-// A character that is not plain: it may be ignored, or end the text. A tab is rare, and counts as such.
-fn is_other(c: u8) -> bool
-    ensures { λ r. ⌜ r ≡ isSpecial c ⌝ }
-{
-    if c < SPACE {
-        return true;
-    }
-    if DELETE <= c {
-        return true;
-    }
-    c == MARK
-}
-
-// Whether every character is plain; counted to the end, so that the loop goes many characters a step.
-fn is_plain(s: &[u8]) -> bool
-    requires { ⌜ length (now s) ≤ 80 ⌝ }
-    ensures { λ r. ⌜ r ≡ allPlain (now (s .entry)) ⌝ }
-{
-    let mut others: u8 = 0;
-    let mut i = 0;
-    while i < s.len() {
-        if is_other(s[i]) {
-            others += 1;
-        }
-        i += 1;
-    }
-    others == 0
-}
-
-// The text of plain characters: all of them are kept, each in its own column.
-fn plain_text(s: &[u8]) -> Cleaned
-    requires { ⌜ length (now s) ≤ 80 ⌝ }
-    requires { ⌜ allPlain (now s) ≡ true ⌝ }
-    ensures { λ r. ⌜ r ≡ cleanedOf (now (s .entry)) ⌝ }
-{
-    let mut text = [0u8; 80];
-    let mut columns = [0u8; 80];
-    let mut i = 0;
-    while i < s.len() {
-        text[i] = s[i];
-        columns[i] = (i + 1) as u8;
-        i += 1;
-    }
-    Cleaned {
-        text,
-        columns,
-        count: i,
-        high: false,
-        control: false,
-    }
-}
-
-// The text of any characters, one by one.
-fn clean_each(s: &[u8]) -> Cleaned
-    requires { ⌜ length (now s) ≤ 80 ⌝ }
-    ensures { λ r. ⌜ r ≡ cleanedOf (now (s .entry)) ⌝ }
-{
-    let mut text = [0u8; 80];
-    let mut columns = [0u8; 80];
-    let mut count = 0;
-    let mut high = false;
-    let mut control = false;
-    let mut i = 0;
-    while i < s.len() {
-        let c = s[i];
-        let k = kind(c);
-        i += 1;
-        if k == KEPT {
-            text[count] = c;
-            columns[count] = i as u8;
-            count += 1;
-        } else if k == HIGH {
-            high = true;
-        } else if k == CONTROL {
-            control = true;
-        } else {
-            let seen = comment(s, i, high, control);
-            high = seen.high;
-            control = seen.control;
-            return Cleaned {
-                text,
-                columns,
-                count,
-                high,
-                control,
-            };
-        }
-    }
-    Cleaned {
-        text,
-        columns,
-        count,
-        high,
-        control,
-    }
+    c == DELETE
 }
 
 // Which sorts of ignored characters were seen.
@@ -249,48 +216,113 @@ struct Seen {
     control: bool,
 }
 
-// The ignored characters of a comment count too.
-fn comment(s: &[u8], at: usize, high: bool, control: bool) -> Seen
-    requires { ⌜ at ≤ length (now s) ⌝ }
-    ensures { λ r. ⌜ r ≡ seenFrom high control (drop at (now (s .entry))) ⌝ }
+fn larger(a: u8, b: u8) -> u8
+    ensures { λ r. ⌜ r ≡ max a b ⌝ }
 {
-    let mut seen_high = high;
-    let mut seen_control = control;
-    let mut i = at;
+    if a < b {
+        return b;
+    }
+    a
+}
+
+fn control_of(c: u8) -> u8
+    ensures { λ r. ⌜ r ≡ controlOf c ⌝ }
+{
+    if is_control(c) {
+        return 1;
+    }
+    0
+}
+
+// The ignored characters of a comment count too. The largest of all is looked for, so that the loop goes many characters a step.
+fn seen_in(s: &[u8]) -> Seen
+    ensures { λ r. ⌜ r ≡ seenOf (now (s .entry)) ⌝ }
+{
+    let mut most: u8 = 0;
+    let mut control: u8 = 0;
+    let mut i = 0;
     while i < s.len() {
-        let k = kind(s[i]);
+        most = larger(most, s[i]);
+        control = larger(control, control_of(s[i]));
         i += 1;
-        if k == HIGH {
-            seen_high = true;
-        } else if k == CONTROL {
-            seen_control = true;
-        }
     }
     Seen {
-        high: seen_high,
-        control: seen_control,
+        high: DELETE < most,
+        control: 0 < control,
     }
 }
 
-// The record's text, from its characters: those of most long records are plain.
-fn clean_text(s: &[u8]) -> Cleaned
-    requires { ⌜ length (now s) ≤ 80 ⌝ }
-    ensures { λ r. ⌜ r ≡ cleanedOf (now (s .entry)) ⌝ }
+// The place of the first `!`, or the end.
+fn mark_in(s: &[u8]) -> usize
+    ensures { λ r. ⌜ r ≡ markOf (now (s .entry)) ⌝ }
 {
-    if MANY <= s.len() {
-        if is_plain(s) {
-            return plain_text(s);
+    let mut i = 0;
+    while i < s.len() {
+        if s[i] == MARK {
+            return i;
         }
+        i += 1;
     }
-    clean_each(s)
+    i
 }
 
-// The text of a record that is not over-long.
-pub fn clean(r: Record) -> Cleaned
-    requires { ⌜ r .count ≤ 80 ⌝ }
-    ensures { λ c. ⌜ c ≡ cleanedOf (textOf r) ⌝ }
+// A character that is not ignored.
+fn is_kept(c: u8) -> bool
+    ensures { λ r. ⌜ r ≡ isKept c ⌝ }
 {
-    let bytes = r.bytes;
-    let count = r.count;
-    clean_text(&bytes[..count])
+    if DELETE <= c {
+        return false;
+    }
+    !is_control(c)
+}
+
+// Characters before any `!`: those that are not ignored move to the front. Answers how many there are.
+fn squeeze(s: &mut [u8]) -> usize
+    requires { ⌜ markOf (now s) ≡ length (now s) ⌝ }
+    ensures { λ r. ⌜ r ≡ length (keptOf (now (s .entry))) ⌝ }
+    ensures { λ r. ⌜ now (s .exit) ≡ put (now (s .entry)) 0 (keptOf (now (s .entry))) ⌝ }
+{
+    let mut n = 0;
+    let mut i = 0;
+    while i < s.len() {
+        let c = s[i];
+        if is_kept(c) {
+            s[n] = c;
+            n += 1;
+        }
+        i += 1;
+    }
+    n
+}
+
+// The characters of a record that is not over-long become its text, and behind it what stood there. Only a record with ignored characters
+// moves.
+pub fn clean(s: &mut [u8]) -> Cleaned
+    ensures { λ r. ⌜ inFront r (now (s .exit)) ≡ cleanedOf (now (s .entry)) ⌝ }
+{
+    let seen = seen_in(s);
+    let high = seen.high;
+    let control = seen.control;
+    let end = mark_in(s);
+    if high {
+        let count = squeeze(&mut s[..end]);
+        return Cleaned {
+            count,
+            high,
+            control,
+        };
+    }
+    if control {
+        let count = squeeze(&mut s[..end]);
+        return Cleaned {
+            count,
+            high,
+            control,
+        };
+    }
+    Cleaned {
+        count: end,
+        high,
+        control,
+    }
 }

@@ -1,30 +1,33 @@
--- `records::is_plain` meets its contract: what is counted and what is left to count is the whole.
+-- `records::is_plain` meets its contract: `other` tells whether a character before place `i` is not plain.
 -- Assumes nothing.
+use mathlib.Core.Path.{_≡_, refl}
+use mathlib.Core.Bool.{_||_}
 use mathlib.Core.Logic.{⊎-elim}
-use Prim.Native.Nat.{_-_}
-use lib.ListN.{length}
-use Rattle.text_records.proofs.Plain.{Counted, counted-none, counted-other, counted-plain, counted-all}
+use Prim.Native.Nat.{_≤_, _<_, _-_}
+use native.Mathlib.Omega.{arith}
+use lib.ListN.{length, drop}
+use Rattle.text_records.specs.Cleaning.{has}
+use Rattle.text_records.specs.Window.{isSpecial, block}
+use Rattle.text_records.proofs.Cleaning.{looked-this, looked-past, looked-all}
+use Rattle.text_records.proofs.Plain.{plain-all}
 use borrow.Author.Needs.{needs}
 use Rattle.text_records.proofs.is_plain.Statement.{statement}
 use Rattle.text_records.proofs.is_plain.Tie as tie
 
 abbrev Inv-loop : tie.InvT-loop
-Inv-loop s others₀ i₀ others i = Counted s others i
+Inv-loop s other₀ i₀ other i = (i ≤ block) × ((other || has isSpecial (drop i s)) ≡ has isSpecial s)
 
 abbrev μ-loop : tie.MeasureT-loop
-μ-loop s others₀ i₀ others i = length s - i
+μ-loop s other₀ i₀ other i = block - i
 
 loop-holds : tie.Need-loop-holds Inv-loop μ-loop
-loop-holds c = counted-none _
+loop-holds c = (omega arith, refl)
 
 shared-slice-read-is-other : tie.Need-shared-slice-read-is-other Inv-loop μ-loop
 shared-slice-read-is-other c = search needs
 
 is-other-requires : tie.Need-is-other-requires Inv-loop μ-loop
 is-other-requires c κs = search needs
-
-add-others : tie.Need-add-others Inv-loop μ-loop
-add-others c = search needs
 
 add-i : tie.Need-add-i Inv-loop μ-loop
 add-i c = search needs
@@ -34,15 +37,22 @@ loop-less c = search needs
 
 loop-again : tie.Need-loop-again Inv-loop μ-loop
 loop-again c =
-    ⊎-elim
-    (λ w. counted-other _ _ _ (c .before .before .before .loop-test .taken) (c .before .is-other .ensures) (w .0 .taken) (w .1)
-    (c .before .before .before .before .loop .inv))
-    (λ w. counted-plain _ _ _ (c .before .before .before .loop-test .taken) (c .before .is-other .ensures) (w .0 .left) (w .1)
-    (c .before .before .before .before .loop .inv))
-    (c .if1 .came)
+    let s = c .before .before .before .before .before .before .args .s .now in
+    let i = c .before .before .before .before .loop .i in
+    let l : i < length s = omega (arith, c .before .before .before .before .before .before .pre) in (
+      omega arith,
+      ⊎-elim
+          (λ w. looked-this isSpecial s i (c .before .before .before .before .loop .other) l (c .before .is-other .ensures) (w .0 .taken) (w .1) (c .before .before .before .before .loop .inv .1))
+          (λ w. looked-past isSpecial s i _ l (c .before .is-other .ensures) (w .0 .left) (w .1) (c .before .before .before .before .loop .inv .1))
+          (c .if1 .came),
+    )
 
 returns : tie.Need-returns Inv-loop μ-loop
-returns c = counted-all _ _ _ (c .loop-test .left) (c .before .loop .inv)
+returns c =
+    let s = c .before .before .before .args .s .now in
+    let i = c .before .loop .i in
+    let l : length s ≤ i = omega (arith, c .before .before .before .pre) in
+    plain-all s {b = c .before .loop .other} (looked-all isSpecial s i l (c .before .loop .inv .1))
 
 pub is-plain-spec : {M : Type 1} → statement M
 is-plain-spec =
@@ -53,7 +63,6 @@ is-plain-spec =
     loop-holds
     shared-slice-read-is-other
     is-other-requires
-    add-others
     add-i
     loop-less
     loop-again

@@ -1,69 +1,64 @@
--- `records::receive` meets its contract: the array holds the first `i` characters of the part, up to 80 of them.
+-- `records::receive` meets its contract: 80 bytes from `at` on are all that the record by value has of the stream.
 -- Assumes nothing.
-use mathlib.Core.Path.{_≡_}
-use Prim.Native.Nat.{_≤_, _-_, min}
-use native.Mathlib.Omega.{arith}
-use lib.ListN.{take, drop}
-use Rattle.cells.specs.Pad.{padded}
-use Rattle.text_records.specs.Received.{longest}
-use Rattle.text_records.proofs.Received.{filled-none, filled-more, filled-all}
+use mathlib.Core.Path.{refl}
+use Rattle.text_records.proofs.Received.{window-front, window-rest}
 use borrow.Author.Needs.{needs}
 use Rattle.text_records.proofs.receive.Statement.{statement}
 use Rattle.text_records.proofs.receive.Tie as tie
 
-abbrev Inv-loop : tie.InvT-loop
-Inv-loop stream at end count n bytes₀ i₀ bytes i = (i ≤ min (end - at) longest) × (bytes ≡ padded longest (take i (take (end - at) (drop at stream))))
-
-abbrev μ-loop : tie.MeasureT-loop
-μ-loop stream at end count n bytes₀ i₀ bytes i = min (end - at) longest - i
-
-sub-count : tie.Need-sub-count Inv-loop μ-loop
+sub-count : tie.Need-sub-count
 sub-count c = search needs
 
-at-most-requires : tie.Need-at-most-requires Inv-loop μ-loop
-at-most-requires c κs = search needs
+sub-if1 : tie.Need-sub-if1
+sub-if1 c = search needs
 
-loop-holds : tie.Need-loop-holds Inv-loop μ-loop
-loop-holds c = (omega arith, filled-none)
+add-last : tie.Need-add-last
+add-last c = search needs
 
-add-bytes : tie.Need-add-bytes Inv-loop μ-loop
-add-bytes c = search needs
+sub-whole-window : tie.Need-sub-whole-window
+sub-whole-window c = search needs
 
-shared-slice-read-bytes : tie.Need-shared-slice-read-bytes Inv-loop μ-loop
-shared-slice-read-bytes c = search needs
+part-whole-window-start : tie.Need-part-whole-window-start
+part-whole-window-start c = search needs
 
-array-write-bytes : tie.Need-array-write-bytes Inv-loop μ-loop
-array-write-bytes c = search needs
+part-whole-window-end : tie.Need-part-whole-window-end
+part-whole-window-end c = search needs
 
-add-i : tie.Need-add-i Inv-loop μ-loop
-add-i c = search needs
+whole-window-requires : tie.Need-whole-window-requires
+whole-window-requires c κs = search needs
 
-loop-less : tie.Need-loop-less Inv-loop μ-loop
-loop-less c = search needs
+returns : tie.Need-returns
+returns c = window-front (c .before .before .before .before .args .stream .now) (c .before .before .before .before .args .at) _ _ refl (c .whole-window .ensures)
 
-loop-again : tie.Need-loop-again Inv-loop μ-loop
-loop-again c = (
-  omega arith,
-  filled-more (c .before .before .before .before .before .args .stream .now) (c .before .before .before .before .before .args .at) (c .before .before .before .before .before .args .end - c .before .before .before .before .before .args .at) (c .before .before .loop .i) _ (omega arith)
-      (omega arith) (c .before .before .loop .inv .1),
-)
+sub-last-window : tie.Need-sub-last-window
+sub-last-window c = search needs
 
-returns : tie.Need-returns Inv-loop μ-loop
-returns c = filled-all (c .before .before .before .before .args .stream .now) (c .before .before .before .before .args .at) _ (c .before .loop .i) _ (omega arith) (omega arith) (c .before .loop .inv .1)
+part-last-window-start : tie.Need-part-last-window-start
+part-last-window-start c = search needs
+
+part-last-window-end : tie.Need-part-last-window-end
+part-last-window-end c = search needs
+
+last-window-requires : tie.Need-last-window-requires
+last-window-requires c κs = search needs
+
+returns-2 : tie.Need-returns-2
+returns-2 c = window-rest (c .before .before .before .before .args .stream .now) (c .before .before .before .before .args .at) _ (c .last-window .ensures)
 
 pub receive-spec : {M : Type 1} → statement M
 receive-spec =
     tie.close
     (tie.spec
-    Inv-loop
-    μ-loop
     sub-count
-    at-most-requires
-    loop-holds
-    add-bytes
-    shared-slice-read-bytes
-    array-write-bytes
-    add-i
-    loop-less
-    loop-again
-    returns)
+    sub-if1
+    add-last
+    sub-whole-window
+    part-whole-window-start
+    part-whole-window-end
+    whole-window-requires
+    returns
+    sub-last-window
+    part-last-window-start
+    part-last-window-end
+    last-window-requires
+    returns-2)

@@ -1,19 +1,20 @@
--- `records::record_end` meets its contract: the place where the scan from `i` ends is the place where the scan from `at` ends.
+-- `record_end` meets its contract: the place where the record ends from `i` on is the place where it ends from `at` on, and plain
+-- characters do not move it.
 -- Assumes nothing.
-use mathlib.Core.Path.{_≡_, refl, ap}
+use mathlib.Core.Path.{_≡_, refl, ap, subst, sym}
 use mathlib.Core.Bool.{not}
-use Prim.Native.Nat.{_≤_, _+_, _-_}
+use Prim.Native.Nat.{ℕ, _≤_, _<_, _+_, _-_}
 use native.Mathlib.Omega.{arith}
-use lib.ListN.{length, drop}
-use Rattle.cells.specs.Scan.{span}
+use lib.ListN.{length}
 use Rattle.cells.proofs.Scan.{scan-turn, scan-stop, scan-end}
 use Rattle.text_records.specs.Stream.{isText, recordEnd}
+use Rattle.text_records.proofs.Plain.{plain-from, plain-within, plain-turn}
 use borrow.Author.Needs.{needs}
 use Rattle.text_records.proofs.record_end.Statement.{statement}
 use Rattle.text_records.proofs.record_end.Tie as tie
 
 abbrev Inv-loop : tie.InvT-loop
-Inv-loop stream at i₀ i = (i ≤ length stream) × (i + span isText (drop i stream) ≡ recordEnd stream at)
+Inv-loop stream at i₀ i = (i ≤ length stream) × (recordEnd stream i ≡ recordEnd stream at)
 
 abbrev μ-loop : tie.MeasureT-loop
 μ-loop stream at i₀ i = length stream - i
@@ -30,14 +31,29 @@ is-end-requires c κs = search needs
 returns : tie.Need-returns Inv-loop μ-loop
 returns c = scan-stop isText _ _ (c .before .before .before .loop-test .taken) (ap not (c .before .is-end .ensures)) (ap not (c .if1 .taken)) (c .before .before .before .before .loop .inv .1)
 
-add-i : tie.Need-add-i Inv-loop μ-loop
-add-i c = search needs
+add-plain-end : tie.Need-add-plain-end Inv-loop μ-loop
+add-plain-end c = search needs
+
+plain-end-requires : tie.Need-plain-end-requires Inv-loop μ-loop
+plain-end-requires c κs = search needs
 
 loop-less : tie.Need-loop-less Inv-loop μ-loop
-loop-less c = search needs
+loop-less c =
+    let s = c .before .before .before .before .before .before .before .args .stream .now in
+    let i = c .before .before .before .before .before .loop .i in
+    let h = plain-from s (i + 1) in
+    let e = c .plain-end .ensures in
+    omega arith
 
 loop-again : tie.Need-loop-again Inv-loop μ-loop
-loop-again c = (omega arith, scan-turn isText _ _ (c .before .before .before .loop-test .taken) (ap not (c .before .is-end .ensures)) (ap not (c .if1 .left)) (c .before .before .before .before .loop .inv .1))
+loop-again c =
+    let s = c .before .before .before .before .before .before .before .args .stream .now in
+    let i = c .before .before .before .before .before .loop .i in
+    let l : i < length s = c .before .before .before .before .loop-test .taken in
+    let g : i + 1 ≤ length s = omega arith in (
+      subst (λ (n : ℕ). n ≤ length s) (sym (c .plain-end .ensures)) (plain-within s (i + 1) g),
+      plain-turn s (i + 1) (c .plain-end .ensures) (scan-turn isText s i l (ap not (c .before .before .is-end .ensures)) (ap not (c .before .if1 .left)) (c .before .before .before .before .before .loop .inv .1)),
+    )
 
 returns-2 : tie.Need-returns-2 Inv-loop μ-loop
 returns-2 c = scan-end isText _ _ (c .loop-test .left) (c .before .loop .inv .1)
@@ -52,7 +68,8 @@ record-end-spec =
     shared-slice-read-is-end
     is-end-requires
     returns
-    add-i
+    add-plain-end
+    plain-end-requires
     loop-less
     loop-again
     returns-2)

@@ -1,0 +1,61 @@
+-- `records::plain_end` meets its contract: the place where the scan from `i` ends is the place where the scan from `at` ends.
+-- Assumes nothing.
+use mathlib.Core.Path.{_≡_, ap}
+use mathlib.Core.Bool.{not}
+use Prim.Native.Nat.{_≤_, _-_}
+use native.Mathlib.Omega.{arith}
+use lib.ListN.{length}
+use Rattle.cells.proofs.Scan.{scan-turn, scan-stop, scan-end}
+use Rattle.text_records.specs.Window.{isPlain, plainEnd}
+use borrow.Author.Needs.{needs}
+use Rattle.text_records.proofs.plain_end.Statement.{statement}
+use Rattle.text_records.proofs.plain_end.Tie as tie
+
+abbrev Inv-loop : tie.InvT-loop
+Inv-loop stream at i₀ i = (i ≤ length stream) × (plainEnd stream i ≡ plainEnd stream at)
+
+abbrev μ-loop : tie.MeasureT-loop
+μ-loop stream at i₀ i = length stream - i
+
+plain-blocks-requires : tie.Need-plain-blocks-requires Inv-loop μ-loop
+plain-blocks-requires c κs = search needs
+
+loop-holds : tie.Need-loop-holds Inv-loop μ-loop
+loop-holds c = c .plain-blocks .ensures
+
+shared-slice-read-is-other : tie.Need-shared-slice-read-is-other Inv-loop μ-loop
+shared-slice-read-is-other c = search needs
+
+is-other-requires : tie.Need-is-other-requires Inv-loop μ-loop
+is-other-requires c κs = search needs
+
+returns : tie.Need-returns Inv-loop μ-loop
+returns c = scan-stop isPlain _ _ (c .before .before .before .loop-test .taken) (ap not (c .before .is-other .ensures)) (ap not (c .if1 .taken)) (c .before .before .before .before .loop .inv .1)
+
+add-i : tie.Need-add-i Inv-loop μ-loop
+add-i c = search needs
+
+loop-less : tie.Need-loop-less Inv-loop μ-loop
+loop-less c = search needs
+
+loop-again : tie.Need-loop-again Inv-loop μ-loop
+loop-again c = (omega arith, scan-turn isPlain _ _ (c .before .before .before .loop-test .taken) (ap not (c .before .is-other .ensures)) (ap not (c .if1 .left)) (c .before .before .before .before .loop .inv .1))
+
+returns-2 : tie.Need-returns-2 Inv-loop μ-loop
+returns-2 c = scan-end isPlain _ _ (c .loop-test .left) (c .before .loop .inv .1)
+
+pub plain-end-spec : {M : Type 1} → statement M
+plain-end-spec =
+    tie.close
+    (tie.spec
+    Inv-loop
+    μ-loop
+    plain-blocks-requires
+    loop-holds
+    shared-slice-read-is-other
+    is-other-requires
+    returns
+    add-i
+    loop-less
+    loop-again
+    returns-2)
