@@ -1,4 +1,5 @@
 pub mod Classes
 pub mod Words
 pub mod Keys
+pub mod Runs
 pub mod Counts

@@ -2,12 +2,12 @@
 -- Assumes nothing.
 use mathlib.Core.Bool.{Bool, cond, not}
 use mathlib.Core.List.{List, [], _∷_}
-use Prim.Native.Nat.{ℕ, zero, suc}
+use Prim.Native.Nat.{ℕ, zero, suc, _+_}
 use lib.Dec.{eqb}
-use lib.ListN.{length, getD, take, drop}
+use lib.ListN.{length, take, drop}
 use Rattle.cells.specs.Text.{bytes}
 use Rattle.cells.specs.Scan.{span}
-use Rattle.text_records.specs.Cleaning.{has, chars, columns, keptOf}
+use Rattle.text_records.specs.Cleaning.{has, keptOf}
 
 -- tab, space, and , / ; < = > @
 unfoldable pub isDelimiter : ℕ → Bool
@@ -16,31 +16,32 @@ isDelimiter c = has (λ (d : ℕ). eqb c d) (bytes "\t ,/;<=>@")
 abbrev pub isWord : ℕ → Bool
 isWord c = not (isDelimiter c)
 
--- a field's characters, and the column of the first of them in the record as received. A missing field is an empty one in column 0
+-- a field's characters, and the place of the first of them in the record's text, from 1. A missing field is an empty one in place 0
 pub record Word : Type 0 where
   pub chars : List ℕ
-  pub column : ℕ
+  pub place : ℕ
 
 abbrev pub missing : Word
-missing = record { chars = []; column = 0 }
+missing = record { chars = []; place = 0 }
 
--- the first n fields of a text with its columns: a run of delimiters, all alike, then the characters up to the next one
-unfoldable pub wordsIn : ℕ → List ℕ → List ℕ → List Word
-wordsIn zero text columns = []
-wordsIn (suc n) text columns =
-    let t = drop (span isDelimiter text) text in
-    let q = drop (span isDelimiter text) columns in
+-- the first n fields of a text that stands behind so many other characters: a run of delimiters, all alike, then the characters up to the
+-- next one
+unfoldable pub wordsIn : ℕ → ℕ → List ℕ → List Word
+wordsIn zero before text = []
+wordsIn (suc n) before text =
+    let i = span isDelimiter text in
+    let t = drop i text in
     let k = span isWord t in
-    let r = wordsIn n (drop k t) (drop k q) in
-    cond (eqb k 0) [] (record { chars = take k t; column = getD q 0 0 } ∷ r)
+    let r = wordsIn n (before + (i + k)) (drop k t) in
+    cond (eqb k 0) [] (record { chars = take k t; place = before + i + 1 } ∷ r)
 
 -- all of them: there are no more fields than characters
-unfoldable pub wordsOf : List ℕ → List ℕ → List Word
-wordsOf text columns = wordsIn (length text) text columns
+unfoldable pub wordsOf : ℕ → List ℕ → List Word
+wordsOf before text = wordsIn (length text) before text
 
 -- the fields of a record, from its characters as received
 unfoldable pub fieldsOf : List ℕ → List Word
-fieldsOf xs = wordsOf (chars (keptOf xs)) (columns (keptOf xs))
+fieldsOf xs = wordsOf 0 (keptOf xs)
 
 -- the first of some fields, and the others
 abbrev pub headOf : List Word → Word

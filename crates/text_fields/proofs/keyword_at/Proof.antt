@@ -1,25 +1,48 @@
--- `fields::keyword_at` meets its contract: the table's entries are what its rows mean, and past its end there is the default.
+-- `fields::keyword_at` meets its contract: CHAN by the quick test, every other keyword by its number.
 -- Assumes nothing.
-use mathlib.Core.Path.{sym}
-use lib.ListN.{List·getD-eq-default}
-use Rattle.text_fields.specs.declared.Keyword.the-variants.{Ident, Unknown}
-use Rattle.text_fields.specs.Keywords.{keywordRows}
-use Rattle.text_fields.specs.Tables.{meanings, keywordAt}
-use Rattle.text_fields.proofs.Keys.{getD-any}
+use mathlib.Core.Path.{sym, _∙_}
+use Rattle.text_fields.proofs.Runs.{said-chan, said-by}
 use borrow.Author.Needs.{needs}
 use Rattle.text_fields.proofs.keyword_at.Statement.{statement}
 use Rattle.text_fields.proofs.keyword_at.Tie as tie
 
-array-copy-out-result : tie.Need-array-copy-out-result
-array-copy-out-result c = search needs
+is-chan-requires : tie.Need-is-chan-requires
+is-chan-requires c κs = search needs
+
+add-t6 : tie.Need-add-t6
+add-t6 c = search needs
 
 returns : tie.Need-returns
-unfolding keywordAt keywordRows
-returns c = getD-any (meanings keywordRows) (c .before .before .args .row) Ident Unknown (c .before .if1 .taken)
+returns c = said-chan _ _ (sym (c .before .is-chan .ensures) ∙ c .if1 .taken)
+
+key-at-requires : tie.Need-key-at-requires
+key-at-requires c κs = search needs
+
+byte-requires : tie.Need-byte-requires
+byte-requires c κs = search needs
+
+add-byte : tie.Need-add-byte
+add-byte c = search needs
+
+byte-requires-2 : tie.Need-byte-requires-2
+byte-requires-2 c κs = search needs
+
+keyword-of-requires : tie.Need-keyword-of-requires
+keyword-of-requires c κs = search needs
 
 returns-2 : tie.Need-returns-2
-unfolding keywordAt keywordRows
-returns-2 c = sym (List·getD-eq-default (meanings keywordRows) Unknown (c .if1 .left))
+returns-2 c = said-by _ _ (c .before .before .before .key-at .ensures) (c .before .before .byte .ensures) (c .before .byte2 .ensures) (c .keyword-of .ensures)
 
 pub keyword-at-spec : {M : Type 1} → statement M
-keyword-at-spec = tie.close (tie.spec array-copy-out-result returns returns-2)
+keyword-at-spec =
+    tie.close
+    (tie.spec
+    is-chan-requires
+    add-t6
+    returns
+    key-at-requires
+    byte-requires
+    add-byte
+    byte-requires-2
+    keyword-of-requires
+    returns-2)

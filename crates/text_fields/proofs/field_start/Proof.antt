@@ -1,0 +1,60 @@
+-- `fields::field_start` meets its contract: the place where the scan from `i` ends is the place where the scan from `at` ends.
+-- Assumes nothing.
+use mathlib.Core.Path.{_≡_, refl}
+use Prim.Native.Nat.{_≤_, _+_, _-_}
+use native.Mathlib.Omega.{arith}
+use lib.ListN.{length, drop}
+use borrow.Author.Tests.{not-true, not-false}
+use Rattle.cells.specs.Scan.{span}
+use Rattle.cells.proofs.Scan.{scan-turn, scan-stop, scan-end}
+use Rattle.text_fields.specs.Words.{isDelimiter}
+use Rattle.text_fields.specs.Places.{startAt}
+use borrow.Author.Needs.{needs}
+use Rattle.text_fields.proofs.field_start.Statement.{statement}
+use Rattle.text_fields.proofs.field_start.Tie as tie
+
+abbrev Inv-loop : tie.InvT-loop
+Inv-loop text at i₀ i = (i ≤ length text) × (i + span isDelimiter (drop i text) ≡ startAt text at)
+
+abbrev μ-loop : tie.MeasureT-loop
+μ-loop text at i₀ i = length text - i
+
+loop-holds : tie.Need-loop-holds Inv-loop μ-loop
+unfolding startAt
+loop-holds c = (c .before .pre, refl)
+
+shared-slice-read-is-delimiter : tie.Need-shared-slice-read-is-delimiter Inv-loop μ-loop
+shared-slice-read-is-delimiter c = search needs
+
+is-delimiter-requires : tie.Need-is-delimiter-requires Inv-loop μ-loop
+is-delimiter-requires c κs = search needs
+
+returns : tie.Need-returns Inv-loop μ-loop
+returns c = scan-stop isDelimiter _ _ (c .before .before .before .loop-test .taken) (c .before .is-delimiter .ensures) (not-true _ (c .if1 .taken)) (c .before .before .before .before .loop .inv .1)
+
+add-i : tie.Need-add-i Inv-loop μ-loop
+add-i c = search needs
+
+loop-less : tie.Need-loop-less Inv-loop μ-loop
+loop-less c = search needs
+
+loop-again : tie.Need-loop-again Inv-loop μ-loop
+loop-again c = (omega arith, scan-turn isDelimiter _ _ (c .before .before .before .loop-test .taken) (c .before .is-delimiter .ensures) (not-false _ (c .if1 .left)) (c .before .before .before .before .loop .inv .1))
+
+returns-2 : tie.Need-returns-2 Inv-loop μ-loop
+returns-2 c = scan-end isDelimiter _ _ (c .loop-test .left) (c .before .loop .inv .1)
+
+pub field-start-spec : {M : Type 1} → statement M
+field-start-spec =
+    tie.close
+    (tie.spec
+    Inv-loop
+    μ-loop
+    loop-holds
+    shared-slice-read-is-delimiter
+    is-delimiter-requires
+    returns
+    add-i
+    loop-less
+    loop-again
+    returns-2)
