@@ -78,7 +78,7 @@ unfolding digitsFrom
 digits-other r a c s h = cond-false (ltb (digitOf c) r) (digitsFrom r (a * r + digitOf c) s) Malformed (le-ltb (digitOf c) r h)
 
 -- ---- cutting early changes nothing
-cap-step : (r a b d : ℕ) → 0 < r → min a cap ≡ min b cap → min (a * r + d) cap ≡ min (b * r + d) cap
+pub cap-step : (r a b d : ℕ) → 0 < r → min a cap ≡ min b cap → min (a * r + d) cap ≡ min (b * r + d) cap
 cap-step r a b d h e =
     by-lt a cap
     (λ l. let q : a ≡ b = omega arith in ap (λ (x : ℕ). min (x * r + d) cap) q)
@@ -153,14 +153,14 @@ unfolding integerOf
 integer-capped s = run-capped 10 s
 
 -- n digits behind a value below m have a value below m * r ^ n
-abbrev Under : ℕ → Integer → Type 0
+abbrev pub Under : ℕ → Integer → Type 0
 Under n Malformed = Unit {0}
 Under n (Value v) = v < n
 
 under-of : {n m : ℕ} {i j : Integer} → n ≡ m → i ≡ j → Under m j → Under n i
 under-of {n} {m} {i} {j} q e h = subst (λ (x : Integer). Under n x) (sym e) (subst (λ (k : ℕ). Under k j) (sym q) h)
 
-digits-under : (r : ℕ) (s : List ℕ) (a m : ℕ) → a < m → Under (m * r ^ length s) (digitsFrom r a s)
+pub digits-under : (r : ℕ) (s : List ℕ) (a m : ℕ) → a < m → Under (m * r ^ length s) (digitsFrom r a s)
 digits-under r [] a m h =
     let l : min a cap ≤ a = min-le-left a cap in
     let k : min a cap < m = omega arith in

@@ -1,4 +1,5 @@
 pub mod Digits
+pub mod Runs
 pub mod Cuts
 pub mod Numbers
 pub mod Times

@@ -1,4 +1,5 @@
 pub mod Integer
+pub mod Digits
 pub mod Parts
 pub mod Number
 pub mod Time

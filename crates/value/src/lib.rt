@@ -1,8 +1,11 @@
 // Values of fields (§7.2, §7.4, §7.6, §7.7, §8.4): integers, cue numbers, times, versions, pages, each read from a field's characters.
 // Every reader is total: any bytes have an answer. Which condition a malformed value gives is said above this crate.
 ghost use mathlib.Core.Path.{_≡_};
+ghost use mathlib.Core.Bool.{true};
 ghost use Prim.Native.Nat.{_+_, _*_, _<_, _≤_, min};
+ghost use lib.ListN.{length};
 ghost use Rattle.value.specs.Integer.{cap, digitOf, runOf, integerOf, AtMost};
+ghost use Rattle.value.specs.Digits.{isDigit, digitsAt};
 ghost use Rattle.value.specs.Parts.{cutAt, decimalsOf};
 ghost use Rattle.value.specs.Number.{numberedOf, numberOf};
 ghost use Rattle.value.specs.Time.{firstMax, partOf, joinOf, laterOf, clockOf, timeOf};
@@ -12,6 +15,8 @@ ghost use Rattle.value.specs.Field.{versionedOf, versionOf, pageOf};
 const CAP: u32 = 100_000;
 
 const DECIMAL: u32 = 10;
+
+const HEXADECIMAL: u32 = 16;
 
 // The largest whole part of a cue or group number, how many digits may follow its point, and the largest that so many digits write.
 pub const WHOLE_MAX: u32 = 999;
@@ -101,6 +106,80 @@ pub fn read_integer(s: &[u8]) -> Integer
     ensures { λ r. ⌜ r ≡ integerOf (now (s .entry)) ⌝ }
 {
     run(s, DECIMAL)
+}
+
+// Digits as they stand in a text: their value, cut at CAP, and where they end.
+pub struct DigitRun {
+    pub value: u32,
+    pub end: usize,
+}
+
+fn is_decimal(c: u8) -> bool
+    ensures { λ r. ⌜ r ≡ isDigit 10 c ⌝ }
+{
+    if c < 48 {
+        return false;
+    }
+    c <= 57
+}
+
+// The decimal digits from `at` on, read in the one scan that finds their end.
+pub fn digits_at(text: &[u8], at: usize) -> DigitRun
+    requires { ⌜ at ≤ length (now text) ⌝ }
+    ensures { λ r. ⌜ r ≡ digitsAt 10 (now (text .entry)) at ⌝ }
+{
+    let mut value: u32 = 0;
+    let mut i = at;
+    while i < text.len() {
+        let c = text[i];
+        if !is_decimal(c) {
+            return DigitRun { value, end: i };
+        }
+        value = grown(value, DECIMAL, (c - 48) as u32);
+        i += 1;
+    }
+    DigitRun { value, end: i }
+}
+
+// Bit n is set where character 48 + n is a hexadecimal digit.
+const HEX: u64 = 35465847073801215;
+
+fn is_hex(c: u8) -> bool
+    ensures { λ r. ⌜ r ≡ isDigit 16 c ⌝ }
+{
+    if c < 48 {
+        return false;
+    }
+    if 102 < c {
+        return false;
+    }
+    (HEX >> (c - 48)) % 2 == 1
+}
+
+// What a hexadecimal digit counts, without a test: letters of both cases end in their number less 9.
+fn hex_digit(c: u8) -> u32
+    requires { ⌜ isDigit 16 c ≡ true ⌝ }
+    ensures { λ r. ⌜ r ≡ digitOf c ⌝ }
+{
+    (c % 16 + c / 64 * 9) as u32
+}
+
+// The hexadecimal digits from `at` on.
+pub fn hex_at(text: &[u8], at: usize) -> DigitRun
+    requires { ⌜ at ≤ length (now text) ⌝ }
+    ensures { λ r. ⌜ r ≡ digitsAt 16 (now (text .entry)) at ⌝ }
+{
+    let mut value: u32 = 0;
+    let mut i = at;
+    while i < text.len() {
+        let c = text[i];
+        if !is_hex(c) {
+            return DigitRun { value, end: i };
+        }
+        value = grown(value, HEXADECIMAL, hex_digit(c));
+        i += 1;
+    }
+    DigitRun { value, end: i }
 }
 
 // The place of the first `b`, or the length where there is none.

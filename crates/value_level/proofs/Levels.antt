@@ -2,9 +2,9 @@
 -- Assumes nothing.
 use mathlib.Core.Path.{_≡_, refl, sym, ap, _∙_, subst}
 use mathlib.Core.Bool.{true, false}
-use mathlib.Core.List.{List, [], _∷_}
+use mathlib.Core.List.{List}
 use Prim.Native.Nat.{ℕ, _/_, _^_, _<_, _≤_, min}
-use native.Mathlib.Nat.{pow-le-pow-right}
+use native.Mathlib.Nat.{pow-le-pow-right, min-le-right}
 use native.Mathlib.Omega.{arith}
 use lib.Dec.{ltb}
 use lib.ListN.{length, getD, drop}
@@ -28,18 +28,9 @@ module _ {i : Integer} {p : ℕ} (e : i ≡ Value p) where
   unfolding percentOf
   percent-large h = ap percentOf e ∙ rw (lt-ltb percentMax p h)
 
-  pub percent-full : p ≤ percentMax → 100 < p → percentOf i ≡ IsLevel (percentByte 100)
+  pub percent-min : p ≤ percentMax → percentOf i ≡ IsLevel (percentByte (min p 100))
   unfolding percentOf
-  percent-full h g =
-      let q : min p 100 ≡ 100 = omega arith in
-      ap percentOf e ∙ rw (le-ltb percentMax p h, q)
-
-  pub percent-of : p ≤ 100 → percentOf i ≡ IsLevel (percentByte p)
-  unfolding percentOf
-  percent-of g =
-      let h : p ≤ percentMax = omega arith in
-      let q : min p 100 ≡ p = omega arith in
-      ap percentOf e ∙ rw (le-ltb percentMax p h, q)
+  percent-min h = ap percentOf e ∙ rw (le-ltb percentMax p h)
 
 -- ---- hexadecimal digits
 pub hex-long : (s : List ℕ) → hexDigits < length s → hexOf s ≡ NotHex
@@ -63,11 +54,6 @@ unfolding hexByteOf
 hex-upper n {i} {v} e h = ap (λ (x : Integer). hexByteOf n x) e ∙ rw (lt-leb n 2 h)
 
 -- ---- the two formats
-pub level-empty : (s : List ℕ) → length s ≡ 0 → levelOf s ≡ NotPercent
-unfolding levelOf integerOf runOf percentOf
-level-empty [] e = refl
-level-empty (c ∷ s) e = absurd (let f : length (c ∷ s) ≡ 0 = e in omega arith)
-
 pub level-hex : (s : List ℕ) → isHexMark (getD s 0 0) ≡ true → levelOf s ≡ hexOf (drop 1 s)
 unfolding levelOf
 level-hex s e = cond-true (isHexMark (getD s 0 0)) (hexOf (drop 1 s)) (percentOf (integerOf s)) e
@@ -105,14 +91,11 @@ percent-byte-below p h = omega arith
 percent-ok : (i : Integer) → LevelOk (percentOf i)
 percent-ok Malformed = ok-of (percent-malformed refl) tt
 percent-ok (Value p) =
-    by-le p 100
-    (λ h. let b : percentByte p ≤ 255 = percent-byte-below p h in ok-of (percent-of refl h) (let g : percentByte p < 256 = omega arith in g))
-    (λ h.
     by-le p percentMax
     (λ g.
-    let b : percentByte 100 ≤ 255 = percent-byte-below 100 (omega arith) in
-    ok-of (percent-full refl g h) (let k : percentByte 100 < 256 = omega arith in k))
-    (λ g. ok-of (percent-large refl g) tt))
+    let b : percentByte (min p 100) ≤ 255 = percent-byte-below (min p 100) (min-le-right p 100) in
+    ok-of (percent-min refl g) (let k : percentByte (min p 100) < 256 = omega arith in k))
+    (λ g. ok-of (percent-large refl g) tt)
 
 hex-ok : (s : List ℕ) → length s ≤ hexDigits → (i : Integer) → runOf 16 s ≡ i → LevelOk (hexByteOf (length s) i)
 hex-ok s h Malformed e = ok-of (hex-malformed (length s) refl) tt

@@ -1,16 +1,15 @@
-// Levels (§7.5): a percentage by Table C-2, or hexadecimal digits, read from a field's characters into a byte.
+// Levels (§7.5): a percentage by Table C-2, or hexadecimal digits, read in the scan that finds their end into a byte.
 // The reader is total: any bytes have an answer. Which condition a malformed level gives is said above this crate.
-use value::Integer;
 ghost use mathlib.Core.Path.{_≡_};
 ghost use Prim.Native.Nat.{_≤_};
-ghost use Rattle.value_level.specs.Level.{percentByte, percentOf, hexOf, isHexMark, levelOf};
-
-const HEXADECIMAL: u32 = 16;
+ghost use lib.ListN.{length};
+ghost use Rattle.value_level.specs.Level.{percentByte, isHexMark};
+ghost use Rattle.value_level.specs.Run.{percentLeveling, HexFits, hexBy, hexLeveling, levelingAt};
 
 // A level: the largest percentage taken, and the one that all above it count as.
 const PERCENT_MAX: u32 = 999;
 
-const PERCENT_FULL: u32 = 100;
+const PERCENT_FULL: usize = 100;
 
 const HEX_DIGITS: usize = 4;
 
@@ -133,38 +132,69 @@ pub enum Leveled {
     Value(u8),
 }
 
-fn percent(p: Integer) -> Leveled
-    ensures { λ r. ⌜ r ≡ percentOf p ⌝ }
-{
-    let Integer::Value(v) = p else {
-        return Leveled::NotPercent;
-    };
-    if PERCENT_MAX < v {
-        return Leveled::NotPercent;
-    }
-    if PERCENT_FULL < v {
-        return Leveled::Value(percent_byte(PERCENT_FULL as usize));
-    }
-    Leveled::Value(percent_byte(v as usize))
+// A level as it stands in a text, and where its characters end.
+pub struct Leveling {
+    pub level: Leveled,
+    pub end: usize,
 }
 
-// The digits after the H. One or two are the byte; of three or four the last two are discarded.
-fn hexadecimal(s: &[u8]) -> Leveled
-    ensures { λ r. ⌜ r ≡ hexOf (now (s .entry)) ⌝ }
+// The digits from `at` on.
+fn percent(text: &[u8], at: usize) -> Leveling
+    requires { ⌜ at ≤ length (now text) ⌝ }
+    ensures { λ r. ⌜ r ≡ percentLeveling (now (text .entry)) at ⌝ }
 {
-    if HEX_DIGITS < s.len() {
+    let d = value::digits_at(text, at);
+    let end = d.end;
+    let v = d.value;
+    if end == at {
+        return Leveling {
+            level: Leveled::NotPercent,
+            end,
+        };
+    }
+    if PERCENT_MAX < v {
+        return Leveling {
+            level: Leveled::NotPercent,
+            end,
+        };
+    }
+    let p = cells::at_most(cells::place(v), PERCENT_FULL);
+    Leveling {
+        level: Leveled::Value(percent_byte(p)),
+        end,
+    }
+}
+
+// The digits after the H, of which there are n. One or two are the byte; of three or four the last two are discarded.
+fn hexadecimal(n: usize, v: u32) -> Leveled
+    requires { ⌜ HexFits n v ⌝ }
+    ensures { λ r. ⌜ r ≡ hexBy n v ⌝ }
+{
+    if n == 0 {
         return Leveled::NotHex;
     }
-    let Integer::Value(v) = value::run(s, HEXADECIMAL) else {
+    if HEX_DIGITS < n {
         return Leveled::NotHex;
-    };
-    if s.len() <= 2 {
+    }
+    if n <= 2 {
         return Leveled::Value(v as u8);
     }
     Leveled::Value((v / 256) as u8)
 }
 
-fn hex_mark(c: u8) -> bool
+fn hex_at(text: &[u8], at: usize) -> Leveling
+    requires { ⌜ at ≤ length (now text) ⌝ }
+    ensures { λ r. ⌜ r ≡ hexLeveling (now (text .entry)) at ⌝ }
+{
+    let d = value::hex_at(text, at);
+    let end = d.end;
+    Leveling {
+        level: hexadecimal(end - at, d.value),
+        end,
+    }
+}
+
+pub fn hex_mark(c: u8) -> bool
     ensures { λ r. ⌜ r ≡ isHexMark c ⌝ }
 {
     if c == b'H' {
@@ -173,14 +203,13 @@ fn hex_mark(c: u8) -> bool
     c == b'h'
 }
 
-pub fn read_level(s: &[u8]) -> Leveled
-    ensures { λ r. ⌜ r ≡ levelOf (now (s .entry)) ⌝ }
+// The level that the characters from `at` on make, up to the first that no level goes on with.
+pub fn level_at(text: &[u8], at: usize) -> Leveling
+    requires { ⌜ at ≤ length (now text) ⌝ }
+    ensures { λ r. ⌜ r ≡ levelingAt (now (text .entry)) at ⌝ }
 {
-    if s.len() == 0 {
-        return Leveled::NotPercent;
+    if hex_mark(cells::byte(text, at)) {
+        return hex_at(text, at + 1);
     }
-    if hex_mark(s[0]) {
-        return hexadecimal(&s[1..]);
-    }
-    percent(value::read_integer(s))
+    percent(text, at)
 }
