@@ -1,30 +1,35 @@
 -- How many: a record has no more conditions than characters, a load no more records than the stream has bytes and no more reports but
--- 0100, and the four tallies sum to the records read. By induction on the records.
+-- 0100, and the four tallies sum to the records read. An empty record is blank, with no condition; a text has at most forty faults. By
+-- induction on the records.
 -- Assumes nothing.
 use mathlib.Core.Path.{_≡_, refl, ap, _∙_}
 use mathlib.Core.Bool.{Bool, true, false, cond}
 use mathlib.Core.List.{List, [], _∷_, _++_, flatten}
-use Prim.Native.Nat.{ℕ, suc, _+_, _≤_, _<_, zero-le, suc-le-suc}
+use Prim.Native.Nat.{ℕ, suc, _+_, _*_, _≤_, _<_, zero-le, suc-le-suc}
 use native.Mathlib.Omega.{arith}
 use lib.ListN.{length, length-append, length-map}
+use lib.Seq.{take-nil}
 use borrow.Author.Tests.{ltb-true}
+use Rattle.cells.specs.Put.{put}
+use Rattle.cells.proofs.Put.{put-nil}
 use Rattle.cells.proofs.Split.{by-test, by-bool}
 use Rattle.store_desk.specs.declared.Desk.{Desk}
 use Rattle.text_records.specs.Stream.{recordsOf}
 use Rattle.text_records.specs.Received.{longest}
 use Rattle.text_records.specs.Cleaning.{isHigh, isControl, has, keptOf}
 use Rattle.text_records.proofs.Stream.{records-count}
-use Rattle.text_fields.specs.Words.{fieldsOf}
+use Rattle.text_fields.specs.Words.{wordsIn, wordsOf, fieldsOf}
 use Rattle.load.specs.declared.State.{State}
 use Rattle.load.specs.declared.Outcome.{Outcome}
+use Rattle.load.specs.declared.Outcome.the-variants.{Blank}
 use Rattle.load.specs.Condition.{noEnddata, ignoredHigh, ignoredControl}
-use Rattle.load.specs.Ask.{isOverLong, askOf}
-use Rattle.load.specs.Step.{nothingOpen, acted, recordStep, conditionsOf, ignoredIn, oneIf, outcomeReports}
-use Rattle.load.specs.Run.{conditionSpan, Report, Run, stops, reportsAt, runFrom, loadOf, allReports, Class, blank, passed, dropped, obeyed, classOf, eqClass, tallyOf, totalsOf}
+use Rattle.load.specs.Ask.{isOverLong, fieldsAsk, askOf}
+use Rattle.load.specs.Step.{nothingOpen, ended, acted, stepOf, recordStep, conditionsOf, ignoredIn, oneIf, outcomeReports, faultReports}
+use Rattle.load.specs.Run.{conditionSpan, Report, Run, stops, reportsAt, runFrom, loadOf, allReports, Class, blank, passed, dropped, obeyed, classOf, eqClass, tallyOf, storedIn, totalsOf}
 use Rattle.text_records.proofs.Counts.{tell, seen-few, characters-few}
-use Rattle.text_fields.proofs.Counts.{fields-few}
+use Rattle.text_fields.proofs.Counts.{words-few, fields-few}
 use Rattle.load.specs.Fits.{Small}
-use Rattle.load.proofs.Steps.{Modest, step-said}
+use Rattle.load.proofs.Steps.{Modest, step-few, step-said}
 
 -- ---- a record's ignored characters are reported at most once a sort
 one-few : (b : Bool) (c : ℕ) → length (oneIf b c) ≡ tell b
@@ -64,7 +69,7 @@ said-join n k cs {bs} h g m =
     record { few = omega arith; small = small-join cs bs g (m .small) }
 
 long-said : (d : Desk) (s : State) (r t : List ℕ) → isOverLong r ≡ true → Modest (length r) (conditionsOf r (recordStep d s r t))
-unfolding conditionsOf recordStep outcomeReports Small acted askOf
+unfolding conditionsOf recordStep outcomeReports faultReports Small acted askOf
 long-said d s r t e =
     let l : longest < length r = ltb-true longest (length r) e in
     let h : 1 ≤ length r = omega arith in
@@ -80,6 +85,22 @@ record-said d s r t =
     let f : length (fieldsOf r) ≤ length (keptOf r) = fields-few r in
     let h : length (ignoredIn r) + length (fieldsOf r) ≤ length r = omega arith in
     rw e (said-join (length (fieldsOf r)) (length r) (ignoredIn r) h (ignored-small (has isHigh r) (has isControl r)) (step-said d s (fieldsOf r) t)))
+
+-- a record with no character is blank, and nothing is reported of it
+pub blank-step : (d : Desk) (s : State) (t : List ℕ) → recordStep d s [] t ≡ ended s Blank t
+unfolding recordStep askOf keptOf fieldsOf wordsOf wordsIn fieldsAsk acted
+blank-step d s t = refl
+
+pub blank-said : (s : State) (t : List ℕ) → conditionsOf [] (ended s Blank t) ≡ []
+unfolding conditionsOf ignoredIn has outcomeReports faultReports
+blank-said s t = refl
+
+-- ---- a text of at most 80 characters has at most forty faults
+pub text-few : (d : Desk) (s : State) (text t : List ℕ) → length text ≤ longest → length (stepOf d s (wordsOf 0 text) t .faults) ≤ 40
+text-few d s text t h =
+    let a : 2 * length (stepOf d s (wordsOf 0 text) t .faults) ≤ length (wordsOf 0 text) = step-few d s (wordsOf 0 text) t in
+    let b : length (wordsOf 0 text) ≤ length text = words-few 0 text in
+    omega arith
 
 -- ---- a load's records and reports
 module _ (d : Desk) where
@@ -140,6 +161,11 @@ load-all-reports d t s =
     let a : length (allReports (loadOf d t s)) ≤ length (loadOf d t s .reports) + 1 = all-few (loadOf d t s) in
     let b : length (loadOf d t s .reports) ≤ length s = load-reports d t s in
     omega arith
+
+-- no report leaves the list as it is
+pub stored-none : (reports : List ℕ) → storedIn reports [] ≡ reports
+unfolding storedIn
+stored-none reports = ap (put reports 0) (take-nil (length reports)) ∙ put-nil reports 0
 
 -- ---- each record read is in one tally
 one-class : (k : Class) (a b c e : ℕ)

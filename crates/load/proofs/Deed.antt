@@ -28,6 +28,7 @@ use Rattle.value.specs.declared.Paged.the-variants.{Bad, Value as IsPage}
 use Rattle.value.specs.Field.{versionOf, pageOf}
 use Rattle.store.specs.declared.Edit.{Edit}
 use Rattle.store.specs.Change.{everyPage}
+use Rattle.load.specs.declared.Fault.{Fault}
 use Rattle.load.specs.declared.Entry.{Entry}
 use Rattle.load.specs.declared.Open.{Open}
 use Rattle.load.specs.declared.Open.the-variants.{Nothing, Skipping, Memory}
@@ -41,9 +42,9 @@ use Rattle.load.specs.declared.Named.the-variants.{Refused, Name as Acce
 use Rattle.load.specs.declared.Reading.{Reading}
 use Rattle.load.specs.declared.Reading.the-variants.{Wrong as Misread, Change}
 use Rattle.load.specs.Condition.{fullOf, unsupportedOf, wrongSecondary, overLongRecord, identMismatch}
-use Rattle.load.specs.Item.{memory, page, pairsOf, triplesOf}
+use Rattle.load.specs.Item.{blame, blameNone, memory, page, pairsOf, triplesOf}
 use Rattle.load.specs.Ask.{Wipe, table, dimmers, Ask, rests, skips, opens, edits, items, clears, name}
-use Rattle.load.specs.Ask.{namedOf, namedAsk, primaryAsk, augments, timesOf, changeAsk, obeyedAsk, secondaryAsk, pageAt, pagedAsk, kindAsk, dimmersAsk}
+use Rattle.load.specs.Ask.{namedOf, namedAsk, primaryAsk, augments, timesOf, changeAsk, obeyedAsk, secondaryAsk, pageAt, pagedAsk, kindAsk, dimmersAsk, allAsk}
 use Rattle.load.specs.Ask.{tablePages, kindWipes, dimmerWipes, allWipes, itemAsk, triplesAsk, isThree, identOutcome}
 use Rattle.load.specs.Ask.{keywordAsk, fieldsAsk, isOverLong, askOf}
 use Rattle.load.specs.Fits.{AllFit, highestPage}
@@ -58,9 +59,9 @@ use Rattle.load.proofs.Read.{NamedOk, named-ok, PageIn, page-in, page-a
 abbrev pub OutcomeFits : Outcome → Type 0
 OutcomeFits Blank = Unit {0}
 OutcomeFits Passed = Unit {0}
-OutcomeFits (Dropped c) = c < conditionSpan
+OutcomeFits (Dropped f) = f .condition < conditionSpan
 OutcomeFits Obeyed = Unit {0}
-OutcomeFits (Stopped c) = c < conditionSpan
+OutcomeFits (Stopped f) = f .condition < conditionSpan
 
 -- not obeyed, and the load goes on
 abbrev pub Idles : Outcome → Type 0
@@ -100,9 +101,9 @@ unsupported-fits Cue = lit< tt
 unsupported-fits Group = lit< tt
 unsupported-fits Sub = lit< tt
 
-dropped-idles : (c : ℕ) → Idles (Dropped c)
+dropped-idles : (f : Fault) → Idles (Dropped f)
 unfolding stops
-dropped-idles c = ((λ e. let z : _≡_ {A = ℕ} 0 1 = cc in absurd (omega arith)), refl)
+dropped-idles f = ((λ e. let z : _≡_ {A = ℕ} 0 1 = cc in absurd (omega arith)), refl)
 
 passed-idles : Idles Passed
 unfolding stops
@@ -145,63 +146,71 @@ module _ (d : Desk) (s : State) (n : ℕ) where
   -- ---- primaries
   named-deed : (k : Kind) (x : Named) → NamedOk d k x → Deed d s n (namedAsk k x)
   unfolding namedAsk
-  named-deed k (Refused c) h = skipping (Dropped c) h (dropped-idles c)
+  named-deed k (Refused f) h = skipping (Dropped f) h (dropped-idles f)
   named-deed k (Accepted y) h = opening k y h
 
-  primary-deed : (k : Kind) (ws : List Word) → Deed d s n (primaryAsk d k ws)
+  pub primary-deed : (k : Kind) (w : Word) (ws : List Word) → Deed d s n (primaryAsk d k w ws)
   unfolding primaryAsk
-  primary-deed k ws =
-      by-test (Deed d s n) (supported d k) (namedAsk k (namedOf d k ws)) (skips (Dropped (unsupportedOf k)))
+  primary-deed k w ws =
+      let f : Fault = blame w (unsupportedOf k) in
+      by-test (Deed d s n) (supported d k) (namedAsk k (namedOf d k ws)) (skips (Dropped f))
       (λ e. named-deed k (namedOf d k ws) (named-ok d k e ws))
-      (λ e. skipping (Dropped (unsupportedOf k)) (unsupported-fits k) (dropped-idles (unsupportedOf k)))
+      (λ e. skipping (Dropped f) (unsupported-fits k) (dropped-idles f))
 
   -- ---- CLEAR
-  paged-deed : (limit : ℕ) (x : Paged) → PageIn everyPage limit x → (f : ℕ → List Wipe) → ((p : ℕ) → p ≤ limit → WipesFit d (f p))
-      → Deed d s n (pagedAsk x f)
+  paged-deed : (limit : ℕ) (w : Word) (x : Paged) → PageIn everyPage limit x → (f : ℕ → List Wipe) → ((p : ℕ) → p ≤ limit → WipesFit d (f p))
+      → Deed d s n (pagedAsk w x f)
   unfolding pagedAsk
-  paged-deed limit Bad h f g = resting (Dropped _) (lit< tt)
-  paged-deed limit (IsPage p) h f g = clearing (f p) (g p (h .1))
+  paged-deed limit w Bad h f g = resting (Dropped _) (lit< tt)
+  paged-deed limit w (IsPage p) h f g = clearing (f p) (g p (h .1))
 
   at-deed : (limit : ℕ) (ws : List Word) (f : ℕ → List Wipe) → ((p : ℕ) → p ≤ limit → WipesFit d (f p))
-      → Deed d s n (pagedAsk (pageAt everyPage limit ws) f)
-  at-deed limit ws f g = paged-deed limit (pageAt everyPage limit ws) (page-at-in everyPage everyPage limit (omega arith) (omega arith) ws) f g
+      → Deed d s n (pagedAsk (headOf ws) (pageAt everyPage limit ws) f)
+  at-deed limit ws f g = paged-deed limit (headOf ws) (pageAt everyPage limit ws) (page-at-in everyPage everyPage limit (omega arith) (omega arith) ws) f g
 
-  kind-deed : (k : Kind) (ws : List Word) → Deed d s n (kindAsk d k ws)
+  pub kind-deed : (k : Kind) (ws : List Word) → Deed d s n (kindAsk d k ws)
   unfolding kindAsk
   kind-deed k ws =
-      by-test (Deed d s n) (supported d k) (pagedAsk (pageAt everyPage (pagesOf d k) ws) (λ p. table k p ∷ [])) (rests Obeyed)
+      by-test (Deed d s n) (supported d k) (pagedAsk (headOf ws) (pageAt everyPage (pagesOf d k) ws) (λ p. table k p ∷ [])) (rests Obeyed)
       (λ e. at-deed (pagesOf d k) ws (λ p. table k p ∷ []) (λ p h. (h, tt)))
       (λ e. resting Obeyed tt)
 
-  clear-deed : (i : Item) (ws : List Word) → Deed d s n (itemAsk d i ws)
-  unfolding itemAsk dimmersAsk
-  clear-deed All ws = subst (Deed d s n) (sym (all-ask d ws)) (at-deed (highestPage d) ws (allWipes d) (λ p h. all-wipes d p))
-  clear-deed Cues ws = kind-deed Cue ws
-  clear-deed Groups ws = kind-deed Group ws
-  clear-deed Patches ws = at-deed (d .«patch_pages») ws (λ p. dimmers p ∷ []) (λ p h. (h, tt))
-  clear-deed Subs ws = kind-deed Sub ws
-  clear-deed LocalItem ws = resting Obeyed tt
-  clear-deed Other ws = resting (Dropped _) (lit< tt)
+  pub dimmers-deed : (ws : List Word) → Deed d s n (dimmersAsk d ws)
+  unfolding dimmersAsk
+  dimmers-deed ws = at-deed (d .«patch_pages») ws (λ p. dimmers p ∷ []) (λ p h. (h, tt))
 
-  ident-deed : (v : Version) → Deed d s n (rests (identOutcome v))
+  pub all-deed : (ws : List Word) → Deed d s n (allAsk d ws)
+  all-deed ws = subst (Deed d s n) (sym (all-ask d ws)) (at-deed (highestPage d) ws (allWipes d) (λ p h. all-wipes d p))
+
+  pub item-deed : (i : Item) (w : Word) (ws : List Word) → Deed d s n (itemAsk d i w ws)
+  unfolding itemAsk
+  item-deed All w ws = all-deed ws
+  item-deed Cues w ws = kind-deed Cue ws
+  item-deed Groups w ws = kind-deed Group ws
+  item-deed Patches w ws = dimmers-deed ws
+  item-deed Subs w ws = kind-deed Sub ws
+  item-deed LocalItem w ws = resting Obeyed tt
+  item-deed Other w ws = resting (Dropped _) (lit< tt)
+
+  ident-deed : (w : Word) (v : Version) → Deed d s n (rests (identOutcome w v))
   unfolding identOutcome
-  ident-deed BadVersion = resting (Stopped identMismatch) (lit< tt)
-  ident-deed (IsVersion a b) =
-      by-test (λ (o : Outcome). Deed d s n (rests o)) (isThree a b) Obeyed (Stopped identMismatch)
+  ident-deed w BadVersion = resting (Stopped _) (lit< tt)
+  ident-deed w (IsVersion a b) =
+      by-test (λ (o : Outcome). Deed d s n (rests o)) (isThree a b) Obeyed (Stopped (blame w identMismatch))
       (λ e. resting Obeyed tt)
-      (λ e. resting (Stopped identMismatch) (lit< tt))
+      (λ e. resting (Stopped (blame w identMismatch)) (lit< tt))
 
   -- ---- PATCH
-  patch-deed : (x : Paged) → PageIn 1 (d .«patch_pages») x → (ws : List Word) → length ws ≤ n → Deed d s n (triplesAsk d x ws)
+  patch-deed : (w : Word) (x : Paged) → PageIn 1 (d .«patch_pages») x → (ws : List Word) → length ws ≤ n → Deed d s n (triplesAsk d w x ws)
   unfolding triplesAsk
-  patch-deed Bad h ws l = resting (Dropped _) (lit< tt)
-  patch-deed (IsPage p) h ws l = patching p h (triplesOf d ws) (triples-fit d ws) (let f = triples-few d ws in omega arith)
+  patch-deed w Bad h ws l = resting (Dropped _) (lit< tt)
+  patch-deed w (IsPage p) h ws l = patching p h (triplesOf d ws) (triples-fit d ws) (let f = triples-few d ws in omega arith)
 
 -- ---- secondaries
 module _ (d : Desk) (s : State) (ws : List Word) where
   changed-deed : (k : Kind) → s .«open» ≡ Memory k → (x : Reading) → ReadingOk k x → Deed d s (length ws) (changeAsk (name k (s .key)) x)
   unfolding changeAsk
-  changed-deed k h (Misread c) o = resting (Dropped c) o
+  changed-deed k h (Misread f) o = resting (Dropped f) o
   changed-deed k h (Change e) o = editing k h e o
 
   obeyed-deed : (k : Kind) → s .«open» ≡ Memory k → (e : Secondary) → augments k e ≡ true → Deed d s (length ws) (obeyedAsk d (name k (s .key)) e ws)
@@ -212,14 +221,15 @@ module _ (d : Desk) (s : State) (ws : List Word) where
   obeyed-deed k h Followon a = changed-deed k h (timesOf Followon ws) (reading-ok k Followon a ws)
   obeyed-deed k h Link a = changed-deed k h (timesOf Link ws) (reading-ok k Link a ws)
 
-  secondary-deed : (o : Open) → s .«open» ≡ o → (e : Secondary) → Deed d s (length ws) (secondaryAsk d (s .key) o e ws)
+  secondary-deed : (o : Open) → s .«open» ≡ o → (e : Secondary) (w : Word)
+      → Deed d s (length ws) (secondaryAsk d (s .key) o e w ws)
   unfolding secondaryAsk
-  secondary-deed Nothing h e = resting (Dropped wrongSecondary) (lit< tt)
-  secondary-deed Skipping h e = resting Passed tt
-  secondary-deed (Memory k) h e =
-      by-test (Deed d s (length ws)) (augments k e) (obeyedAsk d (name k (s .key)) e ws) (rests (Dropped wrongSecondary))
+  secondary-deed Nothing h e w = resting (Dropped _) (lit< tt)
+  secondary-deed Skipping h e w = resting Passed tt
+  secondary-deed (Memory k) h e w =
+      by-test (Deed d s (length ws)) (augments k e) (obeyedAsk d (name k (s .key)) e ws) (rests (Dropped (blame w wrongSecondary)))
       (λ a. obeyed-deed k h e a)
-      (λ a. resting (Dropped wrongSecondary) (lit< tt))
+      (λ a. resting (Dropped (blame w wrongSecondary)) (lit< tt))
 
 -- ---- the keywords
 pub tail-few : (ws : List Word) → length (tailOf ws) ≤ length ws
@@ -227,39 +237,39 @@ tail-few [] = omega arith
 tail-few (w ∷ ws) = omega arith
 
 module _ (d : Desk) (s : State) where
-  keyword-deed : (k : Keyword) (ws : List Word) → Deed d s (length ws) (keywordAsk d s k ws)
+  keyword-deed : (k : Keyword) (w : Word) (ws : List Word) → Deed d s (length ws) (keywordAsk d s k w ws)
   unfolding keywordAsk
-  keyword-deed key.Ident ws = ident-deed d s (length ws) (versionOf (headOf ws .chars))
-  keyword-deed key.Clear ws = clear-deed d s (length ws) (itemOf (headOf ws .chars)) (tailOf ws)
-  keyword-deed key.Patch ws =
-      patch-deed d s (length ws) (pageOf (d .«patch_pages») (headOf ws .chars)) (page-in 1 (d .«patch_pages») (omega arith) (headOf ws .chars)) (tailOf ws)
+  keyword-deed key.Ident w ws = ident-deed d s (length ws) (headOf ws) (versionOf (headOf ws .chars))
+  keyword-deed key.Clear w ws = item-deed d s (length ws) (itemOf (headOf ws .chars)) w (tailOf ws)
+  keyword-deed key.Patch w ws =
+      patch-deed d s (length ws) (headOf ws) (pageOf (d .«patch_pages») (headOf ws .chars)) (page-in 1 (d .«patch_pages») (omega arith) (headOf ws .chars)) (tailOf ws)
       (tail-few ws)
-  keyword-deed key.Cue ws = primary-deed d s (length ws) Cue ws
-  keyword-deed key.Group ws = primary-deed d s (length ws) Group ws
-  keyword-deed key.Sub ws = primary-deed d s (length ws) Sub ws
-  keyword-deed key.Chan ws = secondary-deed d s ws (s .«open») refl Chan
-  keyword-deed key.Up ws = secondary-deed d s ws (s .«open») refl Up
-  keyword-deed key.Down ws = secondary-deed d s ws (s .«open») refl Down
-  keyword-deed key.Followon ws = secondary-deed d s ws (s .«open») refl Followon
-  keyword-deed key.Link ws = secondary-deed d s ws (s .«open») refl Link
-  keyword-deed key.Enddata ws = resting (Stopped 0) (lit< tt)
-  keyword-deed key.Manufacturer ws = resting Passed tt
-  keyword-deed key.Console ws = resting Passed tt
-  keyword-deed key.Set ws = resting Passed tt
-  keyword-deed key.Text ws = resting Passed tt
-  keyword-deed key.Part ws = resting Passed tt
-  keyword-deed key.Local ws = skipping Passed tt passed-idles
-  keyword-deed key.Comment ws = resting Passed tt
-  keyword-deed key.Unknown ws = resting (Dropped _) (lit< tt)
+  keyword-deed key.Cue w ws = primary-deed d s (length ws) Cue w ws
+  keyword-deed key.Group w ws = primary-deed d s (length ws) Group w ws
+  keyword-deed key.Sub w ws = primary-deed d s (length ws) Sub w ws
+  keyword-deed key.Chan w ws = secondary-deed d s ws (s .«open») refl Chan w
+  keyword-deed key.Up w ws = secondary-deed d s ws (s .«open») refl Up w
+  keyword-deed key.Down w ws = secondary-deed d s ws (s .«open») refl Down w
+  keyword-deed key.Followon w ws = secondary-deed d s ws (s .«open») refl Followon w
+  keyword-deed key.Link w ws = secondary-deed d s ws (s .«open») refl Link w
+  keyword-deed key.Enddata w ws = resting (Stopped _) (lit< tt)
+  keyword-deed key.Manufacturer w ws = resting Passed tt
+  keyword-deed key.Console w ws = resting Passed tt
+  keyword-deed key.Set w ws = resting Passed tt
+  keyword-deed key.Text w ws = resting Passed tt
+  keyword-deed key.Part w ws = resting Passed tt
+  keyword-deed key.Local w ws = skipping Passed tt passed-idles
+  keyword-deed key.Comment w ws = resting Passed tt
+  keyword-deed key.Unknown w ws = resting (Dropped _) (lit< tt)
 
   pub fields-deed : (ws : List Word) → Deed d s (length (tailOf ws)) (fieldsAsk d s ws)
   unfolding fieldsAsk
   fields-deed [] = resting Blank tt
-  fields-deed (w ∷ ws) = keyword-deed (keywordOf (w .chars)) ws
+  fields-deed (w ∷ ws) = keyword-deed (keywordOf (w .chars)) w ws
 
   pub record-deed : (r : List ℕ) → Deed d s (length (tailOf (fieldsOf r))) (askOf d s r)
   unfolding askOf
   record-deed r =
-      by-test (Deed d s (length (tailOf (fieldsOf r)))) (isOverLong r) (rests (Stopped overLongRecord)) (fieldsAsk d s (fieldsOf r))
-      (λ e. resting (Stopped overLongRecord) (lit< tt))
+      by-test (Deed d s (length (tailOf (fieldsOf r)))) (isOverLong r) (rests (Stopped (blameNone overLongRecord))) (fieldsAsk d s (fieldsOf r))
+      (λ e. resting (Stopped _) (lit< tt))
       (λ e. fields-deed (fieldsOf r))

@@ -20,54 +20,50 @@ use Rattle.value_level.specs.declared.Leveled.the-variants.{NotPercent, NotHex,
 use Rattle.value_level.specs.Level.{levelOf}
 use Rattle.value_level.proofs.Levels.{LevelOk, level-ok}
 use Rattle.load.specs.declared.Entry.{Entry}
-use Rattle.load.specs.declared.Entry.the-variants.{Level, Patch, Fault}
+use Rattle.load.specs.declared.Entry.the-variants.{Level, Patch, Faulty}
 use Rattle.load.specs.declared.Ranged.{Ranged}
 use Rattle.load.specs.declared.Ranged.the-variants.{Within, Wrong}
 use Rattle.load.specs.Condition.{malformedInteger, badHex, badChannel, badDimmer, badPercent}
-use Rattle.load.specs.Item.{rangedOf, dimmerOf, onRanged, onLevel, pairOf, tripleOf, pairsOf, triplesOf, faultsOf}
+use Rattle.load.specs.Item.{blame, rangedOf, dimmerOf, onRanged, onLevel, pairOf, tripleOf, pairsOf, triplesOf, faultsOf}
 use Rattle.load.specs.Fits.{EntryFits, AllFit}
 
 -- ---- a field in its range
-ranged-fits : (P : Entry → Type 0) (limit beyond : ℕ) (i : Integer) (column : ℕ) (f : ℕ → Entry)
-    → P (Fault malformedInteger column) → P (Fault beyond column) → ((n : ℕ) → InLimits 1 n limit → P (f n))
-    → P (onRanged (rangedOf limit beyond i) column f)
+ranged-fits : (P : Entry → Type 0) (limit beyond : ℕ) (w : Word) (i : Integer) (f : ℕ → Entry)
+    → P (Faulty (blame w malformedInteger)) → P (Faulty (blame w beyond)) → ((n : ℕ) → InLimits 1 n limit → P (f n))
+    → P (onRanged w (rangedOf limit beyond i) f)
 unfolding rangedOf onRanged
-ranged-fits P limit beyond Malformed column f bad high good = bad
-ranged-fits P limit beyond (Value n) column f bad high good =
-    by-test (λ (r : Ranged). P (onRanged r column f)) (isWithin 1 n limit) (Within n) (Wrong beyond)
+ranged-fits P limit beyond w Malformed f bad high good = bad
+ranged-fits P limit beyond w (Value n) f bad high good =
+    by-test (λ (r : Ranged). P (onRanged w r f)) (isWithin 1 n limit) (Within n) (Wrong beyond)
     (λ e. good n (within 1 n limit e))
     (λ e. high)
 
-level-fits : (P : Entry → Type 0) (x : Leveled) → LevelOk x → (column : ℕ) (f : ℕ → Entry)
-    → P (Fault badPercent column) → P (Fault badHex column) → ((v : ℕ) → v < 256 → P (f v)) → P (onLevel x column f)
+level-fits : (P : Entry → Type 0) (w : Word) (x : Leveled) → LevelOk x → (f : ℕ → Entry)
+    → P (Faulty (blame w badPercent)) → P (Faulty (blame w badHex)) → ((v : ℕ) → v < 256 → P (f v)) → P (onLevel w x f)
 unfolding onLevel
-level-fits P NotPercent h column f percent hex good = percent
-level-fits P NotHex h column f percent hex good = hex
-level-fits P (IsLevel v) h column f percent hex good = good v h
+level-fits P w NotPercent h f percent hex good = percent
+level-fits P w NotHex h f percent hex good = hex
+level-fits P w (IsLevel v) h f percent hex good = good v h
 
 -- ---- pairs and triples
 module _ (d : Desk) where
   pub pair-fits : (c l : Word) → EntryFits d (pairOf d c l)
   unfolding pairOf
   pair-fits c l =
-      ranged-fits (EntryFits d) (d .channels) badChannel (integerOf (c .chars)) (c .column)
-      (λ n. onLevel (levelOf (l .chars)) (l .column) (λ v. Level n v))
+      ranged-fits (EntryFits d) (d .channels) badChannel c (integerOf (c .chars)) (λ n. onLevel l (levelOf (l .chars)) (λ v. Level n v))
       (lit< tt) (lit< tt)
-      (λ n h.
-      level-fits (EntryFits d) (levelOf (l .chars)) (level-ok (l .chars)) (l .column) (λ v. Level n v) (lit< tt) (lit< tt) (λ v b. (h, b)))
+      (λ n h. level-fits (EntryFits d) l (levelOf (l .chars)) (level-ok (l .chars)) (λ v. Level n v) (lit< tt) (lit< tt) (λ v b. (h, b)))
 
   pub triple-fits : (c m l : Word) → EntryFits d (tripleOf d c m l)
   unfolding tripleOf
   triple-fits c m l =
-      ranged-fits (EntryFits d) (d .channels) badChannel (integerOf (c .chars)) (c .column)
-      (λ n. onRanged (dimmerOf d m) (m .column) (λ k. onLevel (levelOf (l .chars)) (l .column) (λ v. Patch n k v)))
+      ranged-fits (EntryFits d) (d .channels) badChannel c (integerOf (c .chars))
+      (λ n. onRanged m (dimmerOf d m) (λ k. onLevel l (levelOf (l .chars)) (λ v. Patch n k v)))
       (lit< tt) (lit< tt)
       (λ n h.
-      ranged-fits (EntryFits d) (d .dimmers) badDimmer (integerOf (m .chars)) (m .column)
-      (λ k. onLevel (levelOf (l .chars)) (l .column) (λ v. Patch n k v))
+      ranged-fits (EntryFits d) (d .dimmers) badDimmer m (integerOf (m .chars)) (λ k. onLevel l (levelOf (l .chars)) (λ v. Patch n k v))
       (lit< tt) (lit< tt)
-      (λ k g.
-      level-fits (EntryFits d) (levelOf (l .chars)) (level-ok (l .chars)) (l .column) (λ v. Patch n k v) (lit< tt) (lit< tt) (λ v b. (h, g, b))))
+      (λ k g. level-fits (EntryFits d) l (levelOf (l .chars)) (level-ok (l .chars)) (λ v. Patch n k v) (lit< tt) (lit< tt) (λ v b. (h, g, b))))
 
   pub pairs-fit : (ws : List Word) → AllFit d (pairsOf d ws)
   unfolding pairsOf
@@ -102,4 +98,4 @@ unfolding faultsOf
 faults-few [] = omega arith
 faults-few (Level n v ∷ es) = let h = faults-few es in omega arith
 faults-few (Patch n k v ∷ es) = let h = faults-few es in omega arith
-faults-few (Fault condition column ∷ es) = let h = faults-few es in omega arith
+faults-few (Faulty f ∷ es) = let h = faults-few es in omega arith

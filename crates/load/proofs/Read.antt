@@ -43,44 +43,45 @@ use Rattle.load.specs.declared.Named.the-variants.{Refused, Name as Acce
 use Rattle.load.specs.declared.Reading.{Reading}
 use Rattle.load.specs.declared.Reading.the-variants.{Wrong as Misread, Change}
 use Rattle.load.specs.Condition.{badSub}
+use Rattle.load.specs.Item.{blame}
 use Rattle.load.specs.Ask.{name, numberedBy, subBy, numeralOf, pageAt, namedBy, namedOf, augments, onTime, delayOf, fadeOf, linkBy, timesOf}
 use Rattle.load.specs.Run.{conditionSpan}
 use Rattle.load.proofs.Ranges.{NumberOk, number-ok, TimeOk, time-ok}
 
 -- ---- a memory's number, on whatever page
 abbrev pub NumeralOk : Desk → Kind → Numeral → Type 0
-NumeralOk d k (Wrong c) = c < conditionSpan
+NumeralOk d k (Wrong f) = f .condition < conditionSpan
 NumeralOk d k (Number w f) = (p : ℕ) → okWithin d k (record { page = p; whole = w; fraction = f }) ≡ true
 
-cue-ok : (d : Desk) (x : Numbered) → NumberOk x → NumeralOk d Cue (numberedBy x)
+cue-ok : (d : Desk) (w : Word) (x : Numbered) → NumberOk x → NumeralOk d Cue (numberedBy w x)
 unfolding numberedBy okWithin
-cue-ok d BadNumber h = lit< tt
-cue-ok d TooLarge h = lit< tt
-cue-ok d (IsNumber n) h = λ p. h
+cue-ok d w BadNumber h = lit< tt
+cue-ok d w TooLarge h = lit< tt
+cue-ok d w (IsNumber n) h = λ p. h
 
-group-ok : (d : Desk) (x : Numbered) → NumberOk x → NumeralOk d Group (numberedBy x)
+group-ok : (d : Desk) (w : Word) (x : Numbered) → NumberOk x → NumeralOk d Group (numberedBy w x)
 unfolding numberedBy okWithin
-group-ok d BadNumber h = lit< tt
-group-ok d TooLarge h = lit< tt
-group-ok d (IsNumber n) h = λ p. h
+group-ok d w BadNumber h = lit< tt
+group-ok d w TooLarge h = lit< tt
+group-ok d w (IsNumber n) h = λ p. h
 
 pub sub-within : (d : Desk) (n : ℕ) → Within 1 n (d .subs) → okSub d n 0 ≡ true
 unfolding okSub
 sub-within d n h = all-more _ _ (within-true 1 n (d .subs) h) (all-more _ _ refl all-none)
 
-sub-ok : (d : Desk) (i : Integer) → NumeralOk d Sub (subBy d i)
+sub-ok : (d : Desk) (w : Word) (i : Integer) → NumeralOk d Sub (subBy d w i)
 unfolding subBy okWithin
-sub-ok d Malformed = lit< tt
-sub-ok d (Value n) =
-    by-test (NumeralOk d Sub) (isWithin 1 n (d .subs)) (Number n 0) (Wrong badSub)
+sub-ok d w Malformed = lit< tt
+sub-ok d w (Value n) =
+    by-test (NumeralOk d Sub) (isWithin 1 n (d .subs)) (Number n 0) (Wrong (blame w badSub))
     (λ e p. sub-within d n (within 1 n (d .subs) e))
     (λ e. lit< tt)
 
 pub numeral-ok : (d : Desk) (k : Kind) (w : Word) → NumeralOk d k (numeralOf d k w)
 unfolding numeralOf
-numeral-ok d Cue w = cue-ok d (numberOf (w .chars)) (number-ok (w .chars))
-numeral-ok d Group w = group-ok d (numberOf (w .chars)) (number-ok (w .chars))
-numeral-ok d Sub w = sub-ok d (integerOf (w .chars))
+numeral-ok d Cue w = cue-ok d w (numberOf (w .chars)) (number-ok (w .chars))
+numeral-ok d Group w = group-ok d w (numberOf (w .chars)) (number-ok (w .chars))
+numeral-ok d Sub w = sub-ok d w (integerOf (w .chars))
 
 -- ---- a page: 1 to the limit, or the other one
 abbrev pub PageIn : ℕ → ℕ → Paged → Type 0
@@ -112,7 +113,7 @@ page-at-in lo other limit l h (w ∷ ws) = page-in lo limit l (w .chars)
 
 -- ---- a desk that supports the kind can have a memory of the name
 abbrev pub NamedOk : Desk → Kind → Named → Type 0
-NamedOk d k (Refused c) = c < conditionSpan
+NamedOk d k (Refused f) = f .condition < conditionSpan
 NamedOk d k (Accepted key) = InRange d → okName d (name k key) ≡ true
 
 first-page : (d : Desk) → InRange d → (k : Kind) → Within 1 1 (pagesOf d k)
@@ -122,17 +123,17 @@ first-page d h Group = let l = h .groupPages .0 in omega arith
 first-page d h Sub = let l = h .subPages .0 in omega arith
 
 named-by-ok : (d : Desk) (k : Kind) → supported d k ≡ true
-    → (n : Numeral) (p : Paged) → NumeralOk d k n → (InRange d → PageIn 1 (pagesOf d k) p) → NamedOk d k (namedBy n p)
+    → (n : Numeral) (w : Word) (p : Paged) → NumeralOk d k n → (InRange d → PageIn 1 (pagesOf d k) p) → NamedOk d k (namedBy n w p)
 unfolding namedBy okName okPage
-named-by-ok d k s (Wrong c) p h g = h
-named-by-ok d k s (Number w f) Bad h g = lit< tt
-named-by-ok d k s (Number w f) (IsPage p) h g =
+named-by-ok d k s (Wrong f) w p h g = h
+named-by-ok d k s (Number n f) w Bad h g = lit< tt
+named-by-ok d k s (Number n f) w (IsPage p) h g =
     λ r. all-more _ _ s (all-more _ _ (h p) (all-more _ _ (within-true 1 p (pagesOf d k) (g r)) all-none))
 
 pub named-ok : (d : Desk) (k : Kind) → supported d k ≡ true → (ws : List Word) → NamedOk d k (namedOf d k ws)
 unfolding namedOf
 named-ok d k s ws =
-    named-by-ok d k s (numeralOf d k (headOf ws)) (pageAt 1 (pagesOf d k) (tailOf ws)) (numeral-ok d k (headOf ws))
+    named-by-ok d k s (numeralOf d k (headOf ws)) (headOf (tailOf ws)) (pageAt 1 (pagesOf d k) (tailOf ws)) (numeral-ok d k (headOf ws))
     (λ r. page-at-in 1 1 (pagesOf d k) (omega arith) (first-page d r k) (tailOf ws))
 
 pub accepted-ok : (d : Desk) (k : Kind) → InRange d → supported d k ≡ true → (ws : List Word) {key : Key}
@@ -151,7 +152,7 @@ abbrev pub ChangeOk : Kind → Edit → Type 0
 ChangeOk k e = (canHave k e ≡ true) × InTime e × NoLevel e
 
 abbrev pub ReadingOk : Kind → Reading → Type 0
-ReadingOk k (Misread c) = c < conditionSpan
+ReadingOk k (Misread f) = f .condition < conditionSpan
 ReadingOk k (Change e) = ChangeOk k e
 
 abbrev EditOk : Kind → (ℕ → ℕ → Edit) → Type 0
@@ -162,32 +163,33 @@ unfolding delayOf
 delay-ok [] = let z : 0 ≤ timeMax = omega arith in z
 delay-ok (w ∷ ws) = time-ok (w .chars)
 
-fade-by : (k : Kind) (f : ℕ → ℕ → Edit) → EditOk k f → (a b : Timed) → TimeOk a → TimeOk b
-    → ReadingOk k (onTime a (λ fade. onTime b (λ delay. Change (f fade delay))))
+fade-by : (k : Kind) (f : ℕ → ℕ → Edit) → EditOk k f → (v w : Word) (a b : Timed) → TimeOk a → TimeOk b
+    → ReadingOk k (onTime v a (λ fade. onTime w b (λ delay. Change (f fade delay))))
 unfolding onTime
-fade-by k f h BadTime b x y = lit< tt
-fade-by k f h (IsTime a) BadTime x y = lit< tt
-fade-by k f h (IsTime a) (IsTime b) x y = h a b x y
+fade-by k f h v w BadTime b x y = lit< tt
+fade-by k f h v w (IsTime a) BadTime x y = lit< tt
+fade-by k f h v w (IsTime a) (IsTime b) x y = h a b x y
 
 fade-ok : (k : Kind) (f : ℕ → ℕ → Edit) → EditOk k f → (ws : List Word) → ReadingOk k (fadeOf f ws)
 unfolding fadeOf
-fade-ok k f h ws = fade-by k f h (timeOf (headOf ws .chars)) (delayOf (tailOf ws)) (time-ok (headOf ws .chars)) (delay-ok (tailOf ws))
+fade-ok k f h ws =
+    fade-by k f h (headOf ws) (headOf (tailOf ws)) (timeOf (headOf ws .chars)) (delayOf (tailOf ws)) (time-ok (headOf ws .chars)) (delay-ok (tailOf ws))
 
-time-by : (k : Kind) → hasLink k ≡ true → (a : Timed) → TimeOk a → ReadingOk k (onTime a (λ t. Change (SetFollowon t)))
+time-by : (k : Kind) → hasLink k ≡ true → (w : Word) (a : Timed) → TimeOk a → ReadingOk k (onTime w a (λ t. Change (SetFollowon t)))
 unfolding onTime canHave
-time-by k h BadTime x = lit< tt
-time-by k h (IsTime a) x = (h, x, tt)
+time-by k h w BadTime x = lit< tt
+time-by k h w (IsTime a) x = (h, x, tt)
 
-link-by : (k : Kind) → hasLink k ≡ true → (x : Numbered) → NumberOk x → ReadingOk k (linkBy (numberedBy x))
+link-by : (k : Kind) → hasLink k ≡ true → (w : Word) (x : Numbered) → NumberOk x → ReadingOk k (linkBy (numberedBy w x))
 unfolding linkBy numberedBy canHave
-link-by k h BadNumber x = lit< tt
-link-by k h TooLarge x = lit< tt
-link-by k h (IsNumber n) x = (h, x, tt)
+link-by k h w BadNumber x = lit< tt
+link-by k h w TooLarge x = lit< tt
+link-by k h w (IsNumber n) x = (h, x, tt)
 
 pub reading-ok : (k : Kind) (e : Secondary) → augments k e ≡ true → (ws : List Word) → ReadingOk k (timesOf e ws)
 unfolding augments timesOf canHave
 reading-ok k Chan h ws = lit< tt
 reading-ok k Up h ws = fade-ok k (λ fade delay. SetUp fade delay) (λ a b x y. (h, (x, y), tt)) ws
 reading-ok k Down h ws = fade-ok k (λ fade delay. SetDown fade delay) (λ a b x y. (h, (x, y), tt)) ws
-reading-ok k Followon h ws = time-by k h (timeOf (headOf ws .chars)) (time-ok (headOf ws .chars))
-reading-ok k Link h ws = link-by k h (numberOf (headOf ws .chars)) (number-ok (headOf ws .chars))
+reading-ok k Followon h ws = time-by k h (headOf ws) (timeOf (headOf ws .chars)) (time-ok (headOf ws .chars))
+reading-ok k Link h ws = link-by k h (headOf ws) (numberOf (headOf ws .chars)) (number-ok (headOf ws .chars))

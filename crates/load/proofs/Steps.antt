@@ -1,5 +1,6 @@
 -- What every step keeps to, by the seven cases of what a record asks for: a record that is not obeyed changes no byte of the store; good
--- form is kept; its reports, one for the record or one for each item that is dropped, are no more than its fields, and fit their bits.
+-- form is kept; a fault has two fields, so that a record with no items has none; its reports, one for the record or one for each item that is
+-- dropped, are no more than its fields, and fit their bits.
 -- Assumes nothing.
 use mathlib.Core.Path.{_≡_, refl}
 use mathlib.Core.Bool.{true}
@@ -7,7 +8,7 @@ use mathlib.Core.List.{List, [], _∷_, _++_}
 use Prim.Native.Nat.{ℕ, suc, _+_, _*_, _≤_, _<_}
 use native.Mathlib.Omega.{arith}
 use lib.Dec.{ltb}
-use lib.ListN.{length}
+use lib.ListN.{length, length-map}
 use Rattle.cells.specs.Search.{Found, at, nowhere}
 use Rattle.cells.proofs.Split.{by-test}
 use Rattle.store_desk.specs.declared.Desk.{Desk}
@@ -15,6 +16,7 @@ use Rattle.store_desk.specs.declared.Key.{Key}
 use Rattle.store_desk.specs.declared.Kind.{Kind}
 use Rattle.store_desk.specs.Size.{Within}
 use Rattle.store_desk.specs.Name.{Name, okName}
+use Rattle.text_fields.specs.declared.Item.{Item}
 use Rattle.text_fields.specs.Words.{Word, fieldsOf, tailOf}
 use Rattle.store.specs.declared.Edit.the-variants.{Level as SetLevel}
 use Rattle.store.specs.Change.{seat, edited, cleared, clearedPatch}
@@ -24,19 +26,21 @@ use Rattle.store.proofs.Start.{start-good}
 use Rattle.store.proofs.Edits.{edit-good}
 use Rattle.store.proofs.Clear.{clear-good}
 use Rattle.store.proofs.Patches.{patch-good, clear-patch-good}
+use Rattle.load.specs.declared.Fault.{Fault}
 use Rattle.load.specs.declared.Entry.{Entry}
-use Rattle.load.specs.declared.Entry.the-variants.{Level, Patch, Fault}
+use Rattle.load.specs.declared.Entry.the-variants.{Level, Patch, Faulty}
 use Rattle.load.specs.declared.State.{State}
 use Rattle.load.specs.declared.Outcome.{Outcome}
 use Rattle.load.specs.declared.Outcome.the-variants.{Blank, Passed, Obeyed, Dropped, Stopped}
 use Rattle.load.specs.Condition.{fullOf}
-use Rattle.load.specs.Item.{faultsOf, memory, page, done, allDone}
-use Rattle.load.specs.Ask.{Wipe, table, dimmers, Ask, name, fieldsAsk}
-use Rattle.load.specs.Step.{Step, wiped, openedBy, acted, stepOf, recordStep, outcomeReports}
+use Rattle.load.specs.Item.{blameNone, faultsOf, memory, page, done, allDone}
+use Rattle.load.specs.Ask.{Wipe, table, dimmers, Ask, name, primaryAsk, itemAsk, fieldsAsk}
+use Rattle.load.specs.Step.{Step, wiped, openedBy, acted, stepOf, recordStep, outcomeReports, faultReports}
 use Rattle.load.specs.Fits.{AllFit, Small}
 use Rattle.load.specs.Run.{conditionSpan}
 use Rattle.load.proofs.Entries.{faults-few}
-use Rattle.load.proofs.Deed.{OutcomeFits, WipesFit, Deed, resting, skipping, opening, editing, setting, patching, clearing, full-fits, fields-deed, record-deed}
+use Rattle.load.proofs.Deed.{OutcomeFits, WipesFit, Deed, resting, skipping, opening, editing, setting, patching, clearing, full-fits}
+use Rattle.load.proofs.Deed.{primary-deed, item-deed, fields-deed, record-deed}
 
 -- ---- not obeyed, not touched
 module _ (d : Desk) (s : State) (n : ℕ) (t : List ℕ) where
@@ -71,7 +75,7 @@ unfolding allDone done
 memory-ready d n [] t r = r
 memory-ready d n (Level channel v ∷ es) t r = memory-ready d n es (edited d t n (SetLevel channel v)) (level-ready d t r n channel v)
 memory-ready d n (Patch channel dimmer v ∷ es) t r = memory-ready d n es t r
-memory-ready d n (Fault c x ∷ es) t r = memory-ready d n es t r
+memory-ready d n (Faulty x ∷ es) t r = memory-ready d n es t r
 
 page-ready : (d : Desk) (p : ℕ) → Within 1 p (d .«patch_pages») → (es : List Entry) → AllFit d es → (t : List ℕ) → Ready d t
     → Ready d (allDone d (page p) t es)
@@ -80,7 +84,7 @@ page-ready d p w [] f t r = r
 page-ready d p w (Level channel v ∷ es) f t r = page-ready d p w es (f .1) t r
 page-ready d p w (Patch channel dimmer v ∷ es) f t r =
     page-ready d p w es (f .1) _ (patch-good d t (r .long) (r .range) p dimmer channel v w (f .0 .1) (f .0 .0) (f .0 .2) r)
-page-ready d p w (Fault c x ∷ es) f t r = page-ready d p w es (f .1) t r
+page-ready d p w (Faulty x ∷ es) f t r = page-ready d p w es (f .1) t r
 
 wiped-ready : (d : Desk) (xs : List Wipe) → WipesFit d xs → (t : List ℕ) → Ready d t → Ready d (wiped d xs t)
 unfolding wiped
@@ -108,21 +112,68 @@ pub record-ready : (d : Desk) (t : List ℕ) → Ready d t → (s : State) (x : 
 unfolding recordStep
 record-ready d t r s x = deed-ready d s (length (tailOf (fieldsOf x))) t r (record-deed d s x)
 
+-- ---- a fault has two fields, but for the last
+module _ (d : Desk) (s : State) (n : ℕ) (t : List ℕ) where
+  abbrev Few : Step → Type 0
+  Few x = 2 * length (x .faults) ≤ n + 1
+
+  opened-few : (k : Kind) (y : Key) (a : Found) → Few (openedBy d k y a t)
+  unfolding openedBy
+  opened-few k y (at i) = omega arith
+  opened-few k y nowhere = omega arith
+
+  items-few : (es : List Entry) → 2 * length es ≤ n + 1 → 2 * length (faultsOf es) ≤ n + 1
+  items-few es l = let h = faults-few es in omega arith
+
+  pub deed-few : {a : Ask} → Deed d s n a → Few (acted d s t a)
+  unfolding acted
+  deed-few (resting o f) = omega arith
+  deed-few (skipping o f i) = omega arith
+  deed-few (opening k y o) = opened-few k y (seat d t (name k y))
+  deed-few (editing k o e c) = omega arith
+  deed-few (setting k o es f l) = items-few es l
+  deed-few (patching p w es f l) = items-few es l
+  deed-few (clearing xs f) = omega arith
+
+pub step-few : (d : Desk) (s : State) (ws : List Word) (t : List ℕ) → 2 * length (stepOf d s ws t .faults) ≤ length ws
+unfolding fieldsAsk acted
+step-few d s [] t = omega arith
+step-few d s (w ∷ ws) t =
+    let h : 2 * length (stepOf d s (w ∷ ws) t .faults) ≤ length ws + 1 = deed-few d s (length ws) t (fields-deed d s (w ∷ ws)) in
+    let g : 2 * length (stepOf d s (w ∷ ws) t .faults) ≤ suc (length ws) = omega arith in
+    g
+
+-- where no field behind the keyword counts there are no items, and so no faults: a primary, and CLEAR
+faultless : (fs : List Fault) → 2 * length fs ≤ 1 → fs ≡ []
+faultless [] h = refl
+faultless (f ∷ fs) h = absurd (omega arith)
+
+module _ (d : Desk) (s : State) (t : List ℕ) where
+  pub primary-faults : (k : Kind) (w : Word) (ws : List Word) → acted d s t (primaryAsk d k w ws) .faults ≡ []
+  primary-faults k w ws = faultless _ (deed-few d s 0 t (primary-deed d s 0 k w ws))
+
+  pub item-faults : (i : Item) (w : Word) (ws : List Word) → acted d s t (itemAsk d i w ws) .faults ≡ []
+  item-faults i w ws = faultless _ (deed-few d s 0 t (item-deed d s 0 i w ws))
+
 -- ---- what is reported of a step
 abbrev pub saidBy : Step → List ℕ
-saidBy x = outcomeReports (x .outcome) ++ x .faults
+saidBy x = outcomeReports (x .outcome) ++ faultReports (x .faults)
 
 -- conditions that are small, and at most so many
 pub record Modest (n : ℕ) (cs : List ℕ) : Type 0 where
   pub few : length cs ≤ n
   pub small : Small cs
 
-faults-small : (d : Desk) (es : List Entry) → AllFit d es → Small (faultsOf es)
-unfolding faultsOf Small
+reports-length : (fs : List Fault) → length (faultReports fs) ≡ length fs
+unfolding faultReports
+reports-length fs = length-map fs (λ (f : Fault). f .condition)
+
+faults-small : (d : Desk) (es : List Entry) → AllFit d es → Small (faultReports (faultsOf es))
+unfolding faultsOf faultReports Small
 faults-small d [] f = tt
 faults-small d (Level n v ∷ es) f = faults-small d es (f .1)
 faults-small d (Patch n k v ∷ es) f = faults-small d es (f .1)
-faults-small d (Fault c x ∷ es) f = (f .0, faults-small d es (f .1))
+faults-small d (Faulty x ∷ es) f = (f .0, faults-small d es (f .1))
 
 module _ (d : Desk) (s : State) (n : ℕ) (t : List ℕ) where
   none-said : (m : ℕ) → Modest m []
@@ -133,22 +184,27 @@ module _ (d : Desk) (s : State) (n : ℕ) (t : List ℕ) where
   unfolding Small
   one-said c h = record { few = omega arith; small = (h, tt) }
 
-  outcome-said : (o : Outcome) → OutcomeFits o → Modest (suc n) (outcomeReports o ++ [])
-  unfolding outcomeReports
+  outcome-said : (o : Outcome) → OutcomeFits o → Modest (suc n) (outcomeReports o ++ faultReports [])
+  unfolding outcomeReports faultReports
   outcome-said Blank f = none-said (suc n)
   outcome-said Passed f = none-said (suc n)
-  outcome-said (Dropped c) f = one-said c f
+  outcome-said (Dropped x) f = one-said (x .condition) f
   outcome-said Obeyed f = none-said (suc n)
-  outcome-said (Stopped c) f = by-test (λ (l : List ℕ). Modest (suc n) (l ++ [])) (ltb 0 c) (c ∷ []) [] (λ e. one-said c f) (λ e. none-said (suc n))
+  outcome-said (Stopped x) f =
+      let c : ℕ = x .condition in
+      by-test (λ (l : List ℕ). Modest (suc n) (l ++ [])) (ltb 0 c) (c ∷ []) [] (λ e. one-said c f) (λ e. none-said (suc n))
 
-  items-said : (es : List Entry) → AllFit d es → 2 * length es ≤ n + 1 → Modest (suc n) (outcomeReports Obeyed ++ faultsOf es)
+  items-said : (es : List Entry) → AllFit d es → 2 * length es ≤ n + 1 → Modest (suc n) (outcomeReports Obeyed ++ faultReports (faultsOf es))
   unfolding outcomeReports
-  items-said es f l = let h = faults-few es in record { few = omega arith; small = faults-small d es f }
+  items-said es f l =
+      let h = faults-few es in
+      let m : length (faultReports (faultsOf es)) ≡ length (faultsOf es) = reports-length (faultsOf es) in
+      record { few = omega arith; small = faults-small d es f }
 
   opened-said : (k : Kind) (y : Key) (a : Found) → Modest (suc n) (saidBy (openedBy d k y a t))
   unfolding openedBy
   opened-said k y (at i) = outcome-said Obeyed tt
-  opened-said k y nowhere = outcome-said (Dropped (fullOf k)) (full-fits k)
+  opened-said k y nowhere = outcome-said (Dropped (blameNone (fullOf k))) (full-fits k)
 
   deed-said : {a : Ask} → Deed d s n a → Modest (suc n) (saidBy (acted d s t a))
   unfolding acted
@@ -160,8 +216,22 @@ module _ (d : Desk) (s : State) (n : ℕ) (t : List ℕ) where
   deed-said (patching p w es f l) = items-said es f l
   deed-said (clearing xs f) = outcome-said Obeyed tt
 
+-- the faults among them
+pub small-behind : (cs bs : List ℕ) → Small (cs ++ bs) → Small bs
+unfolding Small
+small-behind [] bs h = h
+small-behind (c ∷ cs) bs h = small-behind cs bs (h .1)
+
+deed-small : (d : Desk) (s : State) (n : ℕ) (t : List ℕ) {a : Ask} → Deed d s n a → Small (faultReports (acted d s t a .faults))
+deed-small d s n t {a} x =
+    let y : Step = acted d s t a in
+    small-behind (outcomeReports (y .outcome)) (faultReports (y .faults)) (deed-said d s n t x .small)
+
+pub step-small : (d : Desk) (s : State) (ws : List Word) (t : List ℕ) → Small (faultReports (stepOf d s ws t .faults))
+step-small d s ws t = deed-small d s (length (tailOf ws)) t (fields-deed d s ws)
+
 -- a record with no field has none
 pub step-said : (d : Desk) (s : State) (ws : List Word) (t : List ℕ) → Modest (length ws) (saidBy (stepOf d s ws t))
-unfolding fieldsAsk acted outcomeReports
+unfolding fieldsAsk acted outcomeReports faultReports
 step-said d s [] t = none-said d s 0 t 0
 step-said d s (w ∷ ws) t = deed-said d s (length ws) t (fields-deed d s (w ∷ ws))

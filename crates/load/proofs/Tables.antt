@@ -11,7 +11,7 @@ use Rattle.cells.proofs.Split.{by-bool, by-le, cond-true, cond-false}
 use Rattle.store_desk.specs.declared.Desk.{Desk}
 use Rattle.store_desk.specs.declared.Kind.{Kind}
 use Rattle.store_desk.specs.declared.Kind.the-variants.{Cue, Group, Sub}
-use Rattle.text_fields.specs.Words.{Word}
+use Rattle.text_fields.specs.Words.{Word, missing, headOf}
 use Rattle.value.specs.declared.Integer.{Integer}
 use Rattle.value.specs.declared.Integer.the-variants.{Malformed, Value}
 use Rattle.value.specs.Integer.{cap, integerOf, AtMost}
@@ -59,9 +59,9 @@ wipes-none d p h =
     let q = patch-most d in
     rw (dimmers-lack d p (omega arith), kind-lacks d p Cue (omega arith), kind-lacks d p Group (omega arith), kind-lacks d p Sub (omega arith)) refl
 
-wipes-some : (d : Desk) (p : ℕ) → p ≤ highestPage d → wipesAsk (allWipes d p) ≡ clears (allWipes d p)
+wipes-some : (d : Desk) (w : Word) (p : ℕ) → p ≤ highestPage d → wipesAsk w (allWipes d p) ≡ clears (allWipes d p)
 unfolding allWipes wipesAsk highestPage
-wipes-some d p h =
+wipes-some d w p h =
     by-le p (d .«patch_pages»)
     (λ a. rw (dimmers-have d p a) refl)
     (λ a.
@@ -76,19 +76,20 @@ wipes-some d p h =
     (λ e. absurd (omega arith)))))
 
 -- ---- so that CLEAR ALL's page is one up to the highest
-paged-ask : (d : Desk) (i : Integer) → AtMost cap i → tablesAsk d (pagedOf cap i) ≡ pagedAsk (pagedOf (highestPage d) i) (allWipes d)
+paged-ask : (d : Desk) (w : Word) (i : Integer) → AtMost cap i
+    → tablesAsk d w (pagedOf cap i) ≡ pagedAsk w (pagedOf (highestPage d) i) (allWipes d)
 unfolding pagedOf tablesAsk pagedAsk
-paged-ask d Malformed h = refl
-paged-ask d (Value v) h =
+paged-ask d w Malformed h = refl
+paged-ask d w (Value v) h =
     by-bool (eqb v 0)
     (λ e. rw e refl)
     (λ e.
     rw (e, le-ltb cap v h)
     (by-bool (ltb (highestPage d) v)
-    (λ f. rw f (ap wipesAsk (wipes-none d v (ltb-true (highestPage d) v f)) ∙ unfold wipesAsk in refl))
-    (λ f. rw f (wipes-some d v (ltb-false (highestPage d) v f)))))
+    (λ f. rw f (ap (wipesAsk w) (wipes-none d v (ltb-true (highestPage d) v f)) ∙ unfold wipesAsk in refl))
+    (λ f. rw f (wipes-some d w v (ltb-false (highestPage d) v f)))))
 
-pub all-ask : (d : Desk) (ws : List Word) → allAsk d ws ≡ pagedAsk (pageAt everyPage (highestPage d) ws) (allWipes d)
+pub all-ask : (d : Desk) (ws : List Word) → allAsk d ws ≡ pagedAsk (headOf ws) (pageAt everyPage (highestPage d) ws) (allWipes d)
 unfolding allAsk pageAt pageOf tablesAsk pagedAsk
-all-ask d [] = wipes-some d everyPage (let h : everyPage ≤ highestPage d = omega arith in h)
-all-ask d (w ∷ ws) = paged-ask d (integerOf (w .chars)) (integer-capped (w .chars))
+all-ask d [] = wipes-some d missing everyPage (let h : everyPage ≤ highestPage d = omega arith in h)
+all-ask d (w ∷ ws) = paged-ask d w (integerOf (w .chars)) (integer-capped (w .chars))

@@ -39,7 +39,7 @@ use Rattle.store.specs.declared.Edit.the-variants.{Up as SetUp, Down as SetDown
 use Rattle.store.specs.Change.{everyPage}
 use Rattle.store.specs.Form.{hasTimes, hasLink}
 use Rattle.load.specs.declared.Entry.{Entry}
-use Rattle.load.specs.Item.{pairsOf, triplesOf, Target, memory, page}
+use Rattle.load.specs.Item.{blame, blameNone, pairsOf, triplesOf, Target, memory, page}
 use Rattle.load.specs.declared.Open.{Open}
 use Rattle.load.specs.declared.Open.the-variants.{Nothing, Skipping, Memory}
 use Rattle.load.specs.declared.State.{State}
@@ -84,41 +84,41 @@ pub data Ask : Type 0 where
 -- ---- primaries: support, then number, page; room is the store's to tell
 
 -- §7.4
-unfoldable pub numberedBy : Numbered → Numeral
-numberedBy BadNumber = Wrong badNumber
-numberedBy TooLarge = Wrong numberTooLarge
-numberedBy (IsNumber n) = Number (n .whole) (n .fraction)
+unfoldable pub numberedBy : Word → Numbered → Numeral
+numberedBy w BadNumber = Wrong (blame w badNumber)
+numberedBy w TooLarge = Wrong (blame w numberTooLarge)
+numberedBy w (IsNumber n) = Number (n .whole) (n .fraction)
 
 -- §9.3: a submaster is 1 to the highest
-unfoldable pub subBy : Desk → Integer → Numeral
-subBy d Malformed = Wrong malformedSub
-subBy d (Value n) = cond (isWithin 1 n (d .subs)) (Number n 0) (Wrong badSub)
+unfoldable pub subBy : Desk → Word → Integer → Numeral
+subBy d w Malformed = Wrong (blame w malformedSub)
+subBy d w (Value n) = cond (isWithin 1 n (d .subs)) (Number n 0) (Wrong (blame w badSub))
 
 unfoldable pub numeralOf : Desk → Kind → Word → Numeral
-numeralOf d Cue w = numberedBy (numberOf (w .chars))
-numeralOf d Group w = numberedBy (numberOf (w .chars))
-numeralOf d Sub w = subBy d (integerOf (w .chars))
+numeralOf d Cue w = numberedBy w (numberOf (w .chars))
+numeralOf d Group w = numberedBy w (numberOf (w .chars))
+numeralOf d Sub w = subBy d w (integerOf (w .chars))
 
 -- the page of the next field, or another where there is none
 unfoldable pub pageAt : ℕ → ℕ → List Word → Paged
 pageAt other limit [] = IsPage other
 pageAt other limit (w ∷ ws) = pageOf limit (w .chars)
 
-unfoldable pub namedBy : Numeral → Paged → Named
-namedBy (Wrong c) p = Refused c
-namedBy (Number whole fraction) Bad = Refused badPage
-namedBy (Number whole fraction) (IsPage p) = Accepted (record { page = p; whole = whole; fraction = fraction })
+unfoldable pub namedBy : Numeral → Word → Paged → Named
+namedBy (Wrong f) w p = Refused f
+namedBy (Number whole fraction) w Bad = Refused (blame w badPage)
+namedBy (Number whole fraction) w (IsPage p) = Accepted (record { page = p; whole = whole; fraction = fraction })
 
 unfoldable pub namedOf : Desk → Kind → List Word → Named
-namedOf d k ws = namedBy (numeralOf d k (headOf ws)) (pageAt 1 (pagesOf d k) (tailOf ws))
+namedOf d k ws = namedBy (numeralOf d k (headOf ws)) (headOf (tailOf ws)) (pageAt 1 (pagesOf d k) (tailOf ws))
 
 unfoldable pub namedAsk : Kind → Named → Ask
-namedAsk k (Refused c) = skips (Dropped c)
+namedAsk k (Refused f) = skips (Dropped f)
 namedAsk k (Accepted key) = opens k key
 
--- a refused primary starts skipping
-unfoldable pub primaryAsk : Desk → Kind → List Word → Ask
-primaryAsk d k ws = cond (supported d k) (namedAsk k (namedOf d k ws)) (skips (Dropped (unsupportedOf k)))
+-- a refused primary starts skipping; what the desk has none of is blamed on the keyword
+unfoldable pub primaryAsk : Desk → Kind → Word → List Word → Ask
+primaryAsk d k w ws = cond (supported d k) (namedAsk k (namedOf d k ws)) (skips (Dropped (blame w (unsupportedOf k))))
 
 -- ---- secondaries
 
@@ -130,9 +130,9 @@ augments k Down = hasTimes k
 augments k Followon = hasLink k
 augments k Link = hasLink k
 
-unfoldable pub onTime : Timed → (ℕ → Reading) → Reading
-onTime BadTime f = Misread badTime
-onTime (IsTime t) f = f t
+unfoldable pub onTime : Word → Timed → (ℕ → Reading) → Reading
+onTime w BadTime f = Misread (blame w badTime)
+onTime w (IsTime t) f = f t
 
 -- the optional delay, else 0
 unfoldable pub delayOf : List Word → Timed
@@ -141,22 +141,24 @@ delayOf (w ∷ ws) = timeOf (w .chars)
 
 -- UP, DOWN: fade, optional delay
 unfoldable pub fadeOf : (ℕ → ℕ → Edit) → List Word → Reading
-fadeOf f ws = onTime (timeOf (headOf ws .chars)) (λ fade. onTime (delayOf (tailOf ws)) (λ delay. Change (f fade delay)))
+fadeOf f ws =
+    onTime (headOf ws) (timeOf (headOf ws .chars))
+    (λ fade. onTime (headOf (tailOf ws)) (delayOf (tailOf ws)) (λ delay. Change (f fade delay)))
 
 unfoldable pub linkBy : Numeral → Reading
-linkBy (Wrong c) = Misread c
+linkBy (Wrong f) = Misread f
 linkBy (Number whole fraction) = Change (SetLink whole fraction)
 
 -- UP, DOWN, FOLLOWON, LINK: the change that the fields ask for. CHAN asks for items, and never comes here
 unfoldable pub timesOf : Secondary → List Word → Reading
-timesOf Chan ws = Misread 0
+timesOf Chan ws = Misread (blameNone 0)
 timesOf Up ws = fadeOf (λ fade delay. SetUp fade delay) ws
 timesOf Down ws = fadeOf (λ fade delay. SetDown fade delay) ws
-timesOf Followon ws = onTime (timeOf (headOf ws .chars)) (λ t. Change (SetFollowon t))
-timesOf Link ws = linkBy (numberedBy (numberOf (headOf ws .chars)))
+timesOf Followon ws = onTime (headOf ws) (timeOf (headOf ws .chars)) (λ t. Change (SetFollowon t))
+timesOf Link ws = linkBy (numberedBy (headOf ws) (numberOf (headOf ws .chars)))
 
 unfoldable pub changeAsk : Name → Reading → Ask
-changeAsk n (Misread c) = rests (Dropped c)
+changeAsk n (Misread f) = rests (Dropped f)
 changeAsk n (Change e) = edits n e
 
 unfoldable pub obeyedAsk : Desk → Name → Secondary → List Word → Ask
@@ -166,26 +168,27 @@ obeyedAsk d n Down ws = changeAsk n (timesOf Down ws)
 obeyedAsk d n Followon ws = changeAsk n (timesOf Followon ws)
 obeyedAsk d n Link ws = changeAsk n (timesOf Link ws)
 
--- with none open, or one that it does not apply to: 0152; while skipping: passed silently
-unfoldable pub secondaryAsk : Desk → Key → Open → Secondary → List Word → Ask
-secondaryAsk d key Nothing e ws = rests (Dropped wrongSecondary)
-secondaryAsk d key Skipping e ws = rests Passed
-secondaryAsk d key (Memory k) e ws = cond (augments k e) (obeyedAsk d (name k key) e ws) (rests (Dropped wrongSecondary))
+-- with none open, or one that it does not apply to: 0152, blamed on the keyword; while skipping: passed silently
+unfoldable pub secondaryAsk : Desk → Key → Open → Secondary → Word → List Word → Ask
+secondaryAsk d key Nothing e w ws = rests (Dropped (blame w wrongSecondary))
+secondaryAsk d key Skipping e w ws = rests Passed
+secondaryAsk d key (Memory k) e w ws =
+    cond (augments k e) (obeyedAsk d (name k key) e ws) (rests (Dropped (blame w wrongSecondary)))
 
 -- ---- CLEAR
 
 -- a page that is malformed, 0 or beyond the table's drops the record
-unfoldable pub pagedAsk : Paged → (ℕ → List Wipe) → Ask
-pagedAsk Bad f = rests (Dropped badPage)
-pagedAsk (IsPage p) f = clears (f p)
+unfoldable pub pagedAsk : Word → Paged → (ℕ → List Wipe) → Ask
+pagedAsk w Bad f = rests (Dropped (blame w badPage))
+pagedAsk w (IsPage p) f = clears (f p)
 
 -- clearing an unsupported kind does nothing, and its page is not looked at
 unfoldable pub kindAsk : Desk → Kind → List Word → Ask
 kindAsk d k ws =
-    cond (supported d k) (pagedAsk (pageAt everyPage (pagesOf d k) ws) (λ p. table k p ∷ [])) (rests Obeyed)
+    cond (supported d k) (pagedAsk (headOf ws) (pageAt everyPage (pagesOf d k) ws) (λ p. table k p ∷ [])) (rests Obeyed)
 
 unfoldable pub dimmersAsk : Desk → List Word → Ask
-dimmersAsk d ws = pagedAsk (pageAt everyPage (d .«patch_pages») ws) (λ p. dimmers p ∷ [])
+dimmersAsk d ws = pagedAsk (headOf ws) (pageAt everyPage (d .«patch_pages») ws) (λ p. dimmers p ∷ [])
 
 -- the pages of a kind's table; a kind that is not supported has none
 unfoldable pub tablePages : Desk → Kind → ℕ
@@ -202,75 +205,76 @@ unfoldable pub allWipes : Desk → ℕ → List Wipe
 allWipes d p = dimmerWipes d p ++ (kindWipes d p Cue ++ (kindWipes d p Group ++ kindWipes d p Sub))
 
 -- if no table has that page, it is wrong
-unfoldable pub wipesAsk : List Wipe → Ask
-wipesAsk [] = rests (Dropped badPage)
-wipesAsk (w ∷ ws) = clears (w ∷ ws)
+unfoldable pub wipesAsk : Word → List Wipe → Ask
+wipesAsk w [] = rests (Dropped (blame w badPage))
+wipesAsk w (x ∷ xs) = clears (x ∷ xs)
 
-unfoldable pub tablesAsk : Desk → Paged → Ask
-tablesAsk d Bad = rests (Dropped badPage)
-tablesAsk d (IsPage p) = wipesAsk (allWipes d p)
+unfoldable pub tablesAsk : Desk → Word → Paged → Ask
+tablesAsk d w Bad = rests (Dropped (blame w badPage))
+tablesAsk d w (IsPage p) = wipesAsk w (allWipes d p)
 
 -- a page of any size: which tables have it is then asked
 unfoldable pub allAsk : Desk → List Word → Ask
-allAsk d ws = tablesAsk d (pageAt everyPage cap ws)
+allAsk d ws = tablesAsk d (headOf ws) (pageAt everyPage cap ws)
 
-unfoldable pub itemAsk : Desk → Item → List Word → Ask
-itemAsk d All ws = allAsk d ws
-itemAsk d Cues ws = kindAsk d Cue ws
-itemAsk d Groups ws = kindAsk d Group ws
-itemAsk d Patches ws = dimmersAsk d ws
-itemAsk d Subs ws = kindAsk d Sub ws
-itemAsk d LocalItem ws = rests Obeyed
-itemAsk d Other ws = rests (Dropped unknownItem)
+-- a wrong item is blamed on the keyword
+unfoldable pub itemAsk : Desk → Item → Word → List Word → Ask
+itemAsk d All w ws = allAsk d ws
+itemAsk d Cues w ws = kindAsk d Cue ws
+itemAsk d Groups w ws = kindAsk d Group ws
+itemAsk d Patches w ws = dimmersAsk d ws
+itemAsk d Subs w ws = kindAsk d Sub ws
+itemAsk d LocalItem w ws = rests Obeyed
+itemAsk d Other w ws = rests (Dropped (blame w unknownItem))
 
-abbrev pub clearAsk : Desk → List Word → Ask
-clearAsk d ws = itemAsk d (itemOf (headOf ws .chars)) (tailOf ws)
+abbrev pub clearAsk : Desk → Word → List Word → Ask
+clearAsk d w ws = itemAsk d (itemOf (headOf ws .chars)) w (tailOf ws)
 
 -- ---- PATCH, IDENT
 
-unfoldable pub triplesAsk : Desk → Paged → List Word → Ask
-triplesAsk d Bad ws = rests (Dropped badPatchPage)
-triplesAsk d (IsPage p) ws = items (page p) (triplesOf d ws)
+unfoldable pub triplesAsk : Desk → Word → Paged → List Word → Ask
+triplesAsk d w Bad ws = rests (Dropped (blame w badPatchPage))
+triplesAsk d w (IsPage p) ws = items (page p) (triplesOf d ws)
 
 abbrev pub patchAsk : Desk → List Word → Ask
-patchAsk d ws = triplesAsk d (pageOf (d .«patch_pages») (headOf ws .chars)) (tailOf ws)
+patchAsk d ws = triplesAsk d (headOf ws) (pageOf (d .«patch_pages») (headOf ws .chars)) (tailOf ws)
 
 -- the version that is read
 abbrev pub isThree : ℕ → ℕ → Bool
 isThree major minor = eqb major 3 && eqb minor 0
 
-unfoldable pub identOutcome : Version → Outcome
-identOutcome BadVersion = Stopped identMismatch
-identOutcome (IsVersion major minor) = cond (isThree major minor) Obeyed (Stopped identMismatch)
+unfoldable pub identOutcome : Word → Version → Outcome
+identOutcome w BadVersion = Stopped (blame w identMismatch)
+identOutcome w (IsVersion major minor) = cond (isThree major minor) Obeyed (Stopped (blame w identMismatch))
 
 -- ---- the keywords
 
-unfoldable pub keywordAsk : Desk → State → Keyword → List Word → Ask
-keywordAsk d s key.Ident ws = rests (identOutcome (versionOf (headOf ws .chars)))
-keywordAsk d s key.Clear ws = clearAsk d ws
-keywordAsk d s key.Patch ws = patchAsk d ws
-keywordAsk d s key.Cue ws = primaryAsk d Cue ws
-keywordAsk d s key.Group ws = primaryAsk d Group ws
-keywordAsk d s key.Sub ws = primaryAsk d Sub ws
-keywordAsk d s key.Chan ws = secondaryAsk d (s .key) (s .«open») Chan ws
-keywordAsk d s key.Up ws = secondaryAsk d (s .key) (s .«open») Up ws
-keywordAsk d s key.Down ws = secondaryAsk d (s .key) (s .«open») Down ws
-keywordAsk d s key.Followon ws = secondaryAsk d (s .key) (s .«open») Followon ws
-keywordAsk d s key.Link ws = secondaryAsk d (s .key) (s .«open») Link ws
-keywordAsk d s key.Enddata ws = rests (Stopped 0)
-keywordAsk d s key.Manufacturer ws = rests Passed
-keywordAsk d s key.Console ws = rests Passed
-keywordAsk d s key.Set ws = rests Passed
-keywordAsk d s key.Text ws = rests Passed
-keywordAsk d s key.Part ws = rests Passed
-keywordAsk d s key.Local ws = skips Passed
-keywordAsk d s key.Comment ws = rests Passed
-keywordAsk d s key.Unknown ws = rests (Dropped unknownKeyword)
+unfoldable pub keywordAsk : Desk → State → Keyword → Word → List Word → Ask
+keywordAsk d s key.Ident w ws = rests (identOutcome (headOf ws) (versionOf (headOf ws .chars)))
+keywordAsk d s key.Clear w ws = clearAsk d w ws
+keywordAsk d s key.Patch w ws = patchAsk d ws
+keywordAsk d s key.Cue w ws = primaryAsk d Cue w ws
+keywordAsk d s key.Group w ws = primaryAsk d Group w ws
+keywordAsk d s key.Sub w ws = primaryAsk d Sub w ws
+keywordAsk d s key.Chan w ws = secondaryAsk d (s .key) (s .«open») Chan w ws
+keywordAsk d s key.Up w ws = secondaryAsk d (s .key) (s .«open») Up w ws
+keywordAsk d s key.Down w ws = secondaryAsk d (s .key) (s .«open») Down w ws
+keywordAsk d s key.Followon w ws = secondaryAsk d (s .key) (s .«open») Followon w ws
+keywordAsk d s key.Link w ws = secondaryAsk d (s .key) (s .«open») Link w ws
+keywordAsk d s key.Enddata w ws = rests (Stopped (blameNone 0))
+keywordAsk d s key.Manufacturer w ws = rests Passed
+keywordAsk d s key.Console w ws = rests Passed
+keywordAsk d s key.Set w ws = rests Passed
+keywordAsk d s key.Text w ws = rests Passed
+keywordAsk d s key.Part w ws = rests Passed
+keywordAsk d s key.Local w ws = skips Passed
+keywordAsk d s key.Comment w ws = rests Passed
+keywordAsk d s key.Unknown w ws = rests (Dropped (blame w unknownKeyword))
 
 -- a record with no field is blank
 unfoldable pub fieldsAsk : Desk → State → List Word → Ask
 fieldsAsk d s [] = rests Blank
-fieldsAsk d s (w ∷ ws) = keywordAsk d s (keywordOf (w .chars)) ws
+fieldsAsk d s (w ∷ ws) = keywordAsk d s (keywordOf (w .chars)) w ws
 
 -- ---- a record as received
 
@@ -279,4 +283,4 @@ isOverLong r = ltb longest (length r)
 
 -- more than 80 characters stop the load, whatever they are
 unfoldable pub askOf : Desk → State → List ℕ → Ask
-askOf d s r = cond (isOverLong r) (rests (Stopped overLongRecord)) (fieldsAsk d s (fieldsOf r))
+askOf d s r = cond (isOverLong r) (rests (Stopped (blameNone overLongRecord))) (fieldsAsk d s (fieldsOf r))

@@ -1,20 +1,28 @@
 -- What holds of an item that is read: an obeyed one names a channel, and a dimmer, that the desk has, and its level is a byte; a fault's
 -- condition fits a report. For laws and for private functions; no promise names these.
 -- Assumes nothing.
+use mathlib.Core.Bool.{cond}
 use mathlib.Core.List.{List, [], _∷_}
-use Prim.Native.Nat.{ℕ, _<_, max}
+use Prim.Native.Nat.{ℕ, _+_, _<_, max}
 use Rattle.store_desk.specs.declared.Desk.{Desk}
 use Rattle.store_desk.specs.declared.Kind.the-variants.{Cue, Group, Sub}
 use Rattle.store_desk.specs.Size.{Within}
+use Rattle.text_fields.specs.declared.Field.{Field}
+use Rattle.text_fields.specs.Places.{isMissing}
+use Rattle.load.specs.declared.Fault.{Fault}
 use Rattle.load.specs.declared.Entry.{Entry}
-use Rattle.load.specs.declared.Entry.the-variants.{Level, Patch, Fault}
+use Rattle.load.specs.declared.Entry.the-variants.{Level, Patch, Faulty}
 use Rattle.load.specs.Ask.{tablePages}
 use Rattle.load.specs.Run.{conditionSpan}
+
+-- a field as the code has it is blamed
+abbrev pub blameField : Field → ℕ → Fault
+blameField f c = record { condition = c; place = cond (isMissing f) 0 (f .start + 1) }
 
 abbrev pub EntryFits : Desk → Entry → Type 0
 EntryFits d (Level channel v) = Within 1 channel (d .channels) × (v < 256)
 EntryFits d (Patch channel dimmer v) = Within 1 channel (d .channels) × Within 1 dimmer (d .dimmers) × (v < 256)
-EntryFits d (Fault condition column) = condition < conditionSpan
+EntryFits d (Faulty f) = f .condition < conditionSpan
 
 abbrev pub AllFit : Desk → List Entry → Type 0
 AllFit d [] = Unit {0}

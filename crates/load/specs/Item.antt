@@ -17,11 +17,19 @@ use Rattle.value_level.specs.Level.{levelOf}
 use Rattle.text_fields.specs.Words.{Word, missing}
 use Rattle.store.specs.declared.Edit.the-variants.{Level as SetLevel}
 use Rattle.store.specs.Change.{edited, patched}
+use Rattle.load.specs.declared.Fault.{Fault}
 use Rattle.load.specs.declared.Entry.{Entry}
-use Rattle.load.specs.declared.Entry.the-variants.{Level, Patch, Fault}
+use Rattle.load.specs.declared.Entry.the-variants.{Level, Patch, Faulty}
 use Rattle.load.specs.declared.Ranged.{Ranged}
 use Rattle.load.specs.declared.Ranged.the-variants.{Within, Wrong}
 use Rattle.load.specs.Condition.{malformedInteger, badHex, badChannel, badDimmer, badPercent}
+
+-- a field is blamed, by its place in the record's text; or none is
+abbrev pub blame : Word → ℕ → Fault
+blame w c = record { condition = c; place = w .place }
+
+abbrev pub blameNone : ℕ → Fault
+blameNone c = record { condition = c; place = 0 }
 
 -- an integer from 1 to a limit, and the condition of one beyond it
 unfoldable pub rangedOf : ℕ → ℕ → Integer → Ranged
@@ -37,24 +45,23 @@ abbrev pub dimmerOf : Desk → Word → Ranged
 dimmerOf d w = rangedOf (d .dimmers) badDimmer (integerOf (w .chars))
 
 -- go on with what a field gives, or blame the field
-unfoldable pub onRanged : Ranged → ℕ → (ℕ → Entry) → Entry
-onRanged (Within n) column f = f n
-onRanged (Wrong condition) column f = Fault condition column
+unfoldable pub onRanged : Word → Ranged → (ℕ → Entry) → Entry
+onRanged w (Within n) f = f n
+onRanged w (Wrong condition) f = Faulty (blame w condition)
 
-unfoldable pub onLevel : Leveled → ℕ → (ℕ → Entry) → Entry
-onLevel NotPercent column f = Fault badPercent column
-onLevel NotHex column f = Fault badHex column
-onLevel (IsLevel v) column f = f v
+unfoldable pub onLevel : Word → Leveled → (ℕ → Entry) → Entry
+onLevel w NotPercent f = Faulty (blame w badPercent)
+onLevel w NotHex f = Faulty (blame w badHex)
+onLevel w (IsLevel v) f = f v
 
 -- CHAN: channel, level
 unfoldable pub pairOf : Desk → Word → Word → Entry
-pairOf d c l = onRanged (channelOf d c) (c .column) (λ n. onLevel (levelOf (l .chars)) (l .column) (λ v. Level n v))
+pairOf d c l = onRanged c (channelOf d c) (λ n. onLevel l (levelOf (l .chars)) (λ v. Level n v))
 
 -- PATCH: channel, dimmer, level
 unfoldable pub tripleOf : Desk → Word → Word → Word → Entry
 tripleOf d c m l =
-    onRanged (channelOf d c) (c .column)
-    (λ n. onRanged (dimmerOf d m) (m .column) (λ k. onLevel (levelOf (l .chars)) (l .column) (λ v. Patch n k v)))
+    onRanged c (channelOf d c) (λ n. onRanged m (dimmerOf d m) (λ k. onLevel l (levelOf (l .chars)) (λ v. Patch n k v)))
 
 -- the items of a record's fields, counted by place; a missing field is the missing word
 unfoldable pub pairsOf : Desk → List Word → List Entry
@@ -69,11 +76,11 @@ triplesOf d (c ∷ (m ∷ [])) = tripleOf d c m missing ∷ []
 triplesOf d (c ∷ (m ∷ (l ∷ ws))) = let r = triplesOf d ws in tripleOf d c m l ∷ r
 
 -- the faults among the items, in their order
-unfoldable pub faultsOf : List Entry → List ℕ
+unfoldable pub faultsOf : List Entry → List Fault
 faultsOf [] = []
 faultsOf (Level n v ∷ es) = faultsOf es
 faultsOf (Patch n k v ∷ es) = faultsOf es
-faultsOf (Fault condition column ∷ es) = condition ∷ faultsOf es
+faultsOf (Faulty f ∷ es) = f ∷ faultsOf es
 
 -- ---- what items do to a store
 
@@ -85,10 +92,10 @@ pub data Target : Type 0 where
 unfoldable pub done : Desk → Target → List ℕ → Entry → List ℕ
 done d (memory n) t (Level channel v) = edited d t n (SetLevel channel v)
 done d (memory n) t (Patch channel dimmer v) = t
-done d (memory n) t (Fault condition column) = t
+done d (memory n) t (Faulty f) = t
 done d (page p) t (Level channel v) = t
 done d (page p) t (Patch channel dimmer v) = patched d t p dimmer channel v
-done d (page p) t (Fault condition column) = t
+done d (page p) t (Faulty f) = t
 
 -- one after the other: the last level, and a dimmer's last channel, win
 unfoldable pub allDone : Desk → Target → List ℕ → List Entry → List ℕ

@@ -29,9 +29,9 @@ reportsAt n conditions = map (λ (c : ℕ). record { number = n; condition = c }
 unfoldable pub stops : Outcome → Bool
 stops Blank = false
 stops Passed = false
-stops (Dropped c) = false
+stops (Dropped f) = false
 stops Obeyed = false
-stops (Stopped c) = true
+stops (Stopped f) = true
 
 -- what records come to, one after the other: the state and the store after them, whether one stopped the load, and of those that
 -- were read the outcomes and the reports
@@ -95,9 +95,9 @@ pub data Class : Type 0 where
 unfoldable pub classOf : Outcome → Class
 classOf Blank = blank
 classOf Passed = passed
-classOf (Dropped c) = dropped
+classOf (Dropped f) = dropped
 classOf Obeyed = obeyed
-classOf (Stopped c) = cond (eqb c 0) obeyed dropped
+classOf (Stopped f) = cond (eqb (f .condition) 0) obeyed dropped
 
 abbrev pub classNumber : Class → ℕ
 classNumber blank = 0

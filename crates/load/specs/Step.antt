@@ -1,7 +1,7 @@
 -- One record's step: what it asks for, done to the store (paper 01, "Keywords and conditions"; "The store").
 -- Assumes nothing.
 use mathlib.Core.Bool.{Bool, cond}
-use mathlib.Core.List.{List, [], _∷_, _++_}
+use mathlib.Core.List.{List, [], _∷_, _++_, map}
 use Prim.Native.Nat.{ℕ}
 use lib.Dec.{ltb}
 use Rattle.store_desk.specs.declared.Desk.{Desk}
@@ -11,9 +11,10 @@ use Rattle.text_records.specs.Cleaning.{isHigh, isControl, has}
 use Rattle.text_fields.specs.Words.{Word}
 use Rattle.store.specs.Slots.{find, onFound}
 use Rattle.store.specs.Change.{seat, started, edited, cleared, clearedPatch}
-use Rattle.load.specs.Item.{faultsOf, page, allDone}
+use Rattle.load.specs.Item.{blameNone, faultsOf, page, allDone}
 use Rattle.load.specs.declared.Open.{Open}
 use Rattle.load.specs.declared.Open.the-variants.{Nothing, Skipping, Memory}
+use Rattle.load.specs.declared.Fault.{Fault}
 use Rattle.load.specs.declared.State.{State}
 use Rattle.load.specs.declared.Outcome.{Outcome}
 use Rattle.load.specs.declared.Outcome.the-variants.{Blank, Passed, Dropped, Obeyed, Stopped}
@@ -24,11 +25,11 @@ use Rattle.load.specs.Ask.{Wipe, table, dimmers, Ask, rests, skips, open
 
 -- ---- what a step gives
 
--- the state and the store after it, the record's outcome, and the conditions of the items that it dropped
+-- the state and the store after it, the record's outcome, and the faults of the items that it dropped
 pub record Step : Type 0 where
   pub state : State
   pub outcome : Outcome
-  pub faults : List ℕ
+  pub faults : List Fault
   pub store : List ℕ
 
 abbrev pub ended : State → Outcome → List ℕ → Step
@@ -66,7 +67,7 @@ wiped d (dimmers p ∷ ws) t = wiped d ws (clearedPatch d t p)
 -- an accepted primary starts its memory afresh, if there is room; one that finds none starts skipping and changes nothing
 unfoldable pub openedBy : Desk → Kind → Key → Found → List ℕ → Step
 openedBy d k key (at i) t = ended (opened k key) Obeyed (started d t (name k key))
-openedBy d k key nowhere t = ended skipping (Dropped (fullOf k)) t
+openedBy d k key nowhere t = ended skipping (Dropped (blameNone (fullOf k))) t
 
 unfoldable pub acted : Desk → State → List ℕ → Ask → Step
 acted d s t (rests o) = ended s o t
@@ -95,10 +96,14 @@ ignoredIn r = oneIf (has isHigh r) ignoredHigh ++ oneIf (has isControl r) ignore
 unfoldable pub outcomeReports : Outcome → List ℕ
 outcomeReports Blank = []
 outcomeReports Passed = []
-outcomeReports (Dropped c) = c ∷ []
+outcomeReports (Dropped f) = f .condition ∷ []
 outcomeReports Obeyed = []
-outcomeReports (Stopped c) = oneIf (ltb 0 c) c
+outcomeReports (Stopped f) = oneIf (ltb 0 (f .condition)) (f .condition)
+
+-- of a fault its condition is reported, and not its place
+unfoldable pub faultReports : List Fault → List ℕ
+faultReports fs = map (λ (f : Fault). f .condition) fs
 
 -- the conditions of a record, in the order in which they are reported
 unfoldable pub conditionsOf : List ℕ → Step → List ℕ
-conditionsOf r x = cond (isOverLong r) [] (ignoredIn r) ++ (outcomeReports (x .outcome) ++ x .faults)
+conditionsOf r x = cond (isOverLong r) [] (ignoredIn r) ++ (outcomeReports (x .outcome) ++ faultReports (x .faults))

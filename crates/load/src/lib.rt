@@ -1,7 +1,16 @@
 // What a load knows between records, and what a record comes to (paper 01, "Keywords and conditions"; "Forms for specific places").
+ghost use mathlib.Core.Path.{_≡_};
+ghost use Prim.Native.Nat.{_≤_};
+ghost use lib.ListN.{length};
+ghost use Rattle.text_records.specs.Received.{longest};
+ghost use Rattle.text_fields.specs.Words.{headOf};
+ghost use Rattle.text_fields.specs.Places.{wordsFrom};
+ghost use Rattle.load.specs.Item.{blame, blameNone};
+ghost use Rattle.load.specs.Fits.{blameField};
 use store::Edit;
 use store_desk::Key;
 use store_desk::Kind;
+use text_fields::Field;
 
 // What a secondary record augments: nothing, a memory that is skipped, or an open memory of a kind.
 pub enum Open {
@@ -16,13 +25,53 @@ pub struct State {
     pub key: Key,
 }
 
-// A record's outcome. Stopped carries 0 for ENDDATA, else 91 or 99.
+// What is wrong with a record, or with an item of it: the condition that it is reported under, and the place in the record's text, from 1, of
+// the field that is blamed (0: none is).
+pub struct Fault {
+    pub condition: u32,
+    pub place: usize,
+}
+
+// No field is blamed.
+pub fn blameless(condition: u32) -> Fault
+    ensures { λ r. ⌜ r ≡ blameNone condition ⌝ }
+{
+    Fault {
+        condition,
+        place: 0,
+    }
+}
+
+// A field is blamed; a missing one has no place.
+pub fn blamed(f: Field, condition: u32) -> Fault
+    requires { ⌜ f .start ≤ longest ⌝ }
+    ensures { λ r. ⌜ r ≡ blameField f condition ⌝ }
+{
+    if text_fields::is_missing(f) {
+        return blameless(condition);
+    }
+    Fault {
+        condition,
+        place: f.start + 1,
+    }
+}
+
+// The first field from `at` on is blamed: from 0 on the keyword.
+pub fn blamed_at(text: &[u8], at: usize, condition: u32) -> Fault
+    requires { ⌜ at ≤ length (now text) ⌝ }
+    requires { ⌜ length (now text) ≤ longest ⌝ }
+    ensures { λ r. ⌜ r ≡ blame (headOf (wordsFrom (now (text .entry)) at)) condition ⌝ }
+{
+    blamed(text_fields::field_at(text, at), condition)
+}
+
+// A record's outcome. Stopped carries condition 0 for ENDDATA, else 91 or 99.
 pub enum Outcome {
     Blank,
     Passed,
-    Dropped(u32),
+    Dropped(Fault),
     Obeyed,
-    Stopped(u32),
+    Stopped(Fault),
 }
 
 // A secondary keyword that is read (§6.3).
@@ -34,29 +83,29 @@ pub enum Secondary {
     Link,
 }
 
-// A primary's number: its whole number and fraction, or the condition of what is wrong with it.
+// A primary's number: its whole number and fraction, or what is wrong with it.
 pub enum Numeral {
-    Wrong(u32),
+    Wrong(Fault),
     Number(u32, u32),
 }
 
-// A primary's name: its key, or the condition under which it is refused.
+// A primary's name: its key, or why it is refused.
 pub enum Named {
-    Refused(u32),
+    Refused(Fault),
     Name(Key),
 }
 
-// A secondary's fields: the change they ask for, or the condition of what is wrong with them.
+// A secondary's fields: the change they ask for, or what is wrong with them.
 pub enum Reading {
-    Wrong(u32),
+    Wrong(Fault),
     Change(Edit),
 }
 
-// What an item of a record comes to: a channel's level, a dimmer's channel and level, or a fault with the column that is blamed.
+// What an item of a record comes to: a channel's level, a dimmer's channel and level, or a fault.
 pub enum Entry {
     Level(u32, u8),
     Patch(u32, u32, u8),
-    Fault(u32, u8),
+    Faulty(Fault),
 }
 
 // A channel or dimmer: in its range, or the condition that it is reported under.

@@ -25,9 +25,11 @@ use Rattle.value.specs.declared.Paged.the-variants.{Bad, Value as IsPage}
 use Rattle.value.specs.Integer.{integerOf}
 use Rattle.value.specs.Number.{numberOf}
 use Rattle.value.specs.Field.{pagedOf, pageOf}
+use Rattle.load.specs.declared.Fault.{Fault}
 use Rattle.load.specs.declared.Numeral.{Numeral}
 use Rattle.load.specs.declared.Numeral.the-variants.{Wrong, Number}
 use Rattle.load.specs.Condition.{badSub}
+use Rattle.load.specs.Item.{blame}
 use Rattle.load.specs.Ask.{name, numberedBy, subBy, numeralOf, pageAt, tablePages}
 use Rattle.load.specs.Fits.{highestPage}
 use Rattle.theorem_rehearse.specs.Rehearse.{Larger}
@@ -80,29 +82,30 @@ abbrev pub keyed : ℕ → ℕ → ℕ → Key
 keyed p w f = record { page = p; whole = w; fraction = f }
 
 pub data Numerals (d : Desk) (k : Kind) : Numeral → Numeral → Type 0 where
-  wrong-numbers : (c C : ℕ) → Numerals d k (Wrong c) (Wrong C)
-  beyond-number : (c w f : ℕ) → ((p : ℕ) → okWithin d k (keyed p w f) ≡ false) → Numerals d k (Wrong c) (Number w f)
+  wrong-numbers : (x X : Fault) → Numerals d k (Wrong x) (Wrong X)
+  beyond-number : (x : Fault) (w f : ℕ) → ((p : ℕ) → okWithin d k (keyed p w f) ≡ false) → Numerals d k (Wrong x) (Number w f)
   same-number : (w f : ℕ) → Numerals d k (Number w f) (Number w f)
 
 same-numeral : (d : Desk) (k : Kind) (x : Numeral) → Numerals d k x x
-same-numeral d k (Wrong c) = wrong-numbers c c
+same-numeral d k (Wrong x) = wrong-numbers x x
 same-numeral d k (Number w f) = same-number w f
 
-sub-numerals : (d D : Desk) → d .subs ≤ D .subs → (i : Integer) → Numerals d Sub (subBy d i) (subBy D i)
+sub-numerals : (d D : Desk) → d .subs ≤ D .subs → (w : Word) (i : Integer) → Numerals d Sub (subBy d w i) (subBy D w i)
 unfolding subBy okWithin okSub
-sub-numerals d D l Malformed = wrong-numbers _ _
-sub-numerals d D l (Value n) =
+sub-numerals d D l w Malformed = wrong-numbers _ _
+sub-numerals d D l w (Value n) =
+    let x : Fault = blame w badSub in
     by-tests (Numerals d Sub) (isWithin 1 n (d .subs)) (isWithin 1 n (D .subs)) (within-more n (d .subs) (D .subs) l)
-    (Number n 0) (Wrong badSub) (Number n 0) (Wrong badSub)
+    (Number n 0) (Wrong x) (Number n 0) (Wrong x)
     (λ e. same-number n 0)
-    (λ e E. beyond-number badSub n 0 (λ p. all-fails _ 0 e))
-    (λ E. wrong-numbers badSub badSub)
+    (λ e E. beyond-number x n 0 (λ p. all-fails _ 0 e))
+    (λ E. wrong-numbers x x)
 
 pub numerals : (d D : Desk) → Larger d D → (k : Kind) (w : Word) → Numerals d k (numeralOf d k w) (numeralOf D k w)
 unfolding numeralOf
-numerals d D l Cue w = same-numeral d Cue (numberedBy (numberOf (w .chars)))
-numerals d D l Group w = same-numeral d Group (numberedBy (numberOf (w .chars)))
-numerals d D l Sub w = sub-numerals d D (l .subs) (integerOf (w .chars))
+numerals d D l Cue w = same-numeral d Cue (numberedBy w (numberOf (w .chars)))
+numerals d D l Group w = same-numeral d Group (numberedBy w (numberOf (w .chars)))
+numerals d D l Sub w = sub-numerals d D (l .subs) w (integerOf (w .chars))
 
 -- ---- a name that the smaller cannot have
 module _ (d : Desk) (k : Kind) (y : Key) where

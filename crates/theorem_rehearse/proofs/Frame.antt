@@ -27,7 +27,7 @@ use Rattle.store.proofs.Clear.{clear-view, clear-patch, clear-tail, clear-good}
 use Rattle.store.proofs.Patches.{patch-view, patch-memory, patch-tail, patch-good, same-patch}
 use Rattle.store.proofs.Patches.{clear-patch-view, clear-patch-memory, clear-patch-tail, clear-patch-good}
 use Rattle.load.specs.declared.Entry.{Entry}
-use Rattle.load.specs.declared.Entry.the-variants.{Level, Patch, Fault}
+use Rattle.load.specs.declared.Entry.the-variants.{Level, Patch, Faulty}
 use Rattle.load.specs.declared.State.{State}
 use Rattle.load.specs.Item.{memory, page, done, allDone}
 use Rattle.load.specs.Ask.{Wipe, table, dimmers, Ask, rests, skips, opens, edits, items, clears, name, askOf}
@@ -120,7 +120,7 @@ module _ (d : Desk) where
         beyond = b .beyond ∙ a .beyond;
       }
   levels-framed n (Patch c k v ∷ es) t r = levels-framed n es t r
-  levels-framed n (Fault c x ∷ es) t r = levels-framed n es t r
+  levels-framed n (Faulty x ∷ es) t r = levels-framed n es t r
 
   -- ---- PATCH
   triples-framed : (p : ℕ) → Within 1 p (d .«patch_pages») → (es : List Entry) → AllFit d es → (t : List ℕ) → Ready d t
@@ -140,7 +140,7 @@ module _ (d : Desk) where
             ∙ cond-false (eqb p x && eqb k y) (patchEntry n v) (patchedTo d t x y) (or-fails-left (eqb p x) (eqb k y) (patchesDimmer es y) e);
         beyond = b .beyond ∙ patch-tail d t (r .long) (r .range) p k n v w (g .1) (g .0) (g .2);
       }
-  triples-framed p w (Fault c x ∷ es) f t r = triples-framed p w es (f .1) t r
+  triples-framed p w (Faulty x ∷ es) f t r = triples-framed p w es (f .1) t r
 
   -- ---- CLEAR: what is seen after it
   pub record Wiped (xs : List Wipe) (t : List ℕ) : Type 0 where

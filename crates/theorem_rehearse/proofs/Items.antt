@@ -16,8 +16,9 @@ use Rattle.value.specs.Integer.{integerOf}
 use Rattle.value_level.specs.declared.Leveled.{Leveled}
 use Rattle.value_level.specs.declared.Leveled.the-variants.{NotPercent, NotHex, Value as IsLevel}
 use Rattle.value_level.specs.Level.{levelOf}
+use Rattle.load.specs.declared.Fault.{Fault}
 use Rattle.load.specs.declared.Entry.{Entry}
-use Rattle.load.specs.declared.Entry.the-variants.{Level, Patch, Fault}
+use Rattle.load.specs.declared.Entry.the-variants.{Level, Patch, Faulty}
 use Rattle.load.specs.declared.Ranged.{Ranged}
 use Rattle.load.specs.declared.Ranged.the-variants.{Within as In, Wrong}
 use Rattle.load.specs.Condition.{badChannel, badDimmer}
@@ -42,13 +43,13 @@ ranges limit Limit c l (Value n) =
 
 -- ---- a pair: channel, level
 pub data Pairs (d D : Desk) : Entry → Entry → Type 0 where
-  pair-faults : {c x C X : ℕ} → Pairs d D (Fault c x) (Fault C X)
-  beyond-channel : {c x : ℕ} (n v : ℕ) → d .channels < n → Pairs d D (Fault c x) (Level n v)
+  pair-faults : {f F : Fault} → Pairs d D (Faulty f) (Faulty F)
+  beyond-channel : {f : Fault} (n v : ℕ) → d .channels < n → Pairs d D (Faulty f) (Level n v)
   same-level : (n v : ℕ) → Pairs d D (Level n v) (Level n v)
 
-module _ (d D : Desk) (a b : ℕ) where
+module _ (d D : Desk) (a b : Word) where
   pair-by : {r R : Ranged} (w : Leveled) → Ranges (d .channels) (D .channels) r R
-      → Pairs d D (onRanged r a (λ n. onLevel w b (λ u. Level n u))) (onRanged R a (λ n. onLevel w b (λ u. Level n u)))
+      → Pairs d D (onRanged a r (λ n. onLevel b w (λ u. Level n u))) (onRanged a R (λ n. onLevel b w (λ u. Level n u)))
   unfolding onRanged onLevel
   pair-by w wrongs = pair-faults
   pair-by NotPercent (beyond n h H) = pair-faults
@@ -60,14 +61,14 @@ module _ (d D : Desk) (a b : ℕ) where
 
 -- ---- a triple: channel, dimmer, level. With equally many channels it is a dimmer that lies beyond
 pub data Triples (d D : Desk) : Entry → Entry → Type 0 where
-  triple-faults : {c x C X : ℕ} → Triples d D (Fault c x) (Fault C X)
-  beyond-triple : {c x : ℕ} (n k v : ℕ) → (d .channels ≡ D .channels → d .dimmers < k) → Triples d D (Fault c x) (Patch n k v)
+  triple-faults : {f F : Fault} → Triples d D (Faulty f) (Faulty F)
+  beyond-triple : {f : Fault} (n k v : ℕ) → (d .channels ≡ D .channels → d .dimmers < k) → Triples d D (Faulty f) (Patch n k v)
   same-triple : (n k v : ℕ) → Triples d D (Patch n k v) (Patch n k v)
 
-module _ (d D : Desk) (a b x : ℕ) where
+module _ (d D : Desk) (a b x : Word) where
   triple-by : {r R q Q : Ranged} (w : Leveled) → Ranges (d .channels) (D .channels) r R → Ranges (d .dimmers) (D .dimmers) q Q
-      → Triples d D (onRanged r a (λ n. onRanged q b (λ k. onLevel w x (λ u. Patch n k u))))
-      (onRanged R a (λ n. onRanged Q b (λ k. onLevel w x (λ u. Patch n k u))))
+      → Triples d D (onRanged a r (λ n. onRanged b q (λ k. onLevel x w (λ u. Patch n k u))))
+      (onRanged a R (λ n. onRanged b Q (λ k. onLevel x w (λ u. Patch n k u))))
   unfolding onRanged onLevel
   triple-by w wrongs g = triple-faults
   triple-by w (beyond n h H) wrongs = triple-faults
@@ -93,13 +94,12 @@ pub data Each (R : Entry → Entry → Type 0) : List Entry → List Entry → T
 module _ (d D : Desk) (l : Larger d D) where
   pair : (c v : Word) → Pairs d D (pairOf d c v) (pairOf D c v)
   unfolding pairOf
-  pair c v =
-      pair-by d D (c .column) (v .column) (levelOf (v .chars)) (ranges (d .channels) (D .channels) badChannel (l .channels) (integerOf (c .chars)))
+  pair c v = pair-by d D c v (levelOf (v .chars)) (ranges (d .channels) (D .channels) badChannel (l .channels) (integerOf (c .chars)))
 
   triple : (c m v : Word) → Triples d D (tripleOf d c m v) (tripleOf D c m v)
   unfolding tripleOf
   triple c m v =
-      triple-by d D (c .column) (m .column) (v .column) (levelOf (v .chars))
+      triple-by d D c m v (levelOf (v .chars))
       (ranges (d .channels) (D .channels) badChannel (l .channels) (integerOf (c .chars)))
       (ranges (d .dimmers) (D .dimmers) badDimmer (l .dimmers) (integerOf (m .chars)))
 

@@ -16,9 +16,10 @@ use Rattle.store.specs.Good.{Ready}
 use Rattle.store.proofs.Empty.{empty-view, empty-patch, empty-good}
 use Rattle.load.specs.declared.Outcome.{Outcome}
 use Rattle.load.specs.declared.Outcome.the-variants.{Dropped}
+use Rattle.load.specs.declared.Fault.{Fault}
 use Rattle.load.specs.Condition.{noEnddata}
 use Rattle.load.specs.Ask.{isOverLong}
-use Rattle.load.specs.Step.{Step, noKey, nothingOpen, ignoredIn, outcomeReports, conditionsOf, recordStep}
+use Rattle.load.specs.Step.{Step, noKey, nothingOpen, ignoredIn, outcomeReports, faultReports, conditionsOf, recordStep}
 use Rattle.load.specs.Run.{Report, Run, reportsAt, allReports}
 use Rattle.theorem_rehearse.specs.Rehearse.{Rehearsal, loaded, isFull, hasFull, HadRoom, Ships, Complete, SamePatch, Rehearsed}
 use Rattle.theorem_rehearse.proofs.Runs.{Steps, loads}
@@ -44,12 +45,13 @@ unfolding hasFull
 full-at n [] c ys h = cond-true (isFull c) true (hasFull (reportsAt n ys)) h
 full-at n (a ∷ xs) c ys h = ap (cond (isFull a) true) (full-at n xs c ys h) ∙ cond-same (isFull a) true
 
-dropped-full : (n : ℕ) (r : List ℕ) (x : Step) (c : ℕ) → x .outcome ≡ Dropped c → isFull c ≡ true
+dropped-full : (n : ℕ) (r : List ℕ) (x : Step) (f : Fault) → x .outcome ≡ Dropped f → isFull (f .condition) ≡ true
     → hasFull (reportsAt n (conditionsOf r x)) ≡ true
 unfolding conditionsOf outcomeReports
-dropped-full n r x c e h =
-    subst (λ (o : Outcome). hasFull (reportsAt n (cond (isOverLong r) [] (ignoredIn r) ++ (outcomeReports o ++ x .faults))) ≡ true) (sym e)
-    (full-at n (cond (isOverLong r) [] (ignoredIn r)) c (x .faults) h)
+dropped-full n r x f e h =
+    let ig : List ℕ = cond (isOverLong r) [] (ignoredIn r) in
+    subst (λ (o : Outcome). hasFull (reportsAt n (ig ++ (outcomeReports o ++ faultReports (x .faults)))) ≡ true) (sym e)
+    (full-at n ig (f .condition) (faultReports (x .faults)) h)
 
 -- all reports of a load
 had-room : (x : Run) → HadRoom x → hasFull (x .reports) ≡ false
@@ -83,8 +85,8 @@ module _ (d D : Desk) (s S : List ℕ) (h : Rehearsal d D s S) where
     step : Steps d D (Held d D (h .larger) Lost out) Told
     step n r a t A T g G i p =
         record-after d D (h .larger) Lost out t T g G (i .0) a A (i .1) r
-        (λ c e f. p .1 (dropped-full n r (recordStep d a r t) c e f))
-        (λ c e f. clash (dropped-full n r (recordStep D A r T) c e f) (p .0))
+        (λ x e f. p .1 (dropped-full n r (recordStep d a r t) x e f))
+        (λ x e f. clash (dropped-full n r (recordStep D A r T) x e f) (p .0))
 
     start : Held d D (h .larger) Lost out nothingOpen (emptied d s) nothingOpen (emptied D S)
     start =

@@ -17,9 +17,10 @@ use Rattle.store.specs.Good.{Ready}
 use Rattle.store.proofs.Start.{bad-absent, sub-room, full}
 use Rattle.store.proofs.Edits.{in-time-fits}
 use Rattle.load.specs.declared.State.{State}
+use Rattle.load.specs.declared.Fault.{Fault}
 use Rattle.load.specs.declared.Outcome.the-variants.{Dropped}
 use Rattle.load.specs.Condition.{fullOf}
-use Rattle.load.specs.Item.{memory, page, allDone}
+use Rattle.load.specs.Item.{blameNone, memory, page, allDone}
 use Rattle.load.specs.Ask.{Ask, rests, items, name}
 use Rattle.load.specs.Step.{Step, noKey, settle, wiped, openedBy, acted, recordStep}
 use Rattle.theorem_rehearse.specs.Rehearse.{Larger, isFull, isKept}
@@ -50,10 +51,10 @@ module _ (d D : Desk) (l : Larger d D) (Lost : Name → Type 0) (out : (n : Name
 
   -- the larger had room; what the smaller had no room for is lost
   abbrev pub Roomy : Step → Type 0
-  Roomy X = (c : ℕ) → X .outcome ≡ Dropped c → isFull c ≡ true → ⊥
+  Roomy X = (f : Fault) → X .outcome ≡ Dropped f → isFull (f .condition) ≡ true → ⊥
 
   abbrev pub Tells : Step → Type 0
-  Tells x = (c : ℕ) → x .outcome ≡ Dropped c → isFull c ≡ true → (n : Name) → Lost n
+  Tells x = (f : Fault) → x .outcome ≡ Dropped f → isFull (f .condition) ≡ true → (n : Name) → Lost n
 
   module _ (t T : List ℕ) (r : Ready d t) (R : Ready D T) (v : Views d D l Lost t T) where
     -- ---- primaries: the larger alone has a place, or both have one
@@ -61,16 +62,16 @@ module _ (d D : Desk) (l : Larger d D) (Lost : Name → Type 0) (out : (n : Name
         → (A : Found) → seat D T (name k y) ≡ A → Roomy (openedBy D k y A T) → After (openedBy d k y nowhere t) (openedBy D k y A T)
     unfolding openedBy
     seat-right k y O g x (at I) E h = (start-right d D l Lost t T r R v (name k y) O I E g x, skips-other noKey k y g)
-    seat-right k y O g x nowhere E h = absurd (h (fullOf k) refl (full-condition D T k y E))
+    seat-right k y O g x nowhere E h = absurd (h (blameNone (fullOf k)) refl (full-condition D T k y E))
 
     seat-both : (k : Kind) (y : Key) → okName d (name k y) ≡ true → okName D (name k y) ≡ true → (a A : Found) → seat d t (name k y) ≡ a
         → seat D T (name k y) ≡ A → Tells (openedBy d k y a t) → Roomy (openedBy D k y A T) → After (openedBy d k y a t) (openedBy D k y A T)
     unfolding openedBy
     seat-both k y o O (at i) (at I) e E q h =
         (start-both d D l Lost t T r R v (name k y) o O i I e E, same-open k y (start-keeps d t r (name k y) o i e))
-    seat-both k y o O (at i) nowhere e E q h = absurd (h (fullOf k) refl (full-condition D T k y E))
+    seat-both k y o O (at i) nowhere e E q h = absurd (h (blameNone (fullOf k)) refl (full-condition D T k y E))
     seat-both k y o O nowhere A e E q h =
-        seat-right k y O (absent-gone d t (name k y) (full d t (name k y) e .0)) (q (fullOf k) refl (full-condition d t k y e) (name k y)) A E h
+        seat-right k y O (absent-gone d t (name k y) (full d t (name k y) e .0)) (q (blameNone (fullOf k)) refl (full-condition d t k y e) (name k y)) A E h
 
     module _ (s S : State) (h : Opens (keeps d t) s S) where
       -- ---- secondaries

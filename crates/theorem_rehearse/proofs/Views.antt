@@ -27,7 +27,7 @@ use Rattle.store.proofs.Start.{start-view}
 use Rattle.store.proofs.Edits.{edit-view}
 use Rattle.store.proofs.Patches.{part-zeros}
 use Rattle.load.specs.declared.Entry.{Entry}
-use Rattle.load.specs.declared.Entry.the-variants.{Level as LevelItem, Patch as PatchItem, Fault}
+use Rattle.load.specs.declared.Entry.the-variants.{Level as LevelItem, Patch as PatchItem, Faulty}
 use Rattle.load.specs.Item.{memory, done, allDone}
 use Rattle.load.specs.Fits.{AllFit}
 use Rattle.load.proofs.Read.{NoLevel}
@@ -180,7 +180,7 @@ levels-keep d n [] t r m = refl
 levels-keep d n (LevelItem channel v ∷ es) t r m =
     levels-keep d n es (edited d t n (Level channel v)) (level-ready d t r n channel v) m ∙ edit-keeps d t r n (Level channel v) tt m
 levels-keep d n (PatchItem channel dimmer v ∷ es) t r m = levels-keep d n es t r m
-levels-keep d n (Fault c x ∷ es) t r m = levels-keep d n es t r m
+levels-keep d n (Faulty x ∷ es) t r m = levels-keep d n es t r m
 
 -- ---- the relation, for all names, and the operations
 module _ (d D : Desk) (l : Larger d D) (Lost : Name → Type 0) where

@@ -16,7 +16,7 @@ use Rattle.store.specs.View.{memoryOf, patchedTo}
 use Rattle.store.specs.Change.{onPage, hits}
 use Rattle.store.specs.Good.{Ready}
 use Rattle.load.specs.declared.Entry.{Entry}
-use Rattle.load.specs.declared.Entry.the-variants.{Level, Patch, Fault}
+use Rattle.load.specs.declared.Entry.the-variants.{Level, Patch, Faulty}
 use Rattle.load.specs.declared.Open.the-variants.{Memory}
 use Rattle.load.specs.declared.Outcome.{Outcome}
 use Rattle.load.specs.declared.Outcome.the-variants.{Obeyed}
@@ -52,7 +52,7 @@ unfoldable pub patchesDimmer : List Entry → ℕ → Bool
 patchesDimmer [] q = false
 patchesDimmer (Level n v ∷ es) q = patchesDimmer es q
 patchesDimmer (Patch n k v ∷ es) q = eqb k q || patchesDimmer es q
-patchesDimmer (Fault c x ∷ es) q = patchesDimmer es q
+patchesDimmer (Faulty x ∷ es) q = patchesDimmer es q
 
 unfoldable pub wipesDimmers : List Wipe → ℕ → Bool
 wipesDimmers [] p = false

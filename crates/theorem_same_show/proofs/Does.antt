@@ -21,7 +21,7 @@ use Rattle.store_desk.proofs.Name.{ok-number, ok-sub, ok-supported, ok-within, 
 use Rattle.store_head.specs.declared.Patch.{Patch}
 use Rattle.text_fields.specs.declared.Keyword.{Keyword}
 use Rattle.text_fields.specs.declared.Keyword.the-variants as key
-use Rattle.text_fields.specs.Words.{Word}
+use Rattle.text_fields.specs.Words.{Word, headOf}
 use Rattle.text_fields.specs.Keywords.{keywordOf, meaningOf, keywordRows, sameWord, sameText, upper}
 use Rattle.value.specs.declared.Paged.{Paged}
 use Rattle.value.specs.declared.Numbered.{Numbered}
@@ -48,7 +48,7 @@ use Rattle.load.specs.declared.Named.the-variants.{Name as Accepted}
 use Rattle.load.specs.declared.Numeral.the-variants.{Number}
 use Rattle.load.specs.declared.Reading.the-variants.{Change}
 use Rattle.load.specs.Condition.{badChannel, badDimmer}
-use Rattle.load.specs.Item.{rangedOf, onRanged, onLevel, pairOf, tripleOf, pairsOf, triplesOf, faultsOf, memory, page, done, allDone}
+use Rattle.load.specs.Item.{rangedOf, dimmerOf, onRanged, onLevel, pairOf, tripleOf, pairsOf, triplesOf, faultsOf, memory, page, done, allDone}
 use Rattle.load.specs.Ask.{items, name, isOverLong, askOf, fieldsAsk, keywordAsk, namedAsk, primaryAsk, changeAsk, obeyedAsk, secondaryAsk, triplesAsk}
 use Rattle.load.specs.Step.{ended, opened, acted, recordStep, stepOf, ignoredIn}
 use Rattle.load.specs.Ask.{numberedBy, subBy, numeralOf, pageAt, namedBy, namedOf}
@@ -56,7 +56,7 @@ use Rattle.load.specs.Step.{openedBy}
 use Rattle.load.specs.Ask.{augments, onTime, delayOf, fadeOf, linkBy, timesOf}
 use Rattle.save_lines.specs.Line.{patchText, primaryText, delayText, Lit, pairsText}
 use Rattle.theorem_same_show.proofs.Fair.{Fair, fair-quiet}
-use Rattle.theorem_same_show.proofs.Spelled.{spelled, fields-of}
+use Rattle.theorem_same_show.proofs.Spelled.{word, spelled, fields-of}
 use Rattle.theorem_same_show.proofs.Worded.{Line, patch-line, kindWord, primary-line, delayWords, up-line, down-line, followon-line, link-line, pairWords, AllLit, chan-line}
 
 -- ---- a line is obeyed, and nothing is reported
@@ -69,7 +69,7 @@ module _ {l : List ℕ} {xs : List (List ℕ)} (w : Line l xs) where
   line-quiet : cond (isOverLong l) [] (ignoredIn l) ≡ []
   line-quiet = ap (λ (z : List ℕ). cond (isOverLong l) [] z) (fair-quiet l (w .fair)) ∙ cond-same (isOverLong l) []
 
-  line-step : (d : Desk) (s : State) (t : List ℕ) → (cs : List ℕ) × (recordStep d s l t ≡ stepOf d s (spelled xs cs) t)
+  line-step : (d : Desk) (s : State) (t : List ℕ) → (qs : List ℕ) × (recordStep d s l t ≡ stepOf d s (spelled xs qs) t)
   unfolding recordStep askOf
   line-step d s t =
       let f = fields-of l xs (w .fair) (w .words) in (
@@ -77,13 +77,18 @@ module _ {l : List ℕ} {xs : List (List ℕ)} (w : Line l xs) where
         ap (acted d s t) (cond-false (isOverLong l) _ _ (le-ltb 80 (length l) (w .short)) ∙ ap (λ (ws : List Word). fieldsAsk d s ws) (f .1)),
       )
 
-  -- a step of its fields, whatever their columns
-  does-of : (d : Desk) (s : State) (t : List ℕ) (s₁ : State) (t₁ : List ℕ) → ((cs : List ℕ) → stepOf d s (spelled xs cs) t ≡ ended s₁ Obeyed t₁) → Does d s t l s₁ t₁
+  -- a step of its fields, whatever their places
+  does-of : (d : Desk) (s : State) (t : List ℕ) (s₁ : State) (t₁ : List ℕ) → ((qs : List ℕ) → stepOf d s (spelled xs qs) t ≡ ended s₁ Obeyed t₁) → Does d s t l s₁ t₁
   does-of d s t s₁ t₁ f =
       let g = line-step d s t in
       record { fair = w .fair; quiet = line-quiet; step = g .1 ∙ f (g .0) }
 
 -- ---- keywords
+keyed : (d : Desk) (s : State) (t x : List ℕ) (xs : List (List ℕ)) (qs : List ℕ) {k : Keyword} → keywordOf x ≡ k
+    → stepOf d s (spelled (x ∷ xs) qs) t ≡ acted d s t (keywordAsk d s k (word x (getD qs 0 0)) (spelled xs (drop 1 qs)))
+unfolding fieldsAsk spelled
+keyed d s t x xs qs e = ap (λ (k : Keyword). acted d s t (keywordAsk d s k (word x (getD qs 0 0)) (spelled xs (drop 1 qs)))) e
+
 kindKeyword : Kind → Keyword
 kindKeyword Cue = key.Cue
 kindKeyword Group = key.Group
@@ -95,35 +100,35 @@ kind-keyword Cue = refl
 kind-keyword Group = refl
 kind-keyword Sub = refl
 
-kind-ask : (d : Desk) (s : State) (k : Kind) (ws : List Word) → keywordAsk d s (kindKeyword k) ws ≡ primaryAsk d k ws
+kind-ask : (d : Desk) (s : State) (k : Kind) (w : Word) (ws : List Word) → keywordAsk d s (kindKeyword k) w ws ≡ primaryAsk d k w ws
 unfolding kindKeyword keywordAsk
-kind-ask d s Cue ws = refl
-kind-ask d s Group ws = refl
-kind-ask d s Sub ws = refl
+kind-ask d s Cue w ws = refl
+kind-ask d s Group w ws = refl
+kind-ask d s Sub w ws = refl
 
 -- ---- the primaries
 module _ (d : Desk) (r : InRange d) where
-  sub-numeral : (w f : ℕ) → Within 1 w (d .subs) → f ≡ 0 → subBy d (integerOf (numberText w f)) ≡ Number w f
+  sub-numeral : (v : Word) (w f : ℕ) → Within 1 w (d .subs) → f ≡ 0 → subBy d v (integerOf (numberText w f)) ≡ Number w f
   unfolding subBy
-  sub-numeral w f h e =
+  sub-numeral v w f h e =
       let l : w ≤ cap = omega (arith, r .subs .1) in
-      ap (λ (x : List ℕ). subBy d (integerOf x)) (number-text-none w f e)
-      ∙ ap (subBy d) (integer-read w l)
+      ap (λ (x : List ℕ). subBy d v (integerOf x)) (number-text-none w f e)
+      ∙ ap (subBy d v) (integer-read w l)
       ∙ cond-true (isWithin 1 w (d .subs)) _ _ (within-true 1 w (d .subs) h)
       ∙ ap (λ (z : ℕ). Number w z) (sym e)
 
   numeral-of : (k : Kind) (key : Key) (c : ℕ) → okWithin d k key ≡ true
-      → numeralOf d k (record { chars = numberText (key .whole) (key .fraction); column = c }) ≡ Number (key .whole) (key .fraction)
+      → numeralOf d k (word (numberText (key .whole) (key .fraction)) c) ≡ Number (key .whole) (key .fraction)
   unfolding numeralOf numberedBy okWithin
   numeral-of Cue key c o =
       let n = ok-number (key .whole) (key .fraction) o in
-      ap numberedBy (number-read (key .whole) (key .fraction) (n .1) (n .2) (λ e. omega (arith, n .0)))
+      ap (numberedBy _) (number-read (key .whole) (key .fraction) (n .1) (n .2) (λ e. omega (arith, n .0)))
   numeral-of Group key c o =
       let n = ok-number (key .whole) (key .fraction) o in
-      ap numberedBy (number-read (key .whole) (key .fraction) (n .1) (n .2) (λ e. omega (arith, n .0)))
+      ap (numberedBy _) (number-read (key .whole) (key .fraction) (n .1) (n .2) (λ e. omega (arith, n .0)))
   numeral-of Sub key c o =
       let n = ok-sub d (key .whole) (key .fraction) o in
-      sub-numeral (key .whole) (key .fraction) (n .0) (n .1)
+      sub-numeral _ (key .whole) (key .fraction) (n .0) (n .1)
 
   whole-fits : (k : Kind) (key : Key) → okWithin d k key ≡ true → key .whole ≤ wholeMax
   unfolding okWithin
@@ -132,27 +137,28 @@ module _ (d : Desk) (r : InRange d) where
   whole-fits Sub key o = let n = ok-sub d (key .whole) (key .fraction) o in omega (arith, r .subs .1, n .0)
 
   module _ (k : Kind) (y : Key) (o : okName d (name k y) ≡ true) where
-    named-of : (cs : List ℕ) → namedOf d k (spelled (numberText (y .whole) (y .fraction) ∷ integerText (y .page) ∷ []) cs) ≡ Accepted y
+    named-of : (qs : List ℕ) → namedOf d k (spelled (numberText (y .whole) (y .fraction) ∷ integerText (y .page) ∷ []) qs) ≡ Accepted y
     unfolding namedOf namedBy pageAt spelled
-    named-of cs =
+    named-of qs =
         let p = ok-page d (name k y) o in
         let f = ok-fits d (name k y) r o in
         let l : y .page ≤ cap = omega (arith, f .page) in
         (λ i.
-        namedBy (numeral-of k y (getD cs 0 0) (ok-within d (name k y) o) i)
+        namedBy (numeral-of k y (getD qs 0 0) (ok-within d (name k y) o) i) (word (integerText (y .page)) (getD (drop 1 qs) 0 0))
         (page-read (pagesOf d k) (y .page) (p .0) (p .1) l i))
 
-    primary-step : (s : State) (t : List ℕ) (i : ℕ) → seat d t (name k y) ≡ at i → (cs : List ℕ)
-        → stepOf d s (spelled (kindWord k ∷ numberText (y .whole) (y .fraction) ∷ integerText (y .page) ∷ []) cs) t
+    primary-step : (s : State) (t : List ℕ) (i : ℕ) → seat d t (name k y) ≡ at i → (qs : List ℕ)
+        → stepOf d s (spelled (kindWord k ∷ numberText (y .whole) (y .fraction) ∷ integerText (y .page) ∷ []) qs) t
         ≡ ended (opened k y) Obeyed (started d t (name k y))
-    unfolding fieldsAsk spelled primaryAsk namedAsk acted openedBy
-    primary-step s t i e cs =
-        let ws : List Word = spelled (numberText (y .whole) (y .fraction) ∷ integerText (y .page) ∷ []) (drop 1 cs) in
-        ap (acted d s t)
-        (ap (λ (c : Keyword). keywordAsk d s c ws) (kind-keyword k)
-        ∙ kind-ask d s k ws
+    unfolding primaryAsk namedAsk acted openedBy
+    primary-step s t i e qs =
+        let xs : List (List ℕ) = numberText (y .whole) (y .fraction) ∷ integerText (y .page) ∷ [] in
+        let ws : List Word = spelled xs (drop 1 qs) in
+        keyed d s t (kindWord k) xs qs (kind-keyword k)
+        ∙ ap (acted d s t)
+        (kind-ask d s k (word (kindWord k) (getD qs 0 0)) ws
         ∙ cond-true (supported d k) (namedAsk k (namedOf d k ws)) _ (ok-supported d (name k y) o)
-        ∙ ap (namedAsk k) (named-of (drop 1 cs)))
+        ∙ ap (namedAsk k) (named-of (drop 1 qs)))
         ∙ ap (λ (f : Found). openedBy d k y f t) e
 
     pub primary-does : (s : State) (t : List ℕ) (i : ℕ) → seat d t (name k y) ≡ at i
@@ -163,19 +169,20 @@ module _ (d : Desk) (r : InRange d) where
         d s t (opened k y) (started d t (name k y)) (primary-step s t i e)
 
 -- ---- UP, DOWN, FOLLOWON, LINK
-delay-of : (delay : ℕ) → delay ≤ timeMax → (cs : List ℕ) → delayOf (spelled (delayWords delay) cs) ≡ IsTime delay
+delay-of : (delay : ℕ) → delay ≤ timeMax → (qs : List ℕ) → delayOf (spelled (delayWords delay) qs) ≡ IsTime delay
 unfolding delayOf delayWords spelled
-delay-of delay h cs =
+delay-of delay h qs =
     by-eq delay 0
     (λ e. rw (eq-eqb delay 0 e) (ap IsTime (sym e)))
     (λ e. rw (ne-eqb delay 0 e) (time-read delay h))
 
-fade-of : (f : ℕ → ℕ → Edit) (fade delay : ℕ) → fade ≤ timeMax → delay ≤ timeMax → (cs : List ℕ)
-    → fadeOf f (spelled (timeText fade ∷ delayWords delay) cs) ≡ Change (f fade delay)
+fade-of : (f : ℕ → ℕ → Edit) (fade delay : ℕ) → fade ≤ timeMax → delay ≤ timeMax → (qs : List ℕ)
+    → fadeOf f (spelled (timeText fade ∷ delayWords delay) qs) ≡ Change (f fade delay)
 unfolding fadeOf spelled onTime
-fade-of f fade delay hf hd cs =
-    ap (λ (x : Timed). onTime x (λ a. onTime (delayOf (spelled (delayWords delay) (drop 1 cs))) (λ b. Change (f a b)))) (time-read fade hf)
-    ∙ ap (λ (x : Timed). onTime x (λ b. Change (f fade b))) (delay-of delay hd (drop 1 cs))
+fade-of f fade delay hf hd qs =
+    let ws : List Word = spelled (delayWords delay) (drop 1 qs) in
+    ap (λ (x : Timed). onTime (word (timeText fade) (getD qs 0 0)) x (λ a. onTime (headOf ws) (delayOf ws) (λ b. Change (f a b)))) (time-read fade hf)
+    ∙ ap (λ (x : Timed). onTime (headOf ws) x (λ b. Change (f fade b))) (delay-of delay hd (drop 1 qs))
 
 -- the keywords of the secondaries, of PATCH
 keyword-up : keywordOf (bytes "UP") ≡ key.Up
@@ -230,27 +237,30 @@ module _ (d : Desk) (r : InRange d) where
       ap (rangedOf (d .dimmers) badDimmer) (integer-read n l) ∙ cond-true (isWithin 1 n (d .dimmers)) _ _ (within-true 1 n (d .dimmers) h)
 
   pair-of : (n v a b : ℕ) → Within 1 n (d .channels) → v < 256
-      → pairOf d (record { chars = integerText n; column = a }) (record { chars = levelText v; column = b }) ≡ LevelOf n v
+      → pairOf d (word (integerText n) a) (word (levelText v) b) ≡ LevelOf n v
   unfolding pairOf onRanged onLevel
   pair-of n v a b hn hv =
-      ap (λ (x : Ranged). onRanged x a (λ c. onLevel (levelOf (levelText v)) b (λ u. LevelOf c u))) (channel-of n hn)
-      ∙ ap (λ (x : Leveled). onLevel x b (λ u. LevelOf n u)) (level-read v hv)
+      let l : Word = word (levelText v) b in
+      ap (λ (x : Ranged). onRanged (word (integerText n) a) x (λ c. onLevel l (levelOf (levelText v)) (λ u. LevelOf c u))) (channel-of n hn)
+      ∙ ap (λ (x : Leveled). onLevel l x (λ u. LevelOf n u)) (level-read v hv)
 
-  pairs-of : (ps : List Lit) → AllLit d ps → (cs : List ℕ) → pairsOf d (spelled (pairWords ps) cs) ≡ litEntries ps
+  pairs-of : (ps : List Lit) → AllLit d ps → (qs : List ℕ) → pairsOf d (spelled (pairWords ps) qs) ≡ litEntries ps
   unfolding pairsOf spelled pairWords litEntries
-  pairs-of [] a cs = refl
-  pairs-of (p ∷ ps) a cs =
+  pairs-of [] a qs = refl
+  pairs-of (p ∷ ps) a qs =
       (λ i.
-      pair-of (p .channel) (p .level) (getD cs 0 0) (getD (drop 1 cs) 0 0) (a .0) (a .1) i
-      ∷ pairs-of ps (a .2) (drop 1 (drop 1 cs)) i)
+      pair-of (p .channel) (p .level) (getD qs 0 0) (getD (drop 1 qs) 0 0) (a .0) (a .1) i
+      ∷ pairs-of ps (a .2) (drop 1 (drop 1 qs)) i)
 
   triple-of : (c m v a b e : ℕ) → Within 1 c (d .channels) → Within 1 m (d .dimmers) → v < 256
-      → tripleOf d (record { chars = integerText c; column = a }) (record { chars = integerText m; column = b }) (record { chars = levelText v; column = e }) ≡ PatchOf c m v
+      → tripleOf d (word (integerText c) a) (word (integerText m) b) (word (levelText v) e) ≡ PatchOf c m v
   unfolding tripleOf onRanged onLevel
   triple-of c m v a b e hc hm hv =
-      ap (λ (x : Ranged). onRanged x a (λ n. onRanged (rangedOf (d .dimmers) badDimmer (integerOf (integerText m))) b (λ k. onLevel (levelOf (levelText v)) e (λ u. PatchOf n k u)))) (channel-of c hc)
-      ∙ ap (λ (x : Ranged). onRanged x b (λ k. onLevel (levelOf (levelText v)) e (λ u. PatchOf c k u))) (dimmer-of m hm)
-      ∙ ap (λ (x : Leveled). onLevel x e (λ u. PatchOf c m u)) (level-read v hv)
+      let y : Word = word (integerText m) b in
+      let l : Word = word (levelText v) e in
+      ap (λ (x : Ranged). onRanged (word (integerText c) a) x (λ n. onRanged y (dimmerOf d y) (λ k. onLevel l (levelOf (levelText v)) (λ u. PatchOf n k u)))) (channel-of c hc)
+      ∙ ap (λ (x : Ranged). onRanged y x (λ k. onLevel l (levelOf (levelText v)) (λ u. PatchOf c k u))) (dimmer-of m hm)
+      ∙ ap (λ (x : Leveled). onLevel l x (λ u. PatchOf c m u)) (level-read v hv)
 
   -- ---- PATCH
   pub patch-does : (s : State) (t : List ℕ) (p m : ℕ) (x : Patch) → Within 1 p (d .«patch_pages») → Within 1 m (d .dimmers) → Within 1 (x .channel) (d .channels)
@@ -259,20 +269,21 @@ module _ (d : Desk) (r : InRange d) where
       let a : p < 1000 = omega (arith, r .patchPages .1) in
       let b : m < 1000 = omega (arith, r .dimmers .1) in
       let c : x .channel < 1000 = omega (arith, r .channels .1) in
-      does-of (patch-line p m x a b c) d s t s (patched d t p m (x .channel) (x .level)) (λ cs. patch-step cs)
+      does-of (patch-line p m x a b c) d s t s (patched d t p m (x .channel) (x .level)) (λ qs. patch-step qs)
     where
-      patch-step : (cs : List ℕ)
-          → stepOf d s (spelled (bytes "PATCH" ∷ integerText p ∷ integerText (x .channel) ∷ integerText m ∷ levelText (x .level) ∷ []) cs) t
+      patch-step : (qs : List ℕ)
+          → stepOf d s (spelled (bytes "PATCH" ∷ integerText p ∷ integerText (x .channel) ∷ integerText m ∷ levelText (x .level) ∷ []) qs) t
           ≡ ended s Obeyed (patched d t p m (x .channel) (x .level))
-      patch-step cs =
-          unfold fieldsAsk keywordAsk spelled triplesOf triplesAsk faultsOf allDone done acted in
+      patch-step qs =
+          unfold keywordAsk spelled triplesOf triplesAsk faultsOf allDone done acted in
           (let l : p ≤ cap = omega (arith, r .patchPages .1) in
-          let ws : List Word = spelled (integerText (x .channel) ∷ integerText m ∷ levelText (x .level) ∷ []) (drop 1 (drop 1 cs)) in
-          ap (acted d s t)
-          (ap (λ (c : Keyword). keywordAsk d s c (spelled (integerText p ∷ integerText (x .channel) ∷ integerText m ∷ levelText (x .level) ∷ []) (drop 1 cs))) keyword-patch
-          ∙ ap (λ (g : Paged). triplesAsk d g ws) (page-read (d .«patch_pages») p (hp .0) (hp .1) l)
+          let xs : List (List ℕ) = integerText (x .channel) ∷ integerText m ∷ levelText (x .level) ∷ [] in
+          let ws : List Word = spelled xs (drop 1 (drop 1 qs)) in
+          keyed d s t (bytes "PATCH") (integerText p ∷ xs) qs keyword-patch
+          ∙ ap (acted d s t)
+          (ap (λ (g : Paged). triplesAsk d (word (integerText p) (getD (drop 1 qs) 0 0)) g ws) (page-read (d .«patch_pages») p (hp .0) (hp .1) l)
           ∙ ap (λ (e : Entry). items (page p) (e ∷ []))
-          (triple-of (x .channel) m (x .level) (getD (drop 1 (drop 1 cs)) 0 0) (getD (drop 1 (drop 1 (drop 1 cs))) 0 0) (getD (drop 1 (drop 1 (drop 1 (drop 1 cs)))) 0 0) hc hm hv)))
+          (triple-of (x .channel) m (x .level) (getD (drop 1 (drop 1 qs)) 0 0) (getD (drop 1 (drop 1 (drop 1 qs))) 0 0) (getD (drop 1 (drop 1 (drop 1 (drop 1 qs)))) 0 0) hc hm hv)))
 
 -- ---- the secondaries, of the open memory
 lit-faults : (ps : List Lit) → faultsOf (litEntries ps) ≡ []
@@ -290,63 +301,63 @@ module _ (d : Desk) (k : Kind) (y : Key) (t : List ℕ) where
   now = opened k y
 
   module _ (fade delay : ℕ) (hf : fade ≤ timeMax) (hd : delay ≤ timeMax) (h : hasTimes k ≡ true) where
-    up-step : (cs : List ℕ) → stepOf d now (spelled (bytes "UP" ∷ timeText fade ∷ delayWords delay) cs) t ≡ ended now Obeyed (edited d t (name k y) (Up fade delay))
-    unfolding fieldsAsk keywordAsk spelled secondaryAsk obeyedAsk augments timesOf changeAsk acted
-    up-step cs =
-        let ws : List Word = spelled (timeText fade ∷ delayWords delay) (drop 1 cs) in
-        ap (acted d now t)
-        (ap (λ (c : Keyword). keywordAsk d now c ws) keyword-up
-        ∙ cond-true (hasTimes k) _ _ h
-        ∙ ap (changeAsk (name k y)) (fade-of (λ a b. Up a b) fade delay hf hd (drop 1 cs)))
+    up-step : (qs : List ℕ) → stepOf d now (spelled (bytes "UP" ∷ timeText fade ∷ delayWords delay) qs) t ≡ ended now Obeyed (edited d t (name k y) (Up fade delay))
+    unfolding keywordAsk secondaryAsk obeyedAsk augments timesOf changeAsk acted
+    up-step qs =
+        keyed d now t (bytes "UP") (timeText fade ∷ delayWords delay) qs keyword-up
+        ∙ ap (acted d now t)
+        (cond-true (hasTimes k) _ _ h
+        ∙ ap (changeAsk (name k y)) (fade-of (λ a b. Up a b) fade delay hf hd (drop 1 qs)))
 
     pub up-does : Does d now t (bytes "UP " ++ (timeText fade ++ delayText delay)) now (edited d t (name k y) (Up fade delay))
     up-does = does-of (up-line fade delay hf hd) d now t now (edited d t (name k y) (Up fade delay)) up-step
 
-    down-step : (cs : List ℕ) → stepOf d now (spelled (bytes "DOWN" ∷ timeText fade ∷ delayWords delay) cs) t ≡ ended now Obeyed (edited d t (name k y) (Down fade delay))
-    unfolding fieldsAsk keywordAsk spelled secondaryAsk obeyedAsk augments timesOf changeAsk acted
-    down-step cs =
-        let ws : List Word = spelled (timeText fade ∷ delayWords delay) (drop 1 cs) in
-        ap (acted d now t)
-        (ap (λ (c : Keyword). keywordAsk d now c ws) keyword-down
-        ∙ cond-true (hasTimes k) _ _ h
-        ∙ ap (changeAsk (name k y)) (fade-of (λ a b. Down a b) fade delay hf hd (drop 1 cs)))
+    down-step : (qs : List ℕ) → stepOf d now (spelled (bytes "DOWN" ∷ timeText fade ∷ delayWords delay) qs) t ≡ ended now Obeyed (edited d t (name k y) (Down fade delay))
+    unfolding keywordAsk secondaryAsk obeyedAsk augments timesOf changeAsk acted
+    down-step qs =
+        keyed d now t (bytes "DOWN") (timeText fade ∷ delayWords delay) qs keyword-down
+        ∙ ap (acted d now t)
+        (cond-true (hasTimes k) _ _ h
+        ∙ ap (changeAsk (name k y)) (fade-of (λ a b. Down a b) fade delay hf hd (drop 1 qs)))
 
     pub down-does : Does d now t (bytes "DOWN " ++ (timeText fade ++ delayText delay)) now (edited d t (name k y) (Down fade delay))
     down-does = does-of (down-line fade delay hf hd) d now t now (edited d t (name k y) (Down fade delay)) down-step
 
   module _ (h : hasLink k ≡ true) where
     module _ (time : ℕ) (l : time ≤ timeMax) where
-      followon-step : (cs : List ℕ) → stepOf d now (spelled (bytes "FOLLOWON" ∷ timeText time ∷ delayWords 0) cs) t ≡ ended now Obeyed (edited d t (name k y) (Followon time))
-      unfolding fieldsAsk keywordAsk spelled secondaryAsk obeyedAsk augments timesOf changeAsk acted onTime
-      followon-step cs =
-          ap (acted d now t)
-          (ap (λ (c : Keyword). keywordAsk d now c (spelled (timeText time ∷ delayWords 0) (drop 1 cs))) keyword-followon
-          ∙ cond-true (hasLink k) _ _ h
-          ∙ ap (λ (x : Timed). changeAsk (name k y) (onTime x (λ a. Change (Followon a)))) (time-read time l))
+      followon-step : (qs : List ℕ) → stepOf d now (spelled (bytes "FOLLOWON" ∷ timeText time ∷ delayWords 0) qs) t ≡ ended now Obeyed (edited d t (name k y) (Followon time))
+      unfolding keywordAsk spelled secondaryAsk obeyedAsk augments timesOf changeAsk acted onTime
+      followon-step qs =
+          let w : Word = word (timeText time) (getD (drop 1 qs) 0 0) in
+          keyed d now t (bytes "FOLLOWON") (timeText time ∷ delayWords 0) qs keyword-followon
+          ∙ ap (acted d now t)
+          (cond-true (hasLink k) _ _ h
+          ∙ ap (λ (x : Timed). changeAsk (name k y) (onTime w x (λ a. Change (Followon a)))) (time-read time l))
 
       pub followon-does : Does d now t (bytes "FOLLOWON " ++ (timeText time ++ delayText 0)) now (edited d t (name k y) (Followon time))
       followon-does = does-of (followon-line time 0 l (omega arith)) d now t now (edited d t (name k y) (Followon time)) followon-step
 
     module _ (whole fraction : ℕ) (o : okNumber whole fraction ≡ true) where
-      link-step : (cs : List ℕ) → stepOf d now (spelled (bytes "LINK" ∷ numberText whole fraction ∷ []) cs) t ≡ ended now Obeyed (edited d t (name k y) (Link whole fraction))
-      unfolding fieldsAsk keywordAsk spelled secondaryAsk obeyedAsk augments timesOf changeAsk acted linkBy numberedBy
-      link-step cs =
+      link-step : (qs : List ℕ) → stepOf d now (spelled (bytes "LINK" ∷ numberText whole fraction ∷ []) qs) t ≡ ended now Obeyed (edited d t (name k y) (Link whole fraction))
+      unfolding keywordAsk spelled secondaryAsk obeyedAsk augments timesOf changeAsk acted linkBy numberedBy
+      link-step qs =
           let n = ok-number whole fraction o in
-          ap (acted d now t)
-          (ap (λ (c : Keyword). keywordAsk d now c (spelled (numberText whole fraction ∷ []) (drop 1 cs))) keyword-link
-          ∙ cond-true (hasLink k) _ _ h
-          ∙ ap (λ (x : Numbered). changeAsk (name k y) (linkBy (numberedBy x))) (number-read whole fraction (n .1) (n .2) (λ e. omega (arith, n .0))))
+          let w : Word = word (numberText whole fraction) (getD (drop 1 qs) 0 0) in
+          keyed d now t (bytes "LINK") (numberText whole fraction ∷ []) qs keyword-link
+          ∙ ap (acted d now t)
+          (cond-true (hasLink k) _ _ h
+          ∙ ap (λ (x : Numbered). changeAsk (name k y) (linkBy (numberedBy w x))) (number-read whole fraction (n .1) (n .2) (λ e. omega (arith, n .0))))
 
       pub link-does : Does d now t (bytes "LINK " ++ numberText whole fraction) now (edited d t (name k y) (Link whole fraction))
       link-does = does-of (link-line whole fraction (ok-number whole fraction o .1)) d now t now (edited d t (name k y) (Link whole fraction)) link-step
 
   module _ (r : InRange d) (ps : List Lit) (a : AllLit d ps) where
-    chan-step : (cs : List ℕ) → stepOf d now (spelled (bytes "CHAN" ∷ pairWords ps) cs) t ≡ ended now Obeyed (editedAll d t (name k y) (litEdits ps))
-    unfolding fieldsAsk keywordAsk spelled secondaryAsk obeyedAsk augments acted
-    chan-step cs =
-        ap (acted d now t)
-        (ap (λ (c : Keyword). keywordAsk d now c (spelled (pairWords ps) (drop 1 cs))) keyword-chan
-        ∙ ap (λ (es : List Entry). items (memory (name k y)) es) (pairs-of d r ps a (drop 1 cs)))
+    chan-step : (qs : List ℕ) → stepOf d now (spelled (bytes "CHAN" ∷ pairWords ps) qs) t ≡ ended now Obeyed (editedAll d t (name k y) (litEdits ps))
+    unfolding keywordAsk secondaryAsk obeyedAsk augments acted
+    chan-step qs =
+        keyed d now t (bytes "CHAN") (pairWords ps) qs keyword-chan
+        ∙ ap (acted d now t)
+        (ap (λ (es : List Entry). items (memory (name k y)) es) (pairs-of d r ps a (drop 1 qs)))
         ∙ (λ i. record { state = now; outcome = Obeyed; faults = lit-faults ps i; store = lit-done d (name k y) ps t i })
 
     pub chan-does : length ps ≤ 8 → Does d now t (bytes "CHAN" ++ pairsText ps) now (editedAll d t (name k y) (litEdits ps))

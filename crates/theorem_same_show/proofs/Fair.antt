@@ -13,7 +13,7 @@ use Rattle.cells.specs.Scan.{span}
 use Rattle.cells.proofs.Split.{by-bool, cond-true, cond-false, and-true, and-left, and-right, or-false, clash, not-of-false}
 use Rattle.cells.proofs.Scan.{span-hit, span-miss, span-upto, span-all, all-below}
 use Rattle.text_records.specs.Stream.{isEnd, isText, terminated, recordEnd, nextStart, recordsOf}
-use Rattle.text_records.specs.Cleaning.{isHigh, isControl, isMark, keptFrom, keptOf, has, chars}
+use Rattle.text_records.specs.Cleaning.{isHigh, isControl, isMark, keptOf, has}
 use Rattle.text_records.proofs.Stream.{records-at, records-end}
 use Rattle.value_written.specs.Text.{isPlain}
 use Rattle.value_written.proofs.Texts.{by-plain, plain-in}
@@ -98,20 +98,15 @@ pub fair-quiet : (l : List ℕ) → Fair l → ignoredIn l ≡ []
 unfolding ignoredIn
 fair-quiet l e = rw (none-of isHigh fair-high l e, none-of isControl fair-control l e)
 
-kept-from : (column : ℕ) (s : List ℕ) → Fair s → chars (keptFrom column s) ≡ s
-unfolding keptFrom
-kept-from column [] e = refl
-kept-from column (c ∷ s) e =
-    let r = keptFrom (column + 1) s in
+pub fair-kept : (l : List ℕ) → Fair l → keptOf l ≡ l
+unfolding keptOf
+fair-kept [] e = refl
+fair-kept (c ∷ s) e =
+    let r : List ℕ = keptOf s in
     let g : isFair c ≡ true = fair-head c s e in
-    ap chars
-    (cond-false (isMark c) [] (cond (isHigh c || isControl c) r (record { char = c; column = column } ∷ r)) (fair-mark c g)
-    ∙ cond-false (isHigh c || isControl c) r (record { char = c; column = column } ∷ r)
-    (or-false (isHigh c) (isControl c) (fair-high c g) (fair-control c g)))
-    ∙ ap (λ (z : List ℕ). c ∷ z) (kept-from (column + 1) s (fair-tail c s e))
-
-pub fair-kept : (l : List ℕ) → Fair l → chars (keptOf l) ≡ l
-fair-kept l e = kept-from 1 l e
+    cond-false (isMark c) [] (cond (isHigh c || isControl c) r (c ∷ r)) (fair-mark c g)
+    ∙ cond-false (isHigh c || isControl c) r (c ∷ r) (or-false (isHigh c) (isControl c) (fair-high c g) (fair-control c g))
+    ∙ ap (λ (z : List ℕ). c ∷ z) (fair-kept s (fair-tail c s e))
 
 -- ---- records of joined lines
 abbrev pub AllFair : List (List ℕ) → Type 0

@@ -8,37 +8,42 @@ use lib.ListN.{length, replicate}
 use Rattle.cells.specs.Text.{bytes}
 use Rattle.cells.specs.Scan.{span}
 use Rattle.store_desk.specs.declared.Desk.{Desk}
-use Rattle.text_records.specs.Cleaning.{isHigh, isControl, isMark, has, keptFrom}
+use Rattle.text_records.specs.Cleaning.{isHigh, isControl, isMark, has, keptOf}
 use Rattle.text_fields.specs.Words.{isDelimiter, wordsIn, wordsOf, fieldsOf}
 use Rattle.text_fields.specs.Keywords.{keywordOf, itemOf, itemRows, meaningOf, keywordRows, sameWord, sameText, upper}
 use Rattle.value.specs.Integer.{digitOf, digitsFrom, runOf, integerOf}
 use Rattle.value.specs.Parts.{cutAt}
 use Rattle.value.specs.Field.{versionedOf, versionOf}
 use Rattle.load.specs.declared.State.{State}
+use Rattle.load.specs.declared.Outcome.{Outcome}
 use Rattle.load.specs.declared.Outcome.the-variants.{Obeyed, Stopped}
+use Rattle.load.specs.Item.{blameNone}
 use Rattle.store.specs.Change.{everyPage}
 use Rattle.load.specs.Ask.{pageAt, pagedAsk, allWipes, itemAsk, identOutcome, keywordAsk, fieldsAsk, askOf}
 use Rattle.load.proofs.Tables.{all-ask}
-use Rattle.load.specs.Step.{Step, ended, nothingOpen, acted, wiped, recordStep, settleBy, ignoredIn, conditionsOf, outcomeReports}
+use Rattle.load.specs.Step.{Step, ended, nothingOpen, acted, wiped, recordStep, settleBy, ignoredIn, conditionsOf, outcomeReports, faultReports}
 use Rattle.load.specs.Run.{reportsAt, stops, Run, only, andThen, runFrom, allReports, blank, passed, dropped, obeyed, classOf, eqClass, tallyOf, lastOf, closingOf, totalsOf}
 use Rattle.theorem_same_show.proofs.Fair.{isFair, Fair, AllFair}
 use Rattle.theorem_same_show.proofs.Does.{Does}
 
 -- ---- the lines that are always the same
 pub ident-does : (d : Desk) (s : State) (t : List ℕ) → Does d s t (bytes "IDENT 3:0") s t
-unfolding recordStep askOf acted fieldsAsk keywordAsk identOutcome fieldsOf wordsOf wordsIn isDelimiter span has keptFrom isHigh isControl isMark keywordOf meaningOf keywordRows sameWord sameText upper versionOf versionedOf integerOf runOf digitsFrom digitOf cutAt ignoredIn isFair
+unfolding recordStep askOf acted fieldsAsk keywordAsk identOutcome fieldsOf wordsOf wordsIn isDelimiter span has keptOf isHigh isControl isMark keywordOf meaningOf keywordRows sameWord sameText upper versionOf versionedOf integerOf runOf digitsFrom digitOf cutAt ignoredIn isFair
 ident-does d s t = record { fair = refl; quiet = refl; step = refl }
 
 pub clear-does : (d : Desk) (t : List ℕ) → Does d nothingOpen t (bytes "CLEAR ALL") nothingOpen (wiped d (allWipes d everyPage) t)
-unfolding recordStep askOf acted fieldsAsk keywordAsk itemAsk pagedAsk pageAt settleBy fieldsOf wordsOf wordsIn isDelimiter span has keptFrom isHigh isControl isMark keywordOf meaningOf keywordRows sameWord sameText upper itemOf itemRows ignoredIn isFair
+unfolding recordStep askOf acted fieldsAsk keywordAsk itemAsk pagedAsk pageAt settleBy fieldsOf wordsOf wordsIn isDelimiter span has keptOf isHigh isControl isMark keywordOf meaningOf keywordRows sameWord sameText upper itemOf itemRows ignoredIn isFair
 clear-does d t = record { fair = refl; quiet = refl; step = ap (acted d nothingOpen t) (all-ask d []) }
 
-end-step : (d : Desk) (s : State) (t : List ℕ) → recordStep d s (bytes "ENDDATA") t ≡ ended s (Stopped 0) t
-unfolding recordStep askOf acted fieldsAsk keywordAsk fieldsOf wordsOf wordsIn isDelimiter span has keptFrom isHigh isControl isMark keywordOf meaningOf keywordRows sameWord sameText upper
+abbrev endData : Outcome
+endData = Stopped (blameNone 0)
+
+end-step : (d : Desk) (s : State) (t : List ℕ) → recordStep d s (bytes "ENDDATA") t ≡ ended s endData t
+unfolding recordStep askOf acted fieldsAsk keywordAsk fieldsOf wordsOf wordsIn isDelimiter span has keptOf isHigh isControl isMark keywordOf meaningOf keywordRows sameWord sameText upper
 end-step d s t = refl
 
-end-quiet : (s : State) (t : List ℕ) → conditionsOf (bytes "ENDDATA") (ended s (Stopped 0) t) ≡ []
-unfolding conditionsOf outcomeReports ignoredIn has isHigh isControl
+end-quiet : (s : State) (t : List ℕ) → conditionsOf (bytes "ENDDATA") (ended s endData t) ≡ []
+unfolding conditionsOf outcomeReports faultReports ignoredIn has isHigh isControl
 end-quiet s t = refl
 
 end-fair : Fair (bytes "ENDDATA")
@@ -64,17 +69,17 @@ runs-fair (next x f) = (x .fair, runs-fair f)
 
 -- ---- what it comes to
 unfoldable pub obeyedRun : ℕ → State → List ℕ → Run
-obeyedRun n s t = record { state = s; store = t; stopped = true; outcomes = replicate n Obeyed ++ (Stopped 0 ∷ []); reports = [] }
+obeyedRun n s t = record { state = s; store = t; stopped = true; outcomes = replicate n Obeyed ++ (endData ∷ []); reports = [] }
 
 end-run : (d : Desk) (n : ℕ) (s : State) (t : List ℕ) → runFrom d n s t (bytes "ENDDATA" ∷ []) ≡ obeyedRun 0 s t
 unfolding runFrom obeyedRun stops
 end-run d n s t =
     ap (λ (x : Step). cond (stops (x .outcome)) (only (n + 1) (bytes "ENDDATA") x) (andThen (n + 1) (bytes "ENDDATA") x (runFrom d (n + 1) (x .state) (x .store) [])))
     (end-step d s t)
-    ∙ ap (λ (c : List ℕ). record { state = s; store = t; stopped = true; outcomes = Stopped 0 ∷ []; reports = reportsAt (n + 1) c }) (end-quiet s t)
+    ∙ ap (λ (c : List ℕ). record { state = s; store = t; stopped = true; outcomes = endData ∷ []; reports = reportsAt (n + 1) c }) (end-quiet s t)
 
 does-quiet : {d : Desk} {s s₁ : State} {t t₁ l : List ℕ} → Does d s t l s₁ t₁ → conditionsOf l (ended s₁ Obeyed t₁) ≡ []
-unfolding conditionsOf outcomeReports
+unfolding conditionsOf outcomeReports faultReports
 does-quiet {d} {s} {s₁} {t} {t₁} {l} x = ap (λ (z : List ℕ). z ++ []) (x .quiet)
 
 pub runs-end : {d : Desk} {s s₁ : State} {t t₁ : List ℕ} {ls : List (List ℕ)} → Runs d s t ls s₁ t₁ → (n : ℕ)
@@ -89,22 +94,22 @@ runs-end {d} (next {s = s} {s₁ = s₁} {s₂ = s₂} {t = t} {t₁ = t₁} {t�
     ∙ ap (λ (z : Run). record { state = z .state; store = z .store; stopped = z .stopped; outcomes = Obeyed ∷ z .outcomes; reports = z .reports }) (runs-end f (n + 1))
 
 -- ---- as it is told
-tally-obeyed : (n : ℕ) → tallyOf obeyed (replicate n Obeyed ++ (Stopped 0 ∷ [])) ≡ suc n
+tally-obeyed : (n : ℕ) → tallyOf obeyed (replicate n Obeyed ++ (endData ∷ [])) ≡ suc n
 unfolding tallyOf eqClass classOf
 tally-obeyed zero = refl
 tally-obeyed (suc n) = ap suc (tally-obeyed n)
 
-tally-blank : (n : ℕ) → tallyOf blank (replicate n Obeyed ++ (Stopped 0 ∷ [])) ≡ 0
+tally-blank : (n : ℕ) → tallyOf blank (replicate n Obeyed ++ (endData ∷ [])) ≡ 0
 unfolding tallyOf eqClass classOf
 tally-blank zero = refl
 tally-blank (suc n) = tally-blank n
 
-tally-passed : (n : ℕ) → tallyOf passed (replicate n Obeyed ++ (Stopped 0 ∷ [])) ≡ 0
+tally-passed : (n : ℕ) → tallyOf passed (replicate n Obeyed ++ (endData ∷ [])) ≡ 0
 unfolding tallyOf eqClass classOf
 tally-passed zero = refl
 tally-passed (suc n) = tally-passed n
 
-tally-dropped : (n : ℕ) → tallyOf dropped (replicate n Obeyed ++ (Stopped 0 ∷ [])) ≡ 0
+tally-dropped : (n : ℕ) → tallyOf dropped (replicate n Obeyed ++ (endData ∷ [])) ≡ 0
 unfolding tallyOf eqClass classOf
 tally-dropped zero = refl
 tally-dropped (suc n) = tally-dropped n

@@ -1,5 +1,5 @@
--- The fields of a line that is put together from words and delimiters are those words; their columns stay open. By the laws of a text's
--- fields at place 0.
+-- The fields of a line that is put together from words and delimiters are those words; their places stay open. By the laws of a text's
+-- fields at a place.
 -- Assumes nothing.
 use mathlib.Core.Path.{_≡_, refl, sym, ap, _∙_, subst}
 use mathlib.Core.Bool.{true, false, not}
@@ -8,13 +8,13 @@ use Prim.Native.Nat.{ℕ, suc, _+_, _-_, _≤_}
 use native.Mathlib.Omega.{arith}
 use lib.Dec.{eqb}
 use lib.ListN.{length, getD, take, drop, length-append}
-use lib.Seq.{take-append-seam, drop-append-add, drop-append-seam}
+use lib.Seq.{drop-drop, take-append-seam, drop-append-add, drop-append-seam}
 use borrow.Author.Tests.{lt-ltb, ne-eqb}
 use Rattle.cells.specs.Scan.{span}
 use Rattle.cells.specs.Text.{bytes}
 use Rattle.cells.proofs.Split.{or-false, not-of-true, not-of-false, not-not}
 use Rattle.cells.proofs.Scan.{span-append, span-miss, span-hit, span-nil, all-below}
-use Rattle.text_records.specs.Cleaning.{has, chars, columns, keptOf}
+use Rattle.text_records.specs.Cleaning.{has}
 use Rattle.text_fields.specs.Words.{isDelimiter, isWord, Word, wordsIn, wordsOf, fieldsOf}
 use Rattle.text_fields.specs.Places.{startAt, endAt, isMore, wordAt}
 use Rattle.text_fields.proofs.Words.{words-some}
@@ -22,14 +22,17 @@ use Rattle.value_written.specs.Text.{isPlain}
 use Rattle.value_written.proofs.Texts.{by-plain, plain-in}
 use Rattle.theorem_same_show.proofs.Fair.{Fair, fair-kept}
 
--- words with these characters, in some columns
-unfoldable pub spelled : List (List ℕ) → List ℕ → List Word
-spelled [] cs = []
-spelled (x ∷ xs) cs = record { chars = x; column = getD cs 0 0 } ∷ spelled xs (drop 1 cs)
+abbrev pub word : List ℕ → ℕ → Word
+word x q = record { chars = x; place = q }
 
--- whatever its columns, a text has these fields
+-- words with these characters, at some places
+unfoldable pub spelled : List (List ℕ) → List ℕ → List Word
+spelled [] qs = []
+spelled (x ∷ xs) qs = word x (getD qs 0 0) ∷ spelled xs (drop 1 qs)
+
+-- whatever stands before it, a text has these fields
 abbrev pub Spells : List ℕ → List (List ℕ) → Type 0
-Spells text xs = (q : List ℕ) → (cs : List ℕ) × (wordsOf text q ≡ spelled xs cs)
+Spells text xs = (before : List ℕ) → (qs : List ℕ) × (wordsOf (length before) text ≡ spelled xs qs)
 
 -- a word: characters that are no delimiters, one at least
 abbrev pub OneWord : List ℕ → Type 0
@@ -44,7 +47,7 @@ ends-nil = span-nil isWord
 
 pub spells-nil : Spells [] []
 unfolding spelled wordsOf wordsIn
-spells-nil q = ([], refl)
+spells-nil before = ([], refl)
 
 -- ---- delimiters, a word, and what follows
 module _ (ds w rest : List ℕ) (hd : span isDelimiter ds ≡ length ds) (hw : OneWord w) (he : Ends rest) where
@@ -60,52 +63,79 @@ module _ (ds w rest : List ℕ) (hd : span isDelimiter ds ≡ length ds) (hw : O
   text : List ℕ
   text = ds ++ (w ++ rest)
 
-  start : startAt text 0 ≡ length ds
-  unfolding startAt text
-  start =
-      let a : span isDelimiter text ≡ length ds + span isDelimiter (w ++ rest) = span-append isDelimiter ds (w ++ rest) hd in
-      let b : span isDelimiter (w ++ rest) ≡ 0 = begins w hw in
-      omega arith
+  module _ (before : List ℕ) where
+    whole : List ℕ
+    whole = before ++ text
 
-  end : endAt text 0 ≡ length ds + length w
-  unfolding endAt text
-  end =
-      ap (λ (k : ℕ). k + span isWord (drop k text)) start
-      ∙ ap (λ (x : List ℕ). length ds + span isWord x) (drop-append-seam ds (w ++ rest))
-      ∙ ap (λ (k : ℕ). length ds + k)
-      (let a : span isWord (w ++ rest) ≡ length w + span isWord rest = span-append isWord w rest (hw .0) in
-      let z : span isWord (w ++ rest) ≡ length w = omega (arith, he) in z)
+    front : List ℕ
+    front = before ++ (ds ++ w)
 
-  more : isMore text 0 ≡ true
-  unfolding text
-  more =
-      let a : length text ≡ length ds + length (w ++ rest) = length-append ds (w ++ rest) in
-      let b : length (w ++ rest) ≡ length w + length rest = length-append w rest in
-      let e : startAt text 0 ≡ length ds = start in
-      lt-ltb (startAt text 0) (length text) (omega (arith, hw .1))
+    start : startAt whole (length before) ≡ length before + length ds
+    unfolding startAt text whole
+    start =
+        let a : span isDelimiter text ≡ length ds + span isDelimiter (w ++ rest) = span-append isDelimiter ds (w ++ rest) hd in
+        let b : span isDelimiter (w ++ rest) ≡ 0 = begins w hw in
+        ap (λ (x : List ℕ). length before + span isDelimiter x) (drop-append-seam before text)
+        ∙ (let z : length before + span isDelimiter text ≡ length before + length ds = omega arith in z)
 
-  first-chars : wordAt text [] 0 .chars ≡ w
-  unfolding text
-  first-chars =
-      (λ i. take (end i - start i) (drop (start i) text))
-      ∙ ap (λ (x : List ℕ). take (length ds + length w - length ds) x) (drop-append-seam ds (w ++ rest))
-      ∙ ap (λ (k : ℕ). take k (w ++ rest)) (let z : length ds + length w - length ds ≡ length w = omega arith in z)
-      ∙ take-append-seam w rest
+    behind : drop (length before + length ds) whole ≡ w ++ rest
+    unfolding text whole
+    behind = drop-append-add before text (length ds) ∙ drop-append-seam ds (w ++ rest)
 
-  left : drop (endAt text 0) text ≡ rest
-  unfolding text
-  left =
-      ap (λ (k : ℕ). drop k text) end ∙ drop-append-add ds (w ++ rest) (length w) ∙ drop-append-seam w rest
+    end : endAt whole (length before) ≡ length before + length ds + length w
+    unfolding endAt
+    end =
+        ap (λ (k : ℕ). k + span isWord (drop k whole)) start
+        ∙ ap (λ (x : List ℕ). length before + length ds + span isWord x) behind
+        ∙ ap (λ (k : ℕ). length before + length ds + k)
+        (let a : span isWord (w ++ rest) ≡ length w + span isWord rest = span-append isWord w rest (hw .0) in
+        let z : span isWord (w ++ rest) ≡ length w = omega (arith, he) in z)
+
+    more : isMore whole (length before) ≡ true
+    unfolding text whole
+    more =
+        let a : length whole ≡ length before + length text = length-append before text in
+        let b : length text ≡ length ds + length (w ++ rest) = length-append ds (w ++ rest) in
+        let c : length (w ++ rest) ≡ length w + length rest = length-append w rest in
+        let e : startAt whole (length before) ≡ length before + length ds = start in
+        lt-ltb (startAt whole (length before)) (length whole) (omega (arith, hw .1))
+
+    first-chars : wordAt whole (length before) .chars ≡ w
+    first-chars =
+        let n : ℕ = length before + length ds in
+        (λ i. take (end i - start i) (drop (start i) whole))
+        ∙ ap (λ (x : List ℕ). take (n + length w - n) x) behind
+        ∙ ap (λ (k : ℕ). take k (w ++ rest)) (let z : n + length w - n ≡ length w = omega arith in z)
+        ∙ take-append-seam w rest
+
+    past : endAt whole (length before) ≡ length front
+    unfolding front
+    past =
+        let a : length (before ++ (ds ++ w)) ≡ length before + length (ds ++ w) = length-append before (ds ++ w) in
+        let b : length (ds ++ w) ≡ length ds + length w = length-append ds w in
+        let e : endAt whole (length before) ≡ length before + length ds + length w = end in
+        omega arith
+
+    left : drop (endAt whole (length before)) whole ≡ rest
+    left =
+        ap (λ (k : ℕ). drop k whole) end
+        ∙ sym (drop-drop (length w) (length before + length ds) whole)
+        ∙ ap (drop (length w)) behind
+        ∙ drop-append-seam w rest
+
+    words : wordsOf (length before) text ≡ wordAt whole (length before) ∷ wordsOf (endAt whole (length before)) (drop (endAt whole (length before)) whole)
+    unfolding whole
+    words = ap (wordsOf (length before)) (sym (drop-append-seam before text)) ∙ words-some whole (length before) more
 
   spells-more : (xs : List (List ℕ)) → Spells rest xs → Spells text (w ∷ xs)
   unfolding spelled
-  spells-more xs f q =
-      let g = f (drop (endAt text 0) q) in
-      let col : ℕ = getD q (startAt text 0) 0 in (
-        col ∷ g .0,
-        words-some text q 0 more
-            ∙ (λ i. record { chars = first-chars i; column = col } ∷ wordsOf (left i) (drop (endAt text 0) q))
-            ∙ ap (λ (ws : List Word). record { chars = w; column = col } ∷ ws) (g .1),
+  spells-more xs f before =
+      let g = f (front before) in
+      let q : ℕ = wordAt (whole before) (length before) .place in (
+        q ∷ g .0,
+        words before
+            ∙ (λ i. word (first-chars before i) q ∷ wordsOf (past before i) (left before i))
+            ∙ ap (λ (ws : List Word). word w q ∷ ws) (g .1),
       )
 
 -- a first word, a word behind one delimiter, and the same with nothing after it
@@ -164,8 +194,6 @@ pub plain-one : (w : List ℕ) → span isPlain w ≡ length w → 1 ≤ length 
 plain-one w e h = (plain-in isWord plain-word w e, h)
 
 -- ---- the fields of a fair line
-pub fields-of : (l : List ℕ) (xs : List (List ℕ)) → Fair l → Spells l xs → (cs : List ℕ) × (fieldsOf l ≡ spelled xs cs)
+pub fields-of : (l : List ℕ) (xs : List (List ℕ)) → Fair l → Spells l xs → (qs : List ℕ) × (fieldsOf l ≡ spelled xs qs)
 unfolding fieldsOf
-fields-of l xs e f =
-    let g = f (columns (keptOf l)) in
-    (g .0, ap (λ (t : List ℕ). wordsOf t (columns (keptOf l))) (fair-kept l e) ∙ g .1)
+fields-of l xs e f = let g = f [] in (g .0, ap (wordsOf 0) (fair-kept l e) ∙ g .1)

@@ -2,12 +2,9 @@
 -- and from the writer, which sees only the show.
 -- Assumes nothing.
 use mathlib.Core.Path.{_≡_, refl, sym, ap, _∙_, subst}
-use mathlib.Core.List.{List, []}
+use mathlib.Core.List.{List}
 use Prim.Native.Nat.{ℕ, _≤_}
 use lib.ListN.{length}
-use lib.Seq.{take-nil}
-use Rattle.cells.specs.Put.{put}
-use Rattle.cells.proofs.Put.{put-nil}
 use Rattle.store_desk.specs.declared.Desk.{Desk}
 use Rattle.store_desk.specs.Size.{storeLength}
 use Rattle.store_head.specs.Pack.{Bytes}
@@ -15,6 +12,7 @@ use Rattle.store.specs.Change.{emptied}
 use Rattle.store.specs.Good.{Ready}
 use Rattle.store.proofs.Empty.{empty-good}
 use Rattle.load.specs.Run.{loadOf, storedIn}
+use Rattle.load.proofs.Counts.{stored-none}
 use Rattle.text_records.specs.Stream.{recordsOf}
 use Rattle.save_lines.specs.Line.{joined}
 use Rattle.save.specs.Lines.{linesOf, streamOf}
@@ -23,11 +21,6 @@ use Rattle.theorem_same_show.proofs.Fair.{records-joined}
 use Rattle.theorem_same_show.proofs.Runs.{obeyedRun, run-reports, run-told, runs-fair}
 use Rattle.theorem_same_show.proofs.Back.{lines, lines-end, back, load-back, lines-count}
 use Rattle.theorem_same_show.proofs.Canonical.{written-alike}
-
--- no report leaves the list as it is
-stored-none : (reports : List ℕ) → storedIn reports [] ≡ reports
-unfolding storedIn
-stored-none reports = ap (put reports 0) (take-nil (length reports)) ∙ put-nil reports 0
 
 module _ (d : Desk) (s t : List ℕ) (rs : Ready d s) (b : Bytes s) (rt : Ready d t) where
   run-back : ReadBack d s t (obeyedRun (length (lines d s)) (back d s t rs b rt .state) (back d s t rs b rt .store))

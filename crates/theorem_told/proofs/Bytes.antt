@@ -26,7 +26,7 @@ use Rattle.store.specs.Change.{seat, blankHead, blankSlot, started, withHead, e
 use Rattle.store.specs.Change.{everyPage, hitsAt, clearFrom, cleared, patchPageLength, clearedPatch}
 use Rattle.store.proofs.Loss.{bytes-take, bytes-drop}
 use Rattle.load.specs.declared.Entry.{Entry}
-use Rattle.load.specs.declared.Entry.the-variants.{Level, Patch, Fault}
+use Rattle.load.specs.declared.Entry.the-variants.{Level, Patch, Faulty}
 use Rattle.load.specs.declared.State.{State}
 use Rattle.load.specs.Item.{memory, page, done, allDone}
 use Rattle.load.specs.Ask.{Wipe, table, dimmers, Ask, name}
@@ -136,14 +136,14 @@ unfolding allDone done
 levels-kept d n [] f b = b
 levels-kept d n (Level channel v ∷ es) f b = levels-kept d n es (f .1) (edit-kept d b n (SetLevel channel v) (level-kept d channel v (f .0 .1)))
 levels-kept d n (Patch channel dimmer v ∷ es) f b = levels-kept d n es (f .1) b
-levels-kept d n (Fault c x ∷ es) f b = levels-kept d n es (f .1) b
+levels-kept d n (Faulty x ∷ es) f b = levels-kept d n es (f .1) b
 
 dimmers-kept : (d : Desk) (p : ℕ) (es : List Entry) {t : List ℕ} → Octets t → Octets (allDone d (page p) t es)
 unfolding allDone done
 dimmers-kept d p [] b = b
 dimmers-kept d p (Level channel v ∷ es) b = dimmers-kept d p es b
 dimmers-kept d p (Patch channel dimmer v ∷ es) b = dimmers-kept d p es (patch-kept d b p dimmer channel v)
-dimmers-kept d p (Fault c x ∷ es) b = dimmers-kept d p es b
+dimmers-kept d p (Faulty x ∷ es) b = dimmers-kept d p es b
 
 wiped-kept : (d : Desk) (xs : List Wipe) {t : List ℕ} → Octets t → Octets (wiped d xs t)
 unfolding wiped

@@ -19,8 +19,9 @@ use Rattle.text_records.specs.Stream.{recordsOf}
 use Rattle.store.specs.declared.Edit.the-variants.{Level as SetLevel}
 use Rattle.store.specs.Slots.{onFound}
 use Rattle.store.specs.Change.{seat}
+use Rattle.load.specs.declared.Fault.{Fault}
 use Rattle.load.specs.declared.Entry.{Entry}
-use Rattle.load.specs.declared.Entry.the-variants.{Level, Patch, Fault}
+use Rattle.load.specs.declared.Entry.the-variants.{Level, Patch, Faulty}
 use Rattle.load.specs.declared.Open.{Open}
 use Rattle.load.specs.declared.Open.the-variants.{Nothing, Skipping, Memory}
 use Rattle.load.specs.declared.State.{State}
@@ -42,7 +43,7 @@ module _ (d : Desk) (q : List ℕ) where
   memory-before n [] b = b
   memory-before n (Level channel x ∷ es) {u} (behind l) = memory-before n es (edit-before d q u l n (SetLevel channel x))
   memory-before n (Patch channel dimmer x ∷ es) b = memory-before n es b
-  memory-before n (Fault c column ∷ es) b = memory-before n es b
+  memory-before n (Faulty x ∷ es) b = memory-before n es b
 
   page-before : (p : ℕ) → Within 1 p (d .«patch_pages») → (es : List Entry) → AllFit d es → {u v : List ℕ} → Before d q u v
       → Before d q (allDone d (page p) u es) (allDone d (page p) v es)
@@ -50,7 +51,7 @@ module _ (d : Desk) (q : List ℕ) where
   page-before p w [] f b = b
   page-before p w (Level channel x ∷ es) f b = page-before p w es (f .1) b
   page-before p w (Patch channel dimmer x ∷ es) f {u} (behind l) = page-before p w es (f .1) (patch-before d q u l p dimmer channel x w (f .0 .1))
-  page-before p w (Fault c column ∷ es) f b = page-before p w es (f .1) b
+  page-before p w (Faulty x ∷ es) f b = page-before p w es (f .1) b
 
   wiped-before : (xs : List Wipe) → WipesFit d xs → {u v : List ℕ} → Before d q u v → Before d q (wiped d xs u) (wiped d xs v)
   unfolding wiped
@@ -67,7 +68,7 @@ record Beside (d : Desk) (q : List ℕ) (x y : Step) : Type 0 where
   long : storeLength d ≤ length (x .store)
 
 module _ (d : Desk) (q : List ℕ) where
-  stored : (s : State) (faults : List ℕ) {u v : List ℕ} → Before d q u v
+  stored : (s : State) (faults : List Fault) {u v : List ℕ} → Before d q u v
       → Beside d q (record { state = s; outcome = Obeyed; faults = faults; store = u })
       (record { state = s; outcome = Obeyed; faults = faults; store = v })
   stored s faults (behind l) = record { same = refl; long = l }

@@ -17,12 +17,12 @@ use Rattle.tidy_vectors.specs.declared.Case.{Case}
 use Rattle.tidy_vectors.specs.Case.{lengthBy, lengthGiven, caseOf, caseAt}
 
 -- ---- the length
-module _ (line : List ℕ) {f g : Field} {x : List ℕ} {i : Integer} (a : f ≡ fieldAt line line 0) (b : g ≡ fieldAt line line (f .end))
+module _ (line : List ℕ) {f g : Field} {x : List ℕ} {i : Integer} (a : f ≡ fieldAt line 0) (b : g ≡ fieldAt line (f .end))
     (c : x ≡ wordIn line g .chars) (e : i ≡ integerOf x) where
   length-by : lengthBy i ≡ lengthGiven line
   unfolding lengthGiven
   length-by =
-      let h : g ≡ fieldAt line line (endAt line 0) = b ∙ ap (λ (k : Field). fieldAt line line (k .end)) a in
+      let h : g ≡ fieldAt line (endAt line 0) = b ∙ ap (λ (k : Field). fieldAt line (k .end)) a in
       ap lengthBy (e ∙ ap integerOf (c ∙ ap (λ (k : Field). wordIn line k .chars) h))
 
   pub length-none : i ≡ Malformed → 0 ≡ lengthGiven line

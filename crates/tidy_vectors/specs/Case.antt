@@ -17,7 +17,7 @@ lengthBy (Value n) = n
 
 -- the second field of a line
 unfoldable pub lengthGiven : List ℕ → ℕ
-lengthGiven line = lengthBy (integerOf (wordAt line line (endAt line 0) .chars))
+lengthGiven line = lengthBy (integerOf (wordAt line (endAt line 0) .chars))
 
 -- the input begins behind the line's end, and ends after so many bytes or with the file
 unfoldable pub caseOf : List ℕ → ℕ → ℕ → ℕ → Case

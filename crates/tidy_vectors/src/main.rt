@@ -27,8 +27,8 @@ fn buffer() -> [u8; 131072]
 fn length_in(line: &[u8]) -> usize
     ensures { λ r. ⌜ r ≡ lengthGiven (now (line .entry)) ⌝ }
 {
-    let name = text_fields::field_at(line, line, 0);
-    let count = text_fields::field_at(line, line, name.end);
+    let name = text_fields::field_at(line, 0);
+    let count = text_fields::field_at(line, name.end);
     match value::read_integer(text_fields::word(line, count)) {
         Integer::Malformed => 0,
         Integer::Value(n) => cells::place(n),

@@ -11,10 +11,10 @@ field-at-requires : tie.Need-field-at-requires
 field-at-requires c κs = search needs
 
 field-at-requires-2 : tie.Need-field-at-requires-2
-field-at-requires-2 c κs = field-fits (c .before .before .args .line .now) (c .before .before .args .line .now) 0 (c .field-at .ensures) (omega arith) .1
+field-at-requires-2 c κs = field-fits (c .before .before .args .line .now) 0 (c .field-at .ensures) (omega arith) .1
 
 word-requires : tie.Need-word-requires
-word-requires c κs = field-fits (c .before .before .before .args .line .now) (c .before .before .before .args .line .now) _ (c .field-at2 .ensures) (field-fits (c .before .before .before .args .line .now) (c .before .before .before .args .line .now) 0 (c .before .field-at .ensures) (omega arith) .1)
+word-requires c κs = field-fits (c .before .before .before .args .line .now) _ (c .field-at2 .ensures) (field-fits (c .before .before .before .args .line .now) 0 (c .before .field-at .ensures) (omega arith) .1)
 
 read-integer-requires : tie.Need-read-integer-requires
 read-integer-requires c κs = search needs
