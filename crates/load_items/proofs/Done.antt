@@ -17,7 +17,7 @@ use Rattle.store.proofs.Start.{found-used}
 use Rattle.store_code.specs.Fits.{Fitting}
 use Rattle.store_code.proofs.Laws.{fitting-kept}
 use Rattle.load.specs.declared.Entry.{Entry}
-use Rattle.load.specs.declared.Entry.the-variants.{Level, Patch, Fault}
+use Rattle.load.specs.declared.Entry.the-variants.{Level, Patch, Faulty}
 use Rattle.load_items.specs.declared.Aim.{Aim}
 use Rattle.load_items.specs.declared.Aim.the-variants.{Slot, Page}
 use Rattle.load.specs.Item.{memory, page, done, allDone}
@@ -30,32 +30,32 @@ one-length : (d : Desk) (aim : Aim) (e : Entry) (s : List ℕ) → Fitting d s �
 unfolding doneAt
 one-length d (Slot i) (Level n v) s f a h = edit-at-length d s (f .long) i a (SetLevel n v) tt
 one-length d (Slot i) (Patch n k v) s f a h = refl
-one-length d (Slot i) (Fault c column) s f a h = refl
+one-length d (Slot i) (Faulty x) s f a h = refl
 one-length d (Page p) (Level n v) s f a h = refl
 one-length d (Page p) (Patch n k v) s f a h = patch-length d s (f .long) (f .range) p k n v a (h .1) (h .0) (h .2)
-one-length d (Page p) (Fault c column) s f a h = refl
+one-length d (Page p) (Faulty x) s f a h = refl
 
 one-find : (d : Desk) (aim : Aim) (e : Entry) (s : List ℕ) → Fitting d s → AimFits d aim → EntryFits d e
     → (m : Name) → find d (doneAt d aim s e) m ≡ find d s m
 unfolding doneAt
 one-find d (Slot i) (Level n v) s f a h m = edit-at-find d s (f .long) i a (SetLevel n v) tt m
 one-find d (Slot i) (Patch n k v) s f a h m = refl
-one-find d (Slot i) (Fault c column) s f a h m = refl
+one-find d (Slot i) (Faulty x) s f a h m = refl
 one-find d (Page p) (Level n v) s f a h m = refl
 one-find d (Page p) (Patch n k v) s f a h m = patch-find d s (f .long) (f .range) p k n v a (h .1) (h .0) (h .2) m
-one-find d (Page p) (Fault c column) s f a h m = refl
+one-find d (Page p) (Faulty x) s f a h m = refl
 
 one-slot : (d : Desk) (n : Name) (i : ℕ) (e : Entry) (s : List ℕ) → find d s n ≡ at i → done d (memory n) s e ≡ doneAt d (Slot i) s e
 unfolding done doneAt
 one-slot d n i (Level c v) s f = edited-at d s n (SetLevel c v) i f
 one-slot d n i (Patch c k v) s f = refl
-one-slot d n i (Fault c column) s f = refl
+one-slot d n i (Faulty x) s f = refl
 
 one-page : (d : Desk) (p : ℕ) (e : Entry) (s : List ℕ) → done d (page p) s e ≡ doneAt d (Page p) s e
 unfolding done doneAt
 one-page d p (Level c v) s = refl
 one-page d p (Patch c k v) s = refl
-one-page d p (Fault c column) s = refl
+one-page d p (Faulty x) s = refl
 
 -- ---- one after the other
 one-fitting : (d : Desk) (aim : Aim) (e : Entry) (s : List ℕ) → Fitting d s → AimFits d aim → EntryFits d e → Fitting d (doneAt d aim s e)

@@ -1,35 +1,24 @@
 // CHAN's pairs and PATCH's triples, item by item (paper 01, "Keywords and conditions", CHAN and PATCH): each is a level to set, a
 // dimmer to patch, or a fault, and the items after it are read all the same.
 ghost use mathlib.Core.Path.{_≡_};
-ghost use mathlib.Core.List.{[]};
 ghost use Prim.Native.Nat.{_≤_, _<_};
-ghost use Rattle.value.specs.Integer.{integerOf};
-ghost use Rattle.value_level.specs.Level.{levelOf};
-ghost use Rattle.text_fields.specs.Places.{wordsFrom, wordIn};
-ghost use Rattle.load.specs.Item.{rangedOf, pairOf, tripleOf};
-ghost use Rattle.load_items.specs.Done.{entriesIn, doneAt, faultsHeld, mostFaults};
+ghost use lib.ListN.{length};
+ghost use Rattle.text_fields.specs.Places.{wordsFrom};
 ghost use Rattle.store_code.specs.Fits.{Fitting};
-ghost use Rattle.load_items.specs.Take.{AimFits, ItemsReady, takenAs, takenOf};
-ghost use Rattle.load_items.specs.Each.{Lies, On, itemAt, isFault, toldBehind};
+ghost use Rattle.load.specs.Item.{pairsOf, triplesOf};
 ghost use Rattle.load.specs.Fits.{EntryFits};
+ghost use Rattle.load_items.specs.Done.{entriesIn, doneAt, noted, notedIn};
+ghost use Rattle.load_items.specs.Take.{AimFits, ItemsReady, Starting, takenAs, takenOf};
+ghost use Rattle.load_items.specs.Each.{On, PlaceFits, wrongAt, rangedAt, unlitAt, litBy, litAt, betweenAt, entryOf, itemAt};
 use load::Entry;
-use load::Ranged;
 use store::Edit;
 use store_desk::Desk;
-use text_fields::Field;
-use value::Integer;
 use value_level::Leveled;
 
 // How many fields an item has.
-pub enum Group {
+enum Group {
     Pair,
     Triple,
-}
-
-// The conditions of one record's items in their order. An item has two characters at least, so that forty are room enough.
-pub struct Faults {
-    pub conditions: [u32; 40],
-    pub count: usize,
 }
 
 // Where items go: the slot of the open memory, or a patch page.
@@ -48,67 +37,127 @@ const BAD_DIMMER: u32 = 203;
 
 const BAD_PERCENT: u32 = 221;
 
-// A channel or dimmer, from 1 to its limit.
-fn ranged(text: &[u8], f: Field, limit: u32, beyond: u32) -> Ranged
-    requires { ⌜ Lies (now text) f ⌝ }
-    ensures { λ r. ⌜ r ≡ rangedOf limit beyond (integerOf (wordIn (now (text .entry)) f .chars)) ⌝ }
+// A fault in one word of the lent list: its place above the condition's 14 bits.
+pub const CONDITION_SPAN: u32 = 16384;
+
+// ---- a field, read in the scan that finds its end
+
+// What a field comes to, and where it ends: a value, or the condition that it is reported under (0: none).
+struct Read {
+    value: u32,
+    condition: u32,
+    end: usize,
+}
+
+// The rest of the field is passed over.
+fn wrong(text: &[u8], at: usize, condition: u32) -> Read
+    requires { ⌜ at ≤ length (now text) ⌝ }
+    ensures { λ r. ⌜ r ≡ wrongAt (now (text .entry)) at condition ⌝ }
 {
-    match value::read_integer(text_fields::word(text, f)) {
-        Integer::Malformed => Ranged::Wrong(MALFORMED_INTEGER),
-        Integer::Value(n) => {
-            if n == 0 {
-                return Ranged::Wrong(beyond);
+    Read {
+        value: 0,
+        condition,
+        end: text_fields::field_end(text, at),
+    }
+}
+
+// A channel or dimmer, from 1 to its limit.
+fn ranged(text: &[u8], at: usize, limit: u32, beyond: u32) -> Read
+    requires { ⌜ at ≤ length (now text) ⌝ }
+    ensures { λ r. ⌜ r ≡ rangedAt limit beyond (now (text .entry)) at ⌝ }
+{
+    let d = value::digits_at(text, at);
+    let end = d.end;
+    let value = d.value;
+    if text_fields::ends(text, end) {
+        if at < end {
+            if value == 0 {
+                return Read {
+                    value: 0,
+                    condition: beyond,
+                    end,
+                };
             }
-            if limit < n {
-                return Ranged::Wrong(beyond);
+            if limit < value {
+                return Read {
+                    value: 0,
+                    condition: beyond,
+                    end,
+                };
             }
-            Ranged::Within(n)
+            return Read {
+                value,
+                condition: 0,
+                end,
+            };
         }
     }
+    wrong(text, end, MALFORMED_INTEGER)
 }
 
-fn leveled(text: &[u8], f: Field) -> Leveled
-    requires { ⌜ Lies (now text) f ⌝ }
-    ensures { λ r. ⌜ r ≡ levelOf (wordIn (now (text .entry)) f .chars) ⌝ }
-{
-    value_level::read_level(text_fields::word(text, f))
+// What a level comes to, and where it ends.
+struct Lit {
+    level: u8,
+    condition: u32,
+    end: usize,
 }
 
-// CHAN: the first field at fault is the one that is blamed.
-fn pair(desk: Desk, text: &[u8], c: Field, l: Field) -> Entry
-    requires { ⌜ Lies (now text) c ⌝ }
-    requires { ⌜ Lies (now text) l ⌝ }
-    ensures { λ r. ⌜ r ≡ pairOf desk (wordIn (now (text .entry)) c) (wordIn (now (text .entry)) l) ⌝ }
+// A level that goes on with what no level has is malformed in the format that it begins with.
+fn unlit(text: &[u8], at: usize, end: usize) -> Lit
+    requires { ⌜ end ≤ length (now text) ⌝ }
+    ensures { λ r. ⌜ r ≡ unlitAt (now (text .entry)) at end ⌝ }
 {
-    match ranged(text, c, desk.channels, BAD_CHANNEL) {
-        Ranged::Wrong(condition) => Entry::Fault(condition, c.column),
-        Ranged::Within(channel) => match leveled(text, l) {
-            Leveled::NotPercent => Entry::Fault(BAD_PERCENT, l.column),
-            Leveled::NotHex => Entry::Fault(BAD_HEX, l.column),
-            Leveled::Value(v) => Entry::Level(channel, v),
+    let last = text_fields::field_end(text, end);
+    if value_level::hex_mark(cells::byte(text, at)) {
+        return Lit {
+            level: 0,
+            condition: BAD_HEX,
+            end: last,
+        };
+    }
+    Lit {
+        level: 0,
+        condition: BAD_PERCENT,
+        end: last,
+    }
+}
+
+fn lit_by(level: Leveled, end: usize) -> Lit
+    ensures { λ r. ⌜ r ≡ litBy level end ⌝ }
+{
+    match level {
+        Leveled::NotPercent => Lit {
+            level: 0,
+            condition: BAD_PERCENT,
+            end,
+        },
+        Leveled::NotHex => Lit {
+            level: 0,
+            condition: BAD_HEX,
+            end,
+        },
+        Leveled::Value(v) => Lit {
+            level: v,
+            condition: 0,
+            end,
         },
     }
 }
 
-// PATCH: the same with a dimmer between the two.
-fn triple(desk: Desk, text: &[u8], c: Field, m: Field, l: Field) -> Entry
-    requires { ⌜ Lies (now text) c ⌝ }
-    requires { ⌜ Lies (now text) m ⌝ }
-    requires { ⌜ Lies (now text) l ⌝ }
-    ensures { λ r. ⌜ r ≡ tripleOf desk (wordIn (now (text .entry)) c) (wordIn (now (text .entry)) m) (wordIn (now (text .entry)) l) ⌝ }
+fn level(text: &[u8], at: usize) -> Lit
+    requires { ⌜ at ≤ length (now text) ⌝ }
+    ensures { λ r. ⌜ r ≡ litAt (now (text .entry)) at ⌝ }
 {
-    match ranged(text, c, desk.channels, BAD_CHANNEL) {
-        Ranged::Wrong(condition) => Entry::Fault(condition, c.column),
-        Ranged::Within(channel) => match ranged(text, m, desk.dimmers, BAD_DIMMER) {
-            Ranged::Wrong(condition) => Entry::Fault(condition, m.column),
-            Ranged::Within(dimmer) => match leveled(text, l) {
-                Leveled::NotPercent => Entry::Fault(BAD_PERCENT, l.column),
-                Leveled::NotHex => Entry::Fault(BAD_HEX, l.column),
-                Leveled::Value(v) => Entry::Patch(channel, dimmer, v),
-            },
-        },
+    let l = value_level::level_at(text, at);
+    let end = l.end;
+    let level = l.level;
+    if text_fields::ends(text, end) {
+        return lit_by(level, end);
     }
+    unlit(text, at, end)
 }
+
+// ---- an item
 
 // An item, and the place where its last field ends.
 struct Item {
@@ -116,26 +165,71 @@ struct Item {
     end: usize,
 }
 
-fn item_at<'a>(desk: Desk, group: Group, text: &'a [u8], columns: &'a [u8], at: usize) -> Item
-    requires { ⌜ On (now text) (now columns) at ⌝ }
-    ensures { λ r. ⌜ r ≡ itemAt desk group (now (text .entry)) (now (columns .entry)) at ⌝ }
+// PATCH has a dimmer between channel and level; CHAN has nothing there.
+fn between(desk: Desk, group: Group, text: &[u8], at: usize) -> Read
+    requires { ⌜ at ≤ length (now text) ⌝ }
+    ensures { λ r. ⌜ r ≡ betweenAt desk group (now (text .entry)) at ⌝ }
 {
-    let first = text_fields::field_at(text, columns, at);
-    let second = text_fields::field_at(text, columns, first.end);
     match group {
-        Group::Pair => Item {
-            entry: pair(desk, text, first, second),
-            end: second.end,
+        Group::Pair => Read {
+            value: 0,
+            condition: 0,
+            end: at,
         },
-        Group::Triple => {
-            let third = text_fields::field_at(text, columns, second.end);
-            Item {
-                entry: triple(desk, text, first, second, third),
-                end: third.end,
-            }
-        }
+        Group::Triple => ranged(
+            text,
+            text_fields::field_start(text, at),
+            desk.dimmers,
+            BAD_DIMMER,
+        ),
     }
 }
+
+fn entry(group: Group, channel: u32, dimmer: u32, level: u8) -> Entry
+    ensures { λ r. ⌜ r ≡ entryOf group channel dimmer level ⌝ }
+{
+    match group {
+        Group::Pair => Entry::Level(channel, level),
+        Group::Triple => Entry::Patch(channel, dimmer, level),
+    }
+}
+
+// The item whose first field starts at `at`: the first field at fault is the one that is blamed.
+fn item_at(desk: Desk, group: Group, text: &[u8], at: usize) -> Item
+    requires { ⌜ On (now text) at ⌝ }
+    ensures { λ r. ⌜ r ≡ itemAt desk group (now (text .entry)) at ⌝ }
+{
+    let c = ranged(text, at, desk.channels, BAD_CHANNEL);
+    let second = c.end;
+    let m = between(desk, group, text, second);
+    let third = m.end;
+    let l = level(text, text_fields::field_start(text, third));
+    let end = l.end;
+    if c.condition != 0 {
+        return Item {
+            entry: Entry::Faulty(load::blamed_at(text, at, c.condition)),
+            end,
+        };
+    }
+    if m.condition != 0 {
+        return Item {
+            entry: Entry::Faulty(load::blamed_at(text, second, m.condition)),
+            end,
+        };
+    }
+    if l.condition != 0 {
+        return Item {
+            entry: Entry::Faulty(load::blamed_at(text, third, l.condition)),
+            end,
+        };
+    }
+    Item {
+        entry: entry(group, c.value, m.value, l.level),
+        end,
+    }
+}
+
+// ---- what it does
 
 fn set_level(desk: Desk, store: &mut [u8], slot: usize, e: Entry)
     requires { ⌜ Fitting desk (now store) ⌝ }
@@ -146,7 +240,7 @@ fn set_level(desk: Desk, store: &mut [u8], slot: usize, e: Entry)
     match e {
         Entry::Level(channel, v) => store_code::edit(desk, store, slot, Edit::Level(channel, v)),
         Entry::Patch(_, _, _) => {}
-        Entry::Fault(_, _) => {}
+        Entry::Faulty(_) => {}
     }
 }
 
@@ -161,7 +255,7 @@ fn set_patch(desk: Desk, store: &mut [u8], page: u32, e: Entry)
         Entry::Patch(channel, dimmer, v) => {
             store_code::patch_dimmer(desk, store, page, dimmer, channel, v)
         }
-        Entry::Fault(_, _) => {}
+        Entry::Faulty(_) => {}
     }
 }
 
@@ -177,68 +271,98 @@ fn apply(desk: Desk, store: &mut [u8], aim: Aim, e: Entry)
     }
 }
 
-fn none() -> Faults
-    ensures { λ r. ⌜ r ≡ faultsHeld [] ⌝ }
-{
-    Faults {
-        conditions: [0; 40],
-        count: 0,
-    }
-}
-
-// Asked first, so that the faults, a list by value, are only handed on where one comes to them.
-fn is_fault(e: Entry) -> bool
-    ensures { λ r. ⌜ r ≡ isFault e ⌝ }
+// An item's fault goes behind the n before it; answers how many there are then.
+fn note(faults: &mut [u32], n: usize, e: Entry) -> usize
+    requires { ⌜ n < length (now faults) ⌝ }
+    requires { ⌜ PlaceFits e ⌝ }
+    ensures { λ r. ⌜ noted r (now (faults .exit)) ≡ notedIn n (now (faults .entry)) e ⌝ }
 {
     match e {
-        Entry::Level(_, _) => false,
-        Entry::Patch(_, _, _) => false,
-        Entry::Fault(_, _) => true,
-    }
-}
-
-// An item's fault goes behind those before it.
-fn with(faults: Faults, e: Entry) -> Faults
-    requires { ⌜ faults .count < mostFaults ⌝ }
-    ensures { λ r. ⌜ r ≡ toldBehind faults e ⌝ }
-{
-    match e {
-        Entry::Level(_, _) => faults,
-        Entry::Patch(_, _, _) => faults,
-        Entry::Fault(condition, _) => {
-            let mut more = faults;
-            let n = more.count;
-            more.conditions[n] = condition;
-            more.count = n + 1;
-            more
+        Entry::Level(_, _) => n,
+        Entry::Patch(_, _, _) => n,
+        Entry::Faulty(f) => {
+            faults[n] = (f.place as u32) * CONDITION_SPAN + f.condition;
+            n + 1
         }
     }
 }
 
-// The items from place `at` on, one after the other, into the open memory or onto a patch page.
-pub fn take_items<'a>(
+// The items from the start of a field on, one after the other.
+fn take_items(
     desk: Desk,
     group: Group,
-    text: &'a [u8],
-    columns: &'a [u8],
+    text: &[u8],
     at: usize,
     store: &mut [u8],
     aim: Aim,
-) -> Faults
-    requires { ⌜ ItemsReady desk (now text) (now columns) at (now store) aim ⌝ }
-    ensures { λ r. ⌜ takenAs r (now (store .exit)) ≡ takenOf desk aim (now (store .entry)) (entriesIn group desk (wordsFrom (now (text .entry)) (now (columns .entry)) at)) ⌝ }
-    ensures { λ r. ⌜ r .count ≤ mostFaults ⌝ }
+    faults: &mut [u32],
+) -> usize
+    requires { ⌜ ItemsReady desk (now text) at (now store) aim (now faults) ⌝ }
+    requires { ⌜ Starting (now text) at ⌝ }
+    ensures { λ r. ⌜ takenAs r (now (store .exit)) (now (faults .exit)) ≡ takenOf desk aim (now (store .entry)) (now (faults .entry)) (entriesIn group desk (wordsFrom (now (text .entry)) at)) ⌝ }
 {
-    let mut faults = none();
+    let mut n = 0;
     let mut i = at;
-    while text_fields::more(text, i) {
-        let item = item_at(desk, group, text, columns, i);
+    while i < text.len() {
+        let item = item_at(desk, group, text, i);
         let e = item.entry;
         apply(desk, &mut *store, aim, e);
-        if is_fault(e) {
-            faults = with(faults, e);
-        }
-        i = item.end;
+        n = note(&mut *faults, n, e);
+        i = text_fields::field_start(text, item.end);
     }
-    faults
+    n
+}
+
+// CHAN's pairs from `at` on, into the memory in a slot. Their faults go into the lent list; answers how many there are.
+pub fn take_pairs(
+    desk: Desk,
+    slot: usize,
+    text: &[u8],
+    at: usize,
+    store: &mut [u8],
+    faults: &mut [u32],
+) -> usize
+    requires { ⌜ ItemsReady desk (now text) at (now store) (Aim.Slot slot) (now faults) ⌝ }
+    ensures { λ r. ⌜ takenAs r (now (store .exit)) (now (faults .exit)) ≡ takenOf desk (Aim.Slot slot) (now (store .entry)) (now (faults .entry)) (pairsOf desk (wordsFrom (now (text .entry)) at)) ⌝ }
+{
+    let start = text_fields::field_start(text, at);
+    if start < text.len() {
+        return take_items(
+            desk,
+            Group::Pair,
+            text,
+            start,
+            store,
+            Aim::Slot(slot),
+            faults,
+        );
+    }
+    0
+}
+
+// PATCH's triples from `at` on, onto a page.
+pub fn take_triples(
+    desk: Desk,
+    page: u32,
+    text: &[u8],
+    at: usize,
+    store: &mut [u8],
+    faults: &mut [u32],
+) -> usize
+    requires { ⌜ ItemsReady desk (now text) at (now store) (Aim.Page page) (now faults) ⌝ }
+    ensures { λ r. ⌜ takenAs r (now (store .exit)) (now (faults .exit)) ≡ takenOf desk (Aim.Page page) (now (store .entry)) (now (faults .entry)) (triplesOf desk (wordsFrom (now (text .entry)) at)) ⌝ }
+{
+    let start = text_fields::field_start(text, at);
+    if start < text.len() {
+        return take_items(
+            desk,
+            Group::Triple,
+            text,
+            start,
+            store,
+            Aim::Page(page),
+            faults,
+        );
+    }
+    0
 }

@@ -10,10 +10,9 @@ ghost use Rattle.value.specs.Number.{numberOf};
 ghost use Rattle.value.specs.Time.{timeOf};
 ghost use Rattle.value.specs.Field.{versionOf};
 ghost use Rattle.load.specs.Condition.{fullOf, unsupportedOf};
-ghost use Rattle.load.specs.Ask.{numberedBy, subBy, numeralOf, pageAt, namedBy, namedOf, delayOf, linkBy, timesOf, augments as augmentsOf, tablePages};
+ghost use Rattle.load.specs.Ask.{numberedBy, subBy, numeralOf, pageAt, namedBy, namedOf, delayOf, timesOf, augments as augmentsOf, tablePages};
 ghost use Rattle.load.specs.Fits.{highestPage};
 ghost use Rattle.load_naming.specs.Line.{FieldIn, Line};
-ghost use Rattle.load_naming.specs.Times.{upBy, downBy, followonBy};
 use load::Named;
 use load::Numeral;
 use load::Reading;
@@ -53,28 +52,30 @@ const BAD_TIME: u32 = 241;
 // ---- numbers
 
 // A cue's or a group's number, or that of a linked cue.
-fn cue_number(word: &[u8]) -> Numeral
-    ensures { λ r. ⌜ r ≡ numberedBy (numberOf (now (word .entry))) ⌝ }
+fn cue_number(text: &[u8], f: Field) -> Numeral
+    requires { ⌜ FieldIn (now text) f ⌝ }
+    ensures { λ r. ⌜ r ≡ numberedBy (wordIn (now (text .entry)) f) (numberOf (wordIn (now (text .entry)) f .chars)) ⌝ }
 {
-    match value::read_number(word) {
-        Numbered::Malformed => Numeral::Wrong(BAD_NUMBER),
-        Numbered::TooLarge => Numeral::Wrong(NUMBER_TOO_LARGE),
+    match value::read_number(text_fields::word(text, f)) {
+        Numbered::Malformed => Numeral::Wrong(load::blamed(f, BAD_NUMBER)),
+        Numbered::TooLarge => Numeral::Wrong(load::blamed(f, NUMBER_TOO_LARGE)),
         Numbered::Value(n) => Numeral::Number(n.whole, n.fraction),
     }
 }
 
 // A submaster's number, 1 to the highest.
-fn sub_number(desk: Desk, word: &[u8]) -> Numeral
-    ensures { λ r. ⌜ r ≡ subBy desk (integerOf (now (word .entry))) ⌝ }
+fn sub_number(desk: Desk, text: &[u8], f: Field) -> Numeral
+    requires { ⌜ FieldIn (now text) f ⌝ }
+    ensures { λ r. ⌜ r ≡ subBy desk (wordIn (now (text .entry)) f) (integerOf (wordIn (now (text .entry)) f .chars)) ⌝ }
 {
-    let Integer::Value(n) = value::read_integer(word) else {
-        return Numeral::Wrong(MALFORMED_SUB);
+    let Integer::Value(n) = value::read_integer(text_fields::word(text, f)) else {
+        return Numeral::Wrong(load::blamed(f, MALFORMED_SUB));
     };
     if n == 0 {
-        return Numeral::Wrong(BAD_SUB);
+        return Numeral::Wrong(load::blamed(f, BAD_SUB));
     }
     if desk.subs < n {
-        return Numeral::Wrong(BAD_SUB);
+        return Numeral::Wrong(load::blamed(f, BAD_SUB));
     }
     Numeral::Number(n, 0)
 }
@@ -83,35 +84,36 @@ fn number_in(desk: Desk, kind: Kind, text: &[u8], f: Field) -> Numeral
     requires { ⌜ FieldIn (now text) f ⌝ }
     ensures { λ r. ⌜ r ≡ numeralOf desk kind (wordIn (now (text .entry)) f) ⌝ }
 {
-    let word = text_fields::word(text, f);
     match kind {
-        Kind::Cue => cue_number(word),
-        Kind::Group => cue_number(word),
-        Kind::Sub => sub_number(desk, word),
+        Kind::Cue => cue_number(text, f),
+        Kind::Group => cue_number(text, f),
+        Kind::Sub => sub_number(desk, text, f),
     }
 }
 
 // ---- pages and names
 
 // The page of the next field, or another where there is none.
-pub fn page_at<'a>(other: u32, limit: u32, text: &'a [u8], columns: &'a [u8], at: usize) -> Paged
-    requires { ⌜ Line (now text) (now columns) at ⌝ }
-    ensures { λ r. ⌜ r ≡ pageAt other limit (wordsFrom (now (text .entry)) (now (columns .entry)) at) ⌝ }
+pub fn page_at(other: u32, limit: u32, text: &[u8], at: usize) -> Paged
+    requires { ⌜ Line (now text) at ⌝ }
+    ensures { λ r. ⌜ r ≡ pageAt other limit (wordsFrom (now (text .entry)) at) ⌝ }
 {
-    if text_fields::more(text, at) {
-        let f = text_fields::field_at(text, columns, at);
-        return value::read_page(text_fields::word(text, f), limit);
+    let f = text_fields::field_at(text, at);
+    if text_fields::is_missing(f) {
+        return Paged::Value(other);
     }
-    Paged::Value(other)
+    value::read_page(text_fields::word(text, f), limit)
 }
 
-fn key_of(number: Numeral, page: Paged) -> Named
-    ensures { λ r. ⌜ r ≡ namedBy number page ⌝ }
+// A page that is wrong is blamed on the field from `at` on.
+fn key_of(number: Numeral, page: Paged, text: &[u8], at: usize) -> Named
+    requires { ⌜ Line (now text) at ⌝ }
+    ensures { λ r. ⌜ r ≡ namedBy number (headOf (wordsFrom (now (text .entry)) at)) page ⌝ }
 {
     match number {
-        Numeral::Wrong(condition) => Named::Refused(condition),
+        Numeral::Wrong(fault) => Named::Refused(fault),
         Numeral::Number(whole, fraction) => match page {
-            Paged::Bad => Named::Refused(BAD_PAGE),
+            Paged::Bad => Named::Refused(load::blamed_at(text, at, BAD_PAGE)),
             Paged::Value(page) => Named::Name(Key {
                 page,
                 whole,
@@ -122,16 +124,15 @@ fn key_of(number: Numeral, page: Paged) -> Named
 }
 
 // A primary's number and page.
-pub fn name_at<'a>(desk: Desk, kind: Kind, text: &'a [u8], columns: &'a [u8], at: usize) -> Named
-    requires { ⌜ Line (now text) (now columns) at ⌝ }
-    ensures { λ r. ⌜ r ≡ namedOf desk kind (wordsFrom (now (text .entry)) (now (columns .entry)) at) ⌝ }
+pub fn name_at(desk: Desk, kind: Kind, text: &[u8], at: usize) -> Named
+    requires { ⌜ Line (now text) at ⌝ }
+    ensures { λ r. ⌜ r ≡ namedOf desk kind (wordsFrom (now (text .entry)) at) ⌝ }
 {
-    let f = text_fields::field_at(text, columns, at);
+    let f = text_fields::field_at(text, at);
     let number = number_in(desk, kind, text, f);
-    key_of(
-        number,
-        page_at(1, store_desk::pages(desk, kind), text, columns, f.end),
-    )
+    let end = f.end;
+    let page = page_at(1, store_desk::pages(desk, kind), text, end);
+    key_of(number, page, text, end)
 }
 
 // No room for a new memory. A submaster has a slot of its own.
@@ -166,71 +167,80 @@ fn time_in(text: &[u8], f: Field) -> Timed
 }
 
 // The optional delay, 0 where there is none.
-fn delay_at<'a>(text: &'a [u8], columns: &'a [u8], at: usize) -> Timed
-    requires { ⌜ Line (now text) (now columns) at ⌝ }
-    ensures { λ r. ⌜ r ≡ delayOf (wordsFrom (now (text .entry)) (now (columns .entry)) at) ⌝ }
+fn delay_at(text: &[u8], at: usize) -> Timed
+    requires { ⌜ Line (now text) at ⌝ }
+    ensures { λ r. ⌜ r ≡ delayOf (wordsFrom (now (text .entry)) at) ⌝ }
 {
-    if text_fields::more(text, at) {
-        let f = text_fields::field_at(text, columns, at);
-        return time_in(text, f);
+    let f = text_fields::field_at(text, at);
+    if text_fields::is_missing(f) {
+        return Timed::Value(0);
     }
-    Timed::Value(0)
+    time_in(text, f)
 }
 
-fn up(fade: Timed, delay: Timed) -> Reading
-    ensures { λ r. ⌜ r ≡ upBy fade delay ⌝ }
+// UP, DOWN: fade, optional delay.
+fn up_at(text: &[u8], at: usize) -> Reading
+    requires { ⌜ Line (now text) at ⌝ }
+    ensures { λ r. ⌜ r ≡ timesOf Secondary.Up (wordsFrom (now (text .entry)) at) ⌝ }
 {
-    let Timed::Value(fade) = fade else {
-        return Reading::Wrong(BAD_TIME);
+    let f = text_fields::field_at(text, at);
+    let end = f.end;
+    let Timed::Value(fade) = time_in(text, f) else {
+        return Reading::Wrong(load::blamed(f, BAD_TIME));
     };
-    let Timed::Value(delay) = delay else {
-        return Reading::Wrong(BAD_TIME);
+    let Timed::Value(delay) = delay_at(text, end) else {
+        return Reading::Wrong(load::blamed_at(text, end, BAD_TIME));
     };
     Reading::Change(Edit::Up(fade, delay))
 }
 
-fn down(fade: Timed, delay: Timed) -> Reading
-    ensures { λ r. ⌜ r ≡ downBy fade delay ⌝ }
+fn down_at(text: &[u8], at: usize) -> Reading
+    requires { ⌜ Line (now text) at ⌝ }
+    ensures { λ r. ⌜ r ≡ timesOf Secondary.Down (wordsFrom (now (text .entry)) at) ⌝ }
 {
-    let Timed::Value(fade) = fade else {
-        return Reading::Wrong(BAD_TIME);
+    let f = text_fields::field_at(text, at);
+    let end = f.end;
+    let Timed::Value(fade) = time_in(text, f) else {
+        return Reading::Wrong(load::blamed(f, BAD_TIME));
     };
-    let Timed::Value(delay) = delay else {
-        return Reading::Wrong(BAD_TIME);
+    let Timed::Value(delay) = delay_at(text, end) else {
+        return Reading::Wrong(load::blamed_at(text, end, BAD_TIME));
     };
     Reading::Change(Edit::Down(fade, delay))
 }
 
-fn followon(time: Timed) -> Reading
-    ensures { λ r. ⌜ r ≡ followonBy time ⌝ }
+fn followon_at(text: &[u8], at: usize) -> Reading
+    requires { ⌜ Line (now text) at ⌝ }
+    ensures { λ r. ⌜ r ≡ timesOf Secondary.Followon (wordsFrom (now (text .entry)) at) ⌝ }
 {
-    let Timed::Value(time) = time else {
-        return Reading::Wrong(BAD_TIME);
+    let f = text_fields::field_at(text, at);
+    let Timed::Value(time) = time_in(text, f) else {
+        return Reading::Wrong(load::blamed(f, BAD_TIME));
     };
     Reading::Change(Edit::Followon(time))
 }
 
-fn link(number: Numeral) -> Reading
-    ensures { λ r. ⌜ r ≡ linkBy number ⌝ }
+fn link_at(text: &[u8], at: usize) -> Reading
+    requires { ⌜ Line (now text) at ⌝ }
+    ensures { λ r. ⌜ r ≡ timesOf Secondary.Link (wordsFrom (now (text .entry)) at) ⌝ }
 {
-    match number {
-        Numeral::Wrong(condition) => Reading::Wrong(condition),
+    match cue_number(text, text_fields::field_at(text, at)) {
+        Numeral::Wrong(fault) => Reading::Wrong(fault),
         Numeral::Number(whole, fraction) => Reading::Change(Edit::Link(whole, fraction)),
     }
 }
 
 // The change that UP, DOWN, FOLLOWON or LINK asks for.
-pub fn change_at<'a>(e: Secondary, text: &'a [u8], columns: &'a [u8], at: usize) -> Reading
-    requires { ⌜ Line (now text) (now columns) at ⌝ }
-    ensures { λ r. ⌜ r ≡ timesOf e (wordsFrom (now (text .entry)) (now (columns .entry)) at) ⌝ }
+pub fn change_at(e: Secondary, text: &[u8], at: usize) -> Reading
+    requires { ⌜ Line (now text) at ⌝ }
+    ensures { λ r. ⌜ r ≡ timesOf e (wordsFrom (now (text .entry)) at) ⌝ }
 {
-    let f = text_fields::field_at(text, columns, at);
     match e {
-        Secondary::Chan => Reading::Wrong(0),
-        Secondary::Up => up(time_in(text, f), delay_at(text, columns, f.end)),
-        Secondary::Down => down(time_in(text, f), delay_at(text, columns, f.end)),
-        Secondary::Followon => followon(time_in(text, f)),
-        Secondary::Link => link(cue_number(text_fields::word(text, f))),
+        Secondary::Chan => Reading::Wrong(load::blameless(0)),
+        Secondary::Up => up_at(text, at),
+        Secondary::Down => down_at(text, at),
+        Secondary::Followon => followon_at(text, at),
+        Secondary::Link => link_at(text, at),
     }
 }
 
@@ -285,10 +295,10 @@ pub fn most_pages(desk: Desk) -> u32
 // ---- IDENT
 
 // The version that IDENT names.
-pub fn version_at<'a>(text: &'a [u8], columns: &'a [u8], at: usize) -> Version
-    requires { ⌜ Line (now text) (now columns) at ⌝ }
-    ensures { λ r. ⌜ r ≡ versionOf (headOf (wordsFrom (now (text .entry)) (now (columns .entry)) at) .chars) ⌝ }
+pub fn version_at(text: &[u8], at: usize) -> Version
+    requires { ⌜ Line (now text) at ⌝ }
+    ensures { λ r. ⌜ r ≡ versionOf (headOf (wordsFrom (now (text .entry)) at) .chars) ⌝ }
 {
-    let f = text_fields::field_at(text, columns, at);
+    let f = text_fields::field_at(text, at);
     value::read_version(text_fields::word(text, f))
 }

@@ -3,26 +3,32 @@
 use mathlib.Core.Path.{_≡_, sym, ap, _∙_, subst}
 use mathlib.Core.Bool.{Bool, true, false}
 use mathlib.Core.List.{List, [], _∷_, _++_}
-use Prim.Native.Nat.{ℕ, _≤_, _<_}
+use Prim.Native.Nat.{ℕ, _+_, _≤_, _<_}
 use native.Mathlib.Omega.{arith}
+use lib.ListN.{length}
 use Rattle.cells.proofs.Split.{by-test, cond-true, cond-false}
 use Rattle.store_desk.specs.declared.Desk.{Desk}
 use Rattle.store_desk.specs.declared.Kind.{Kind}
 use Rattle.store_desk.specs.declared.Kind.the-variants.{Cue, Group, Sub}
-use Rattle.store_desk.specs.Size.{InRange}
+use Rattle.store_desk.specs.Size.{mostPages, InRange}
 use Rattle.store_desk.specs.Name.{pagesOf, supported}
 use Rattle.store_desk.proofs.Name.{pages-le}
-use Rattle.text_fields.specs.declared.Field.{Field}
 use Rattle.text_fields.specs.declared.Item.{Item}
+use Rattle.text_fields.specs.declared.Item.the-variants.{Other}
+use Rattle.text_fields.specs.declared.SaidItem.{SaidItem}
 use Rattle.text_fields.specs.Words.{Word, headOf, tailOf}
-use Rattle.text_fields.specs.Places.{wordsFrom, fieldAt, wordIn}
+use Rattle.text_fields.specs.Places.{wordsFrom, startAt, endAt}
 use Rattle.text_fields.specs.Keywords.{itemOf}
+use Rattle.text_fields.specs.Tables.{saidItemAt}
+use Rattle.text_fields.proofs.Words.{start-within, end-within, words-tail, said-item-head}
 use Rattle.value.specs.declared.Paged.{Paged}
 use Rattle.value.specs.declared.Paged.the-variants.{Bad, Value as IsPage}
 use Rattle.store.specs.Change.{everyPage, cleared, clearedPatch}
+use Rattle.load.specs.declared.Fault.{Fault}
 use Rattle.load.specs.declared.State.{State}
 use Rattle.load.specs.declared.Outcome.the-variants.{Dropped, Obeyed}
-use Rattle.load.specs.Condition.{badPage}
+use Rattle.load.specs.Condition.{badPage, unknownItem}
+use Rattle.load.specs.Item.{blame}
 use Rattle.load.specs.Ask.{Wipe, table, dimmers, rests, clears, pageAt, pagedAsk, kindAsk, dimmersAsk, tablePages}
 use Rattle.load.specs.Fits.{highestPage}
 use Rattle.load.specs.Ask.{kindWipes, dimmerWipes, allWipes, allAsk, itemAsk, clearAsk}
@@ -30,10 +36,10 @@ use Rattle.load.proofs.Tables.{kind-has, kind-lacks, dimmers-have as patch-has,
 use Rattle.load.specs.Step.{ended, settle, wiped, acted}
 use Rattle.load.proofs.Wiped.{wiped-join}
 use Rattle.load_naming.specs.Line.{Line}
-use Rattle.load_naming.proofs.Fields.{head-at, tail-at}
 use Rattle.load.proofs.Read.{PageIn, page-at-in}
 use Rattle.load_step.specs.declared.Stepped.{Stepped}
 use Rattle.load_step.specs.Held.{stepping, steppedOf}
+use Rattle.load_step.specs.Parts.{keywordIn}
 
 -- ---- pages within a table's fit the page's six bits
 pub page-le : (limit : ℕ) (ws : List Word) {x : Paged} {p : ℕ} → x ≡ pageAt everyPage limit ws → x ≡ IsPage p → p ≤ limit
@@ -41,28 +47,28 @@ page-le limit ws e g =
     subst (λ (x : Paged). PageIn 0 limit x) (sym e ∙ g) (page-at-in 0 everyPage limit (omega arith) (omega arith) ws) .1
 
 pub kind-page : (d : Desk) (k : Kind) → InRange d → (ws : List Word) {limit : ℕ} {x : Paged} {p : ℕ} → limit ≡ pagesOf d k
-    → x ≡ pageAt everyPage limit ws → x ≡ IsPage p → p < 64
+    → x ≡ pageAt everyPage limit ws → x ≡ IsPage p → p < mostPages + 1
 kind-page d k r ws {limit} l e g =
     let a = page-le limit ws e g in
     let b = pages-le d r k in
     omega arith
 
-pub table-page : (d : Desk) (k : Kind) → InRange d → {n p : ℕ} → n ≡ tablePages d k → p ≤ n → p < 64
+pub table-page : (d : Desk) (k : Kind) → InRange d → {n p : ℕ} → n ≡ tablePages d k → p ≤ n → p < mostPages + 1
 unfolding tablePages
 table-page d k r {n} {p} e h =
     let b = pages-le d r k in
-    let l : tablePages d k ≤ 63 = by-test (λ (x : ℕ). x ≤ 63) (supported d k) (pagesOf d k) 0 (λ t. b) (λ t. omega arith) in
+    let l : tablePages d k ≤ mostPages = by-test (λ (x : ℕ). x ≤ mostPages) (supported d k) (pagesOf d k) 0 (λ t. b) (λ t. omega arith) in
     omega arith
 
 -- ---- what is asked: a page that is wrong, and one that is right
-module _ (f : ℕ → List Wipe) {x : Paged} where
-  pub paged-bad : x ≡ Bad → rests (Dropped badPage) ≡ pagedAsk x f
+module _ (w : Word) (g : ℕ → List Wipe) {x : Paged} where
+  pub paged-bad : x ≡ Bad → {f : Fault} → f ≡ blame w badPage → rests (Dropped f) ≡ pagedAsk w x g
   unfolding pagedAsk
-  paged-bad e = sym (ap (λ (y : Paged). pagedAsk y f) e)
+  paged-bad e h = ap (λ (y : Fault). rests (Dropped y)) h ∙ sym (ap (λ (y : Paged). pagedAsk w y g) e)
 
-  pub paged-good : {p : ℕ} → x ≡ IsPage p → clears (f p) ≡ pagedAsk x f
+  pub paged-good : {p : ℕ} → x ≡ IsPage p → clears (g p) ≡ pagedAsk w x g
   unfolding pagedAsk
-  paged-good e = sym (ap (λ (y : Paged). pagedAsk y f) e)
+  paged-good e = sym (ap (λ (y : Paged). pagedAsk w y g) e)
 
 -- a kind
 abbrev pub oneTable : Kind → ℕ → List Wipe
@@ -73,21 +79,26 @@ module _ (d : Desk) (k : Kind) (ws : List Word) {b : Bool} (s : b ≡ supported 
   unfolding kindAsk
   kind-unsupported e = sym (cond-false (supported d k) _ _ (sym s ∙ e))
 
-  pub kind-as : b ≡ true → {limit : ℕ} {x : Paged} → limit ≡ pagesOf d k → x ≡ pageAt everyPage limit ws → pagedAsk x (oneTable k) ≡ kindAsk d k ws
+  pub kind-as : b ≡ true → {limit : ℕ} {x : Paged} → limit ≡ pagesOf d k → x ≡ pageAt everyPage limit ws
+      → pagedAsk (headOf ws) x (oneTable k) ≡ kindAsk d k ws
   unfolding kindAsk
   kind-as e l g =
-      ap (λ (y : Paged). pagedAsk y (oneTable k)) (g ∙ ap (λ (y : ℕ). pageAt everyPage y ws) l) ∙ sym (cond-true (supported d k) _ _ (sym s ∙ e))
+      ap (λ (y : Paged). pagedAsk (headOf ws) y (oneTable k)) (g ∙ ap (λ (y : ℕ). pageAt everyPage y ws) l)
+      ∙ sym (cond-true (supported d k) _ _ (sym s ∙ e))
 
 -- the patch, all tables
 abbrev pub onePatch : ℕ → List Wipe
 onePatch p = dimmers p ∷ []
 
-pub dimmers-as : (d : Desk) (ws : List Word) {x : Paged} → x ≡ pageAt everyPage (d .«patch_pages») ws → pagedAsk x onePatch ≡ dimmersAsk d ws
+pub dimmers-as : (d : Desk) (ws : List Word) {x : Paged} → x ≡ pageAt everyPage (d .«patch_pages») ws
+    → pagedAsk (headOf ws) x onePatch ≡ dimmersAsk d ws
 unfolding dimmersAsk
-dimmers-as d ws g = ap (λ (y : Paged). pagedAsk y onePatch) g
+dimmers-as d ws g = ap (λ (y : Paged). pagedAsk (headOf ws) y onePatch) g
 
-pub all-as : (d : Desk) (ws : List Word) {limit : ℕ} {x : Paged} → limit ≡ highestPage d → x ≡ pageAt everyPage limit ws → pagedAsk x (allWipes d) ≡ allAsk d ws
-all-as d ws l g = ap (λ (y : Paged). pagedAsk y (allWipes d)) (g ∙ ap (λ (y : ℕ). pageAt everyPage y ws) l) ∙ sym (all-ask d ws)
+pub all-as : (d : Desk) (ws : List Word) {limit : ℕ} {x : Paged} → limit ≡ highestPage d → x ≡ pageAt everyPage limit ws
+    → pagedAsk (headOf ws) x (allWipes d) ≡ allAsk d ws
+all-as d ws l g =
+    ap (λ (y : Paged). pagedAsk (headOf ws) y (allWipes d)) (g ∙ ap (λ (y : ℕ). pageAt everyPage y ws) l) ∙ sym (all-ask d ws)
 
 -- ---- what the store does with it
 module _ (d : Desk) (s : State) (t : List ℕ) {u : List ℕ} {r : Stepped} (z : stepping r u ≡ steppedOf d (ended (settle d s u) Obeyed u)) where
@@ -136,11 +147,27 @@ module _ (d : Desk) (p : ℕ) (t : List ℕ) where
       ∙ wiped-join d groups subs _)
 
 -- ---- by the item
-pub clear-as : (d : Desk) {text columns : List ℕ} {place : ℕ} {f : Field} {w : List ℕ} {x y : Item} → Line text columns place
-    → f ≡ fieldAt text columns place → w ≡ wordIn text f .chars → x ≡ itemOf w → x ≡ y
-    → itemAsk d y (wordsFrom text columns (f .end)) ≡ clearAsk d (wordsFrom text columns place)
-clear-as d {text} {columns} {place} {f} {w} l e g h k =
-    let a : itemOf w ≡ itemOf (headOf (wordsFrom text columns place) .chars) =
-    ap (λ (v : List ℕ). itemOf v) g ∙ sym (ap (λ (v : Word). itemOf (v .chars)) (head-at l e)) in
-    let b : wordsFrom text columns (f .end) ≡ tailOf (wordsFrom text columns place) = sym (tail-at l e) in
-    λ i. itemAsk d ((sym k ∙ h ∙ a) i) (b i)
+pub item-start : {text : List ℕ} {place start : ℕ} → start ≡ startAt text place → Line text place → start ≤ length text
+item-start {text} {place} e l = subst (λ (n : ℕ). n ≤ length text) (sym e) (start-within text place (l .within))
+
+pub item-other : (d : Desk) (w : Word) (ws : List Word) {f : Fault} → f ≡ blame w unknownItem → rests (Dropped f) ≡ itemAsk d Other w ws
+unfolding itemAsk
+item-other d w ws e = ap (λ (x : Fault). rests (Dropped x)) e
+
+module _ (text : List ℕ) (place : ℕ) {start : ℕ} {said : SaidItem} (e : start ≡ startAt text place) (g : said ≡ saidItemAt text start) where
+  item-said : said ≡ record { item = itemOf (headOf (wordsFrom text place) .chars); end = endAt text place }
+  item-said = g ∙ said-item-head text place e
+
+  pub item-line : Line text place → Line text (said .end)
+  item-line l =
+      record {
+        within = subst (λ (y : SaidItem). y .end ≤ length text) (sym item-said) (end-within text place (l .within));
+        short = l .short;
+      }
+
+  pub clear-as : (d : Desk) {y : Item} → said .item ≡ y → itemAsk d y (keywordIn text) (wordsFrom text (said .end)) ≡ clearAsk d (keywordIn text) (wordsFrom text place)
+  clear-as d k =
+      let a : itemOf (headOf (wordsFrom text place) .chars) ≡ said .item = sym (ap (λ (y : SaidItem). y .item) item-said) in
+      let b : tailOf (wordsFrom text place) ≡ wordsFrom text (said .end) =
+      words-tail text place ∙ sym (ap (λ (y : SaidItem). wordsFrom text (y .end)) item-said) in
+      sym (λ i. itemAsk d ((a ∙ k) i) (keywordIn text) (b i))

@@ -1,10 +1,11 @@
--- What is open, with its slot: answers that leave the store alone, a slot that stays where the store finds each memory as before, and what is left
--- open after CLEAR. By cases on what is open.
+-- What is open, with its slot: a slot that stays where the store finds each memory as before, and what is left open after CLEAR. By cases on
+-- what is open.
 -- Assumes nothing.
 use mathlib.Core.Path.{_≡_, refl, sym, ap, _∙_, subst}
 use mathlib.Core.List.{List}
 use Prim.Native.Nat.{ℕ, _<_}
 use native.Mathlib.Omega.{arith}
+use lib.ListN.{length}
 use Rattle.cells.specs.Search.{Found, at, nowhere}
 use Rattle.store_desk.specs.declared.Desk.{Desk}
 use Rattle.store_desk.specs.declared.Key.{Key}
@@ -13,46 +14,22 @@ use Rattle.store_desk.specs.Size.{slotsOf}
 use Rattle.store_desk.specs.Name.{Name, KeyFits}
 use Rattle.store.specs.declared.Place.{Place}
 use Rattle.store.specs.declared.Place.the-variants.{At, Nowhere}
+use Rattle.store.specs.declared.Edit.{Edit}
 use Rattle.store.specs.Slots.{find, onFound, placeOf}
+use Rattle.store.specs.Change.{edited}
+use Rattle.store.specs.Fits.{EditFits}
+use Rattle.store.proofs.Edits.{edited-at, edit-at-find, edit-at-length}
 use Rattle.store.proofs.Start.{found-used}
+use Rattle.store_code.specs.Fits.{Fitting}
 use Rattle.store_code.proofs.Found.{place-at, place-nowhere}
 use Rattle.load.specs.declared.State.{State}
 use Rattle.load.specs.declared.Open.{Open}
 use Rattle.load.specs.declared.Open.the-variants.{Nothing, Skipping, Memory}
-use Rattle.load.specs.declared.Outcome.{Outcome}
-use Rattle.load.specs.Ask.{Ask, rests, skips, name}
-use Rattle.load.specs.Step.{ended, noKey, nothingOpen, skipping, settleBy, settle, acted}
+use Rattle.load.specs.Ask.{name}
+use Rattle.load.specs.Step.{noKey, nothingOpen, skipping, settleBy, settle}
 use Rattle.load_step.specs.declared.Held.{Held}
-use Rattle.load_step.specs.declared.Stepped.{Stepped}
-use Rattle.load_step.specs.Held.{slotBy, slotOf, heldOf, IsKept, Settled, HeldReady, Res, stepping, steppedOf}
-use Rattle.load_step.specs.Parts.{kindIn, openName, IsOpen, resting, endedAs}
-
--- ---- an answer with no faults
-pub ended-as : (d : Desk) (t : List ℕ) (s : State) (o : Outcome) {h : Held} {r : Stepped}
-    → r ≡ endedAs h o → h ≡ heldOf d t s → stepping r t ≡ steppedOf d (ended s o t)
-unfolding steppedOf
-ended-as d t s o e g = (λ i. stepping (e i) t) ∙ (λ i. stepping (endedAs (g i) o) t)
-
--- ---- what answers an ask
--- an equal one
-pub asked-as : (d : Desk) (s : State) (t : List ℕ) {a b : Ask} {q : Res} → a ≡ b → q ≡ steppedOf d (acted d s t a) → q ≡ steppedOf d (acted d s t b)
-asked-as d s t e z = z ∙ ap (λ (x : Ask). steppedOf d (acted d s t x)) e
-
--- one that leaves what is open as it was
-pub rests-as : (d : Desk) (t : List ℕ) (o : Outcome) {h : Held} {r : Stepped}
-    → HeldReady d t h → r ≡ endedAs h o → stepping r t ≡ steppedOf d (acted d (h .state) t (rests o))
-unfolding acted
-rests-as d t o {h} g e = ended-as d t (h .state) o e (g .same)
-
--- nothing open, and skipping, are in no slot
-skipping-held : (d : Desk) (t : List ℕ) → resting Skipping ≡ heldOf d t skipping
-unfolding heldOf slotBy
-skipping-held d t = refl
-
-pub skips-as : (d : Desk) (s : State) (t : List ℕ) (o : Outcome) {r : Stepped}
-    → r ≡ endedAs (resting Skipping) o → stepping r t ≡ steppedOf d (acted d s t (skips o))
-unfolding acted
-skips-as d s t o e = ended-as d t skipping o e (skipping-held d t)
+use Rattle.load_step.specs.Held.{slotBy, slotOf, heldOf, IsKept, Settled, HeldReady}
+use Rattle.load_step.specs.Parts.{kindIn, openName, IsOpen, resting}
 
 -- ---- the open memory is in its slot
 open-kept : (d : Desk) (t : List ℕ) (key : Key) (o : Open) → IsOpen o → IsKept d t key o → find d t (name (kindIn o) key) ≡ at (slotBy d t key o)
@@ -71,6 +48,15 @@ module _ (d : Desk) (t : List ℕ) {h : Held} (g : HeldReady d t h) (o : IsOpen 
 
   pub open-slot : h .slot < slotsOf d
   open-slot = found-used d t (openName (h .state)) (h .slot) open-found .0
+
+-- ---- a change leaves every memory where it is found
+module _ (d : Desk) (t : List ℕ) (f : Fitting d t) (n : Name) (i : ℕ) (g : find d t n ≡ at i) (e : Edit) (m : EditFits e) where
+  pub edited-find : (y : Name) → find d (edited d t n e) y ≡ find d t y
+  edited-find y =
+      ap (λ (v : List ℕ). find d v y) (edited-at d t n e i g) ∙ edit-at-find d t (f .long) i (found-used d t n i g .0) e m y
+
+  pub edited-length : length (edited d t n e) ≡ length t
+  edited-length = ap length (edited-at d t n e i g) ∙ edit-at-length d t (f .long) i (found-used d t n i g .0) e m
 
 -- ---- where every memory is found as before
 module _ (d : Desk) (t u : List ℕ) (f : (m : Name) → find d u m ≡ find d t m) where

@@ -1,11 +1,10 @@
 -- A step keeps what holds between records: an open memory is one that the store keeps, under a key that fits the head's bits, and the
--- store stays as long as it was. And a record of at most 80 characters has at most forty faults. By what a record asks for.
+-- store stays as long as it was. By what a record asks for.
 -- Assumes nothing.
 use mathlib.Core.Path.{_≡_, refl, ap, _∙_, subst}
 use mathlib.Core.Bool.{true}
 use mathlib.Core.List.{List}
-use Prim.Native.Nat.{ℕ, _+_, _*_, _≤_, _<_}
-use native.Mathlib.Omega.{arith}
+use Prim.Native.Nat.{ℕ, _<_}
 use lib.ListN.{length}
 use Rattle.cells.specs.Search.{Found, at, nowhere}
 use Rattle.store_desk.specs.declared.Desk.{Desk}
@@ -14,35 +13,29 @@ use Rattle.store_desk.specs.declared.Kind.{Kind}
 use Rattle.store_desk.specs.Size.{slotsOf}
 use Rattle.store_desk.specs.Name.{Name, okName}
 use Rattle.store_desk.proofs.Name.{ok-fits}
-use Rattle.text_records.specs.Received.{longest}
-use Rattle.text_fields.specs.Words.{Word, wordsOf, fieldsOf, tailOf}
-use Rattle.text_fields.proofs.Counts.{words-few}
+use Rattle.text_fields.specs.Words.{fieldsOf, tailOf}
 use Rattle.store.specs.declared.Edit.{Edit}
 use Rattle.store.specs.Slots.{find}
-use Rattle.store.specs.Change.{blankSlot, seat, started, edited, editAt}
+use Rattle.store.specs.Change.{blankSlot, seat, started, edited}
 use Rattle.store.specs.Fits.{EditFits}
 use Rattle.store.proofs.Places.{put-length}
 use Rattle.store.proofs.Start.{blank-length, started-at, start-own, found-used}
-use Rattle.store.proofs.Edits.{edited-at, edit-at-find, edit-at-length, in-time-fits}
+use Rattle.store.proofs.Edits.{in-time-fits}
 use Rattle.store_code.specs.Fits.{Fitting}
-use Rattle.load.specs.declared.Entry.{Entry}
 use Rattle.load.specs.declared.State.{State}
 use Rattle.load.specs.declared.Open.{Open}
 use Rattle.load.specs.declared.Open.the-variants.{Memory}
 use Rattle.load.specs.declared.Outcome.{Outcome}
 use Rattle.load.specs.declared.Outcome.the-variants.{Dropped}
 use Rattle.load.specs.Condition.{fullOf}
-use Rattle.load.specs.Item.{faultsOf, memory, page, allDone}
+use Rattle.load.specs.Item.{blameNone, memory, page, allDone}
 use Rattle.load.specs.Ask.{Ask, name}
-use Rattle.load.specs.Step.{Step, ended, skipping as skippingState, wiped, openedBy, acted, stepOf, recordStep}
-use Rattle.load.proofs.Entries.{faults-few}
-use Rattle.load.proofs.Deed.{Deed, resting, skipping, opening, editing, setting, patching, clearing, tail-few, fields-deed, record-deed}
+use Rattle.load.specs.Step.{Step, ended, skipping as skippingState, wiped, openedBy, acted, recordStep}
+use Rattle.load.proofs.Deed.{Deed, resting, skipping, opening, editing, setting, patching, clearing, record-deed}
 use Rattle.load.proofs.Wiped.{wiped-length}
-use Rattle.load_items.specs.Done.{mostFaults, faultsHeld}
 use Rattle.load_items.proofs.Done.{slot-find, slot-length, page-find, page-length}
-use Rattle.load_step.specs.declared.Stepped.{Stepped}
-use Rattle.load_step.specs.Held.{slotBy, IsKept, Settled, Res, stepping, steppedOf}
-use Rattle.load_step.proofs.Holding.{skipping-settled, memory-settled, settle-settled, settled-stays}
+use Rattle.load_step.specs.Held.{slotBy, IsKept, Settled}
+use Rattle.load_step.proofs.Holding.{skipping-settled, memory-settled, settle-settled, settled-stays, edited-find, edited-length}
 
 -- ---- what is kept
 pub record Keeps (d : Desk) (t : List ℕ) (x : Step) : Type 0 where
@@ -55,7 +48,7 @@ module _ (d : Desk) (t : List ℕ) (f : Fitting d t) where
 
   opened-keeps : (k : Kind) (key : Key) → okName d (name k key) ≡ true → (a : Found) → seat d t (name k key) ≡ a → Keeps d t (openedBy d k key a t)
   unfolding openedBy
-  opened-keeps k key o nowhere e = skips (Dropped (fullOf k))
+  opened-keeps k key o nowhere e = skips (Dropped (blameNone (fullOf k)))
   opened-keeps k key o (at i) e =
       let n : Name = name k key in
       let g : find d (started d t n) n ≡ at i = start-own d t (f .long) n (f .range) o i e in
@@ -80,11 +73,9 @@ module _ (d : Desk) (t : List ℕ) (f : Fitting d t) where
       edited-keeps : (e : Edit) → EditFits e → Keeps d t (ended s Outcome.Obeyed (edited d t (name k (s .key)) e))
       edited-keeps e m =
           let n : Name = name k (s .key) in
-          let h : slot < slotsOf d = found-used d t n slot found .0 in
-          let q : edited d t n e ≡ editAt d t slot e = edited-at d t n e slot found in
           record {
-            settled = settled-stays d t (edited d t n e) (λ y. ap (λ (v : List ℕ). find d v y) q ∙ edit-at-find d t (f .long) slot h e m y) g;
-            long = ap length q ∙ edit-at-length d t (f .long) slot h e m;
+            settled = settled-stays d t (edited d t n e) (edited-find d t f n slot found e m) g;
+            long = edited-length d t f n slot found e m;
           }
 
     deed-keeps : (n : ℕ) {a : Ask} → Deed d s n a → Keeps d t (acted d s t a)
@@ -107,45 +98,3 @@ module _ (d : Desk) (t : List ℕ) (f : Fitting d t) where
     pub record-keeps : (r : List ℕ) → Keeps d t (recordStep d s r t)
     unfolding recordStep
     record-keeps r = deed-keeps (length (tailOf (fieldsOf r))) (record-deed d s r)
-
--- ---- at most forty faults
-module _ (d : Desk) (s : State) (t : List ℕ) (n : ℕ) where
-  -- half the fields
-  abbrev Few : Step → Type 0
-  Few x = 2 * length (x .faults) ≤ n + 1
-
-  items-few : (es : List Entry) → 2 * length es ≤ n + 1 → 2 * length (faultsOf es) ≤ n + 1
-  items-few es l = let h = faults-few es in omega arith
-
-  opened-few : (k : Kind) (key : Key) (a : Found) → Few (openedBy d k key a t)
-  unfolding openedBy
-  opened-few k key (at i) = omega arith
-  opened-few k key nowhere = omega arith
-
-  deed-few : {a : Ask} → Deed d s n a → Few (acted d s t a)
-  unfolding acted
-  deed-few (resting o h) = omega arith
-  deed-few (skipping o h i) = omega arith
-  deed-few (opening k y h) = opened-few k y (seat d t (name k y))
-  deed-few (editing k o e c) = omega arith
-  deed-few (setting k o es h l) = items-few es l
-  deed-few (patching p w es h l) = items-few es l
-  deed-few (clearing xs h) = omega arith
-
-module _ (d : Desk) (s : State) (t text columns : List ℕ) (c : length text ≤ longest) where
-  step-few : length (stepOf d s (wordsOf text columns) t .faults) ≤ mostFaults
-  step-few =
-      let ws : List Word = wordsOf text columns in
-      let a : 2 * length (stepOf d s ws t .faults) ≤ length (tailOf ws) + 1 = deed-few d s t (length (tailOf ws)) (fields-deed d s ws) in
-      let b : length (tailOf ws) ≤ length ws = tail-few ws in
-      let e : length ws ≤ length text = words-few text columns in
-      omega arith
-
-  -- the equation and the answer's count of them
-  pub step-told : {r : Stepped} {u : List ℕ} → stepping r u ≡ steppedOf d (stepOf d s (wordsOf text columns) t)
-      → (stepping r u ≡ steppedOf d (stepOf d s (wordsOf text columns) t)) × (r .faults .count ≤ mostFaults)
-  unfolding steppedOf faultsHeld
-  step-told {r} e =
-      let a : r .faults .count ≡ length (stepOf d s (wordsOf text columns) t .faults) = ap (λ (y : Res). y .stepped .faults .count) e in
-      let b = step-few in
-      (e, (let z : r .faults .count ≤ mostFaults = omega arith in z))

@@ -1,6 +1,7 @@
 pub mod Holding
+pub mod Answers
 pub mod Primaries
 pub mod Secondaries
 pub mod Clearing
-pub mod Basic
+pub mod Basics
 pub mod Laws

@@ -20,20 +20,23 @@ use Rattle.store.proofs.Start.{started-full, start-own}
 use Rattle.store_code.specs.Fits.{Fitting}
 use Rattle.store_code.specs.Answer.{Started, startedAs, startOf}
 use Rattle.store_code.proofs.Found.{place-at, place-nowhere}
+use Rattle.load.specs.declared.Fault.{Fault}
 use Rattle.load.specs.declared.Named.{Named}
 use Rattle.load.specs.declared.Named.the-variants.{Refused, Name as Accepted}
 use Rattle.load.specs.declared.State.{State}
 use Rattle.load.specs.declared.Open.the-variants.{Skipping}
 use Rattle.load.specs.declared.Outcome.the-variants.{Dropped, Obeyed}
 use Rattle.load.specs.Condition.{fullOf, unsupportedOf}
+use Rattle.load.specs.Item.{blame, blameNone}
 use Rattle.load.specs.Ask.{Ask, skips, opens, name, namedOf, namedAsk, primaryAsk}
 use Rattle.load.specs.Step.{Step, ended, nothingOpen, skipping, opened, openedBy, acted}
 use Rattle.load.proofs.Read.{accepted-ok}
+use Rattle.load.proofs.Steps.{primary-faults}
 use Rattle.load_step.specs.declared.Held.{Held}
 use Rattle.load_step.specs.declared.Stepped.{Stepped}
-use Rattle.load_step.specs.Held.{slotBy, heldOf, Res, stepping, steppedOf}
+use Rattle.load_step.specs.Held.{slotBy, heldOf, stepping, steppedOf, steppingAll, steppedAll}
 use Rattle.load_step.specs.Parts.{resting, endedAs}
-use Rattle.load_step.proofs.Holding.{ended-as, skips-as}
+use Rattle.load_step.proofs.Answers.{ended-as, step-all, skips-as}
 
 -- ---- an accepted one
 module _ (d : Desk) (k : Kind) (key : Key) (t : List ℕ) {p : Place} {u : List ℕ} (s : startedAs p u ≡ startOf d t (name k key)) where
@@ -62,37 +65,39 @@ module _ (d : Desk) (k : Kind) (key : Key) (t : List ℕ) {p : Place} {u : List 
       ∙ ended-as d (started d t n) (opened k key) Obeyed e q
       ∙ ap (λ (x : Step). steppedOf d x) (opened-by a)
 
-  pub opened-full : {c : ℕ} {r : Stepped} → p ≡ Nowhere → c ≡ fullOf k → r ≡ endedAs (resting Skipping) (Dropped c)
-      → stepping r u ≡ steppedOf d (acted d nothingOpen t (opens k key))
+  pub opened-full : {c : ℕ} {f : Fault} {r : Stepped} → p ≡ Nowhere → c ≡ fullOf k → f ≡ blameNone c
+      → r ≡ endedAs (resting Skipping) (Dropped f) → stepping r u ≡ steppedOf d (acted d nothingOpen t (opens k key))
   unfolding openedBy acted
-  opened-full {c} {r} h g e =
+  opened-full {c} {f} {r} h g b e =
       let a : seat d t (name k key) ≡ nowhere = place-nowhere seat-is h in
       ap (λ (x : List ℕ). stepping r x) (store-is ∙ started-full d t (name k key) a)
-      ∙ skips-as d nothingOpen t (Dropped c) e
-      ∙ ap (λ (x : ℕ). steppedOf d (ended skipping (Dropped x) t)) g
+      ∙ skips-as d nothingOpen t (Dropped f) e
+      ∙ ap (λ (x : Fault). steppedOf d (ended skipping (Dropped x) t)) (b ∙ ap (λ (x : ℕ). blameNone x) g)
       ∙ ap (λ (x : Step). steppedOf d x) (opened-by a)
 
 -- ---- support, then the name
-module _ (d : Desk) (k : Kind) (ws : List Word) {b : Bool} (s : b ≡ supported d k) where
-  pub primary-unsupported : b ≡ false → {c : ℕ} → c ≡ unsupportedOf k → skips (Dropped c) ≡ primaryAsk d k ws
+module _ (d : Desk) (k : Kind) (w : Word) (ws : List Word) {b : Bool} (s : b ≡ supported d k) where
+  pub primary-unsupported : b ≡ false → {c : ℕ} {f : Fault} → c ≡ unsupportedOf k → f ≡ blame w c → skips (Dropped f) ≡ primaryAsk d k w ws
   unfolding primaryAsk
-  primary-unsupported h g = ap (λ (x : ℕ). skips (Dropped x)) g ∙ sym (cond-false (supported d k) _ _ (sym s ∙ h))
+  primary-unsupported h g e =
+      ap (λ (x : Fault). skips (Dropped x)) (e ∙ ap (λ (x : ℕ). blame w x) g) ∙ sym (cond-false (supported d k) _ _ (sym s ∙ h))
 
   module _ (h : b ≡ true) {n : Named} (g : n ≡ namedOf d k ws) where
-    named-by : {m : Named} → n ≡ m → namedAsk k m ≡ primaryAsk d k ws
+    named-by : {m : Named} → n ≡ m → namedAsk k m ≡ primaryAsk d k w ws
     unfolding primaryAsk
     named-by e = ap (λ (x : Named). namedAsk k x) (sym e ∙ g) ∙ sym (cond-true (supported d k) _ _ (sym s ∙ h))
 
-    pub primary-refused : {c : ℕ} → n ≡ Refused c → skips (Dropped c) ≡ primaryAsk d k ws
+    pub primary-refused : {f : Fault} → n ≡ Refused f → skips (Dropped f) ≡ primaryAsk d k w ws
     unfolding namedAsk
-    primary-refused {c} e = named-by {m = Refused c} e
+    primary-refused {f} e = named-by {m = Refused f} e
 
-    pub primary-opened : {key : Key} → n ≡ Accepted key → opens k key ≡ primaryAsk d k ws
+    pub primary-opened : {key : Key} → n ≡ Accepted key → opens k key ≡ primaryAsk d k w ws
     unfolding namedAsk
     primary-opened {key} e = named-by {m = Accepted key} e
 
-    pub primary-ok : InRange d → {key : Key} → n ≡ Accepted key → okName d (name k key) ≡ true
-    primary-ok r e = accepted-ok d k r (sym s ∙ h) ws (sym g ∙ e)
+module _ (d : Desk) (k : Kind) (ws : List Word) {b : Bool} (s : b ≡ supported d k) (h : b ≡ true) {n : Named} (g : n ≡ namedOf d k ws) where
+  pub primary-ok : InRange d → {key : Key} → n ≡ Accepted key → okName d (name k key) ≡ true
+  primary-ok r e = accepted-ok d k r (sym s ∙ h) ws (sym g ∙ e)
 
 -- ---- what was open plays no part
 module _ (d : Desk) (s : State) (t : List ℕ) (k : Kind) where
@@ -101,14 +106,17 @@ module _ (d : Desk) (s : State) (t : List ℕ) (k : Kind) where
 
   named-anew : (n : Named) → Anew (namedAsk k n)
   unfolding namedAsk acted
-  named-anew (Refused c) = refl
+  named-anew (Refused f) = refl
   named-anew (Accepted key) = refl
 
-  primary-anew : (ws : List Word) → Anew (primaryAsk d k ws)
+  primary-anew : (w : Word) (ws : List Word) → Anew (primaryAsk d k w ws)
   unfolding primaryAsk acted
-  primary-anew ws =
-      by-test Anew (supported d k) (namedAsk k (namedOf d k ws)) (skips (Dropped (unsupportedOf k))) (λ e. named-anew (namedOf d k ws)) (λ e. refl)
+  primary-anew w ws =
+      by-test Anew (supported d k) (namedAsk k (namedOf d k ws)) (skips (Dropped (blame w (unsupportedOf k)))) (λ e. named-anew (namedOf d k ws)) (λ e. refl)
 
-  pub primary-as : (ws : List Word) {q : Res} → q ≡ steppedOf d (acted d nothingOpen t (primaryAsk d k ws))
-      → q ≡ steppedOf d (acted d s t (primaryAsk d k ws))
-  primary-as ws z = z ∙ ap (λ (x : Step). steppedOf d x) (primary-anew ws)
+  -- with the lent list of faults
+  pub primary-all : (w : Word) (ws : List Word) (fs : List ℕ) {r : Stepped} {u : List ℕ}
+      → stepping r u ≡ steppedOf d (acted d nothingOpen t (primaryAsk d k w ws))
+      → steppingAll r u fs ≡ steppedAll d (acted d s t (primaryAsk d k w ws)) fs
+  primary-all w ws fs z =
+      step-all (acted d s t (primaryAsk d k w ws)) fs (primary-faults d s t k w ws) d (z ∙ ap (λ (x : Step). steppedOf d x) (primary-anew w ws))

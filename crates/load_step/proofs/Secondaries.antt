@@ -2,10 +2,11 @@
 -- By cases on what the fields ask for and on what is open.
 -- Assumes nothing.
 use mathlib.Core.Path.{_≡_, refl, sym, ap, _∙_, subst}
-use mathlib.Core.Bool.{Bool, true, false}
-use mathlib.Core.List.{List}
+use mathlib.Core.Bool.{Bool, true, false, false≢true}
+use mathlib.Core.List.{List, []}
 use Prim.Native.Nat.{ℕ}
-use Rattle.cells.proofs.Split.{cond-true, cond-false}
+use Rattle.cells.specs.Search.{at}
+use Rattle.cells.proofs.Split.{by-test, cond-true, cond-false}
 use Rattle.store_desk.specs.declared.Desk.{Desk}
 use Rattle.store_desk.specs.declared.Kind.{Kind}
 use Rattle.store_desk.specs.declared.Kind.the-variants.{Cue}
@@ -16,37 +17,37 @@ use Rattle.store.specs.declared.Edit.the-variants.{Up as SetUp, Down as SetDown
 use Rattle.store.specs.Slots.{find}
 use Rattle.store.specs.Change.{edited, editAt}
 use Rattle.store.specs.Form.{hasTimes, hasLink}
-use Rattle.store.proofs.Edits.{edited-at, edit-at-find, in-time-fits}
+use Rattle.store.proofs.Edits.{edited-at, in-time-fits}
 use Rattle.store_code.specs.Fits.{Fitting, OnDesk, Editing}
 use Rattle.load.specs.declared.Entry.{Entry}
+use Rattle.load.specs.declared.Fault.{Fault}
 use Rattle.load.specs.declared.State.{State}
 use Rattle.load.specs.declared.Open.{Open}
 use Rattle.load.specs.declared.Open.the-variants.{Nothing, Skipping, Memory}
+use Rattle.load.specs.declared.Outcome.{Outcome}
 use Rattle.load.specs.declared.Outcome.the-variants.{Passed, Dropped, Obeyed}
 use Rattle.load.specs.declared.Secondary.{Secondary}
 use Rattle.load.specs.declared.Secondary.the-variants.{Chan, Up, Down, Followon, Link}
 use Rattle.load.specs.declared.Reading.{Reading}
 use Rattle.load.specs.declared.Reading.the-variants.{Wrong as Misread, Change}
 use Rattle.load.specs.Condition.{wrongSecondary}
-use Rattle.load.specs.Item.{pairsOf, faultsOf, memory, allDone}
+use Rattle.load.specs.Item.{blame, pairsOf, memory, allDone}
 use Rattle.load.specs.Ask.{Ask, rests, edits, name, augments, timesOf, changeAsk, obeyedAsk, secondaryAsk}
-use Rattle.load.specs.Step.{ended, acted}
+use Rattle.load.specs.Step.{acted}
 use Rattle.load.proofs.Entries.{pairs-fit}
 use Rattle.load.proofs.Read.{NoLevel, ChangeOk, ReadingOk, reading-ok}
-use Rattle.load_items.specs.declared.Faults.{Faults}
-use Rattle.load_items.specs.declared.Group.the-variants.{Pair}
 use Rattle.load_items.specs.declared.Aim.the-variants.{Slot}
-use Rattle.load_items.specs.Done.{entriesIn, faultsHeld}
 use Rattle.load_items.specs.Take.{Taken, takenAs, takenOf}
 use Rattle.load_items.proofs.Done.{done-slot, slot-find}
+use Rattle.load_step.specs.declared.Did.{Did}
 use Rattle.load_step.specs.declared.Held.{Held}
-use Rattle.load_step.specs.declared.Stepped.{Stepped}
-use Rattle.load_step.specs.Held.{heldOf, HeldReady, stepping, steppedOf}
-use Rattle.load_step.specs.Parts.{kindIn, openName, IsOpen, endedAs, ReadingFits}
-use Rattle.load_step.proofs.Holding.{ended-as, open-found, open-slot, held-stays}
+use Rattle.load_step.specs.Held.{slotBy, heldOf, IsKept, HeldReady}
+use Rattle.load_step.specs.Parts.{kindIn, openName, IsOpen, didAs, hasItems, ReadingFits, doing, didOf, DeedsAll, doingAll, didAll}
+use Rattle.load_step.proofs.Holding.{open-found, held-stays, edited-find}
+use Rattle.load_step.proofs.Answers.{did-all, asked-did-all}
 
 -- ---- a change that is asked for can be written
-pub change-editing : (d : Desk) (k : Kind) (e : Edit) → ChangeOk k e → Editing d e
+change-editing : (d : Desk) (k : Kind) (e : Edit) → ChangeOk k e → Editing d e
 change-editing d k e c = record { fits = in-time-fits e (c .1); channel = on-desk e (c .2) }
   where
     on-desk : (x : Edit) → NoLevel x → OnDesk d x
@@ -76,7 +77,7 @@ pub change-fits : (d : Desk) {x : Reading} {e : Edit} → ReadingFits d x → x 
 change-fits d f g = subst (λ (y : Reading). ReadingFits d y) g f
 
 -- ---- UP, DOWN, FOLLOWON, LINK: what is asked
-pub change-wrong : (n : Name) {x : Reading} {c : ℕ} → x ≡ Misread c → rests (Dropped c) ≡ changeAsk n x
+pub change-wrong : (n : Name) {x : Reading} {f : Fault} → x ≡ Misread f → rests (Dropped f) ≡ changeAsk n x
 unfolding changeAsk
 change-wrong n e = sym (ap (λ (y : Reading). changeAsk n y) e)
 
@@ -84,63 +85,127 @@ pub change-edits : (n : Name) {x : Reading} {e : Edit} → x ≡ Change e → ed
 unfolding changeAsk
 change-edits n e = sym (ap (λ (y : Reading). changeAsk n y) e)
 
-pub obeyed-change : (d : Desk) (n : Name) (ws : List Word) {e f : Secondary} → e ≡ f → obeyedAsk d n f ws ≡ changeAsk n (timesOf f ws)
-    → {x : Reading} → x ≡ timesOf e ws → changeAsk n x ≡ obeyedAsk d n e ws
-obeyed-change d n ws g k b =
-    ap (λ (y : Reading). changeAsk n y) b
-    ∙ ap (λ (y : Secondary). changeAsk n (timesOf y ws)) g
-    ∙ sym (ap (λ (y : Secondary). obeyedAsk d n y ws) g ∙ k)
+change-faults : (d : Desk) (s : State) (t : List ℕ) (n : Name) (x : Reading) → acted d s t (changeAsk n x) .faults ≡ []
+unfolding changeAsk acted
+change-faults d s t n (Misread f) = refl
+change-faults d s t n (Change e) = refl
 
-pub obeyed-chan : (d : Desk) (n : Name) (ws : List Word) {e : Secondary} → e ≡ Chan → obeyedAsk d n Chan ws ≡ obeyedAsk d n e ws
-obeyed-chan d n ws g = sym (ap (λ (y : Secondary). obeyedAsk d n y ws) g)
+-- CHAN has items, the others a change
+items-chan : (d : Desk) (n : Name) (e : Secondary) (ws : List Word) → hasItems e ≡ true → obeyedAsk d n Chan ws ≡ obeyedAsk d n e ws
+unfolding hasItems
+items-chan d n Chan ws h = refl
+items-chan d n Up ws h = absurd (false≢true h)
+items-chan d n Down ws h = absurd (false≢true h)
+items-chan d n Followon ws h = absurd (false≢true h)
+items-chan d n Link ws h = absurd (false≢true h)
+
+no-items : (d : Desk) (n : Name) (e : Secondary) (ws : List Word) → hasItems e ≡ false → changeAsk n (timesOf e ws) ≡ obeyedAsk d n e ws
+unfolding hasItems obeyedAsk
+no-items d n Chan ws h = absurd (false≢true (sym h))
+no-items d n Up ws h = refl
+no-items d n Down ws h = refl
+no-items d n Followon ws h = refl
+no-items d n Link ws h = refl
+
+module _ (d : Desk) (s : State) (t : List ℕ) (n : Name) (e : Secondary) (ws : List Word) (fs : List ℕ) {b : Bool} (h : b ≡ hasItems e) where
+  pub obeyed-chan : b ≡ true → {q : DeedsAll} → q ≡ didAll (acted d s t (obeyedAsk d n Chan ws)) fs → q ≡ didAll (acted d s t (obeyedAsk d n e ws)) fs
+  obeyed-chan w z = asked-did-all d s t fs (items-chan d n e ws (sym h ∙ w)) z
+
+  pub obeyed-change : b ≡ false → {x : Reading} {r : Did} {u : List ℕ} → x ≡ timesOf e ws → doing r u ≡ didOf (acted d s t (changeAsk n x))
+      → doingAll r u fs ≡ didAll (acted d s t (obeyedAsk d n e ws)) fs
+  obeyed-change w {x} g z =
+      asked-did-all d s t fs (ap (λ (y : Reading). changeAsk n y) g ∙ no-items d n e ws (sym h ∙ w))
+      (did-all (acted d s t (changeAsk n x)) fs (change-faults d s t n x) z)
 
 -- ---- what the store does in the open memory's slot
-module _ (d : Desk) (t : List ℕ) {h : Held} (g : HeldReady d t h) (f : Fitting d t) (o : IsOpen (h .state .«open»)) where
-  pub edits-as : {e : Edit} {u : List ℕ} {r : Stepped} → Editing d e → u ≡ editAt d t (h .slot) e → r ≡ endedAs h Obeyed
-      → stepping r u ≡ steppedOf d (acted d (h .state) t (edits (openName (h .state)) e))
-  unfolding acted
-  edits-as {e} {u} m q z =
+module _ (d : Desk) (t : List ℕ) {h : Held} (g : HeldReady d t h) (o : IsOpen (h .state .«open»)) where
+  pub edits-did : (e : Edit) {u : List ℕ} {r : Did} → u ≡ editAt d t (h .slot) e → r ≡ didAs Obeyed
+      → doing r u ≡ didOf (acted d (h .state) t (edits (openName (h .state)) e))
+  unfolding acted didOf
+  edits-did e {u} q z =
       let ed : u ≡ edited d t (openName (h .state)) e = q ∙ sym (edited-at d t (openName (h .state)) e (h .slot) (open-found d t g o)) in
-      let same : (y : Name) → find d u y ≡ find d t y =
-      λ y. ap (λ (v : List ℕ). find d v y) q ∙ edit-at-find d t (f .long) (h .slot) (open-slot d t g o) e (m .fits) y in
-      ended-as d u (h .state) Obeyed z (held-stays d t u same (g .same)) ∙ ap (λ (v : List ℕ). steppedOf d (ended (h .state) Obeyed v)) ed
+      λ i. doing (z i) (ed i)
 
-  pub chan-as : (ws : List Word) {x : Faults} {u : List ℕ} → takenAs x u ≡ takenOf d (Slot (h .slot)) t (entriesIn Pair d ws)
-      → stepping (record { held = h; outcome = Obeyed; faults = x }) u
-      ≡ steppedOf d (acted d (h .state) t (obeyedAsk d (openName (h .state)) Chan ws))
-  unfolding acted obeyedAsk steppedOf takenOf entriesIn
-  chan-as ws {x} {u} q =
-      let n : Name = openName (h .state) in
+  pub chan-did : Fitting d t → (ws : List Word) (fs : List ℕ) {n : ℕ} {u us : List ℕ}
+      → takenAs n u us ≡ takenOf d (Slot (h .slot)) t fs (pairsOf d ws)
+      → doingAll (record { outcome = Obeyed; faults = n }) u us ≡ didAll (acted d (h .state) t (obeyedAsk d (openName (h .state)) Chan ws)) fs
+  unfolding acted obeyedAsk didAll didOf takenOf
+  chan-did f ws fs {n} {u} {us} q =
       let es : List Entry = pairsOf d ws in
-      let b : x ≡ faultsHeld (faultsOf es) = ap (λ (y : Taken). y .faults) q in
-      let a : u ≡ allDone d (memory n) t es =
-      ap (λ (y : Taken). y .store) q ∙ sym (done-slot d n (h .slot) es t f (pairs-fit d ws) (open-found d t g o)) in
-      let e : h ≡ heldOf d (allDone d (memory n) t es) (h .state) =
-      held-stays d t (allDone d (memory n) t es) (slot-find d t f n (h .slot) (open-found d t g o) es (pairs-fit d ws)) (g .same) in
-      λ i. stepping (record { held = e i; outcome = Obeyed; faults = b i }) (a i)
+      let a : u ≡ allDone d (memory (openName (h .state))) t es =
+      ap (λ (y : Taken). y .store) q ∙ sym (done-slot d (openName (h .state)) (h .slot) es t f (pairs-fit d ws) (open-found d t g o)) in
+      λ i. doingAll (record { outcome = Obeyed; faults = q i .count }) (a i) (q i .faults)
 
 -- ---- by what is open
 pub is-open : {o : Open} {k : Kind} → o ≡ Memory k → IsOpen o
 is-open e = subst (λ (x : Open). IsOpen x) (sym e) tt
 
-module _ (d : Desk) (s : State) (e : Secondary) (ws : List Word) where
+module _ (d : Desk) (s : State) (e : Secondary) (w : Word) (ws : List Word) where
   abbrev Asked : Open → Ask
-  Asked o = secondaryAsk d (s .key) o e ws
+  Asked o = secondaryAsk d (s .key) o e w ws
 
-  pub secondary-nothing : s .«open» ≡ Nothing → rests (Dropped wrongSecondary) ≡ Asked (s .«open»)
+  pub secondary-nothing : s .«open» ≡ Nothing → {f : Fault} → f ≡ blame w wrongSecondary → rests (Dropped f) ≡ Asked (s .«open»)
   unfolding secondaryAsk
-  secondary-nothing q = ap Asked (sym q)
+  secondary-nothing q g = ap (λ (x : Fault). rests (Dropped x)) g ∙ ap Asked (sym q)
 
   pub secondary-skipping : s .«open» ≡ Skipping → rests Passed ≡ Asked (s .«open»)
   unfolding secondaryAsk
   secondary-skipping q = ap Asked (sym q)
 
   module _ {k : Kind} (o : s .«open» ≡ Memory k) {b : Bool} (a : b ≡ augments k e) where
-    pub secondary-wrong : b ≡ false → rests (Dropped wrongSecondary) ≡ Asked (s .«open»)
+    pub secondary-wrong : b ≡ false → {f : Fault} → f ≡ blame w wrongSecondary → rests (Dropped f) ≡ Asked (s .«open»)
     unfolding secondaryAsk
-    secondary-wrong w = sym (cond-false (augments k e) _ _ (sym a ∙ w)) ∙ ap Asked (sym o)
+    secondary-wrong z g =
+        ap (λ (x : Fault). rests (Dropped x)) g ∙ sym (cond-false (augments k e) _ _ (sym a ∙ z)) ∙ ap Asked (sym o)
 
     pub secondary-obeyed : b ≡ true → obeyedAsk d (openName s) e ws ≡ Asked (s .«open»)
     unfolding secondaryAsk kindIn
-    secondary-obeyed w =
-        ap (λ (x : Open). obeyedAsk d (name (kindIn x) (s .key)) e ws) o ∙ sym (cond-true (augments k e) _ _ (sym a ∙ w)) ∙ ap Asked (sym o)
+    secondary-obeyed z =
+        ap (λ (x : Open). obeyedAsk d (name (kindIn x) (s .key)) e ws) o ∙ sym (cond-true (augments k e) _ _ (sym a ∙ z)) ∙ ap Asked (sym o)
+
+-- ---- what is open stays open, in its slot
+module _ (d : Desk) (t : List ℕ) {h : Held} (g : HeldReady d t h) (f : Fitting d t) where
+  abbrev Stays : Ask → Type 0
+  Stays a = h ≡ heldOf d (acted d (h .state) t a .store) (acted d (h .state) t a .state)
+
+  rests-stay : (o : Outcome) → Stays (rests o)
+  unfolding acted
+  rests-stay o = g .same
+
+  module _ (k : Kind) (o : h .state .«open» ≡ Memory k) where
+    abbrev memory-name : Name
+    memory-name = name k (h .state .key)
+
+    abbrev memory-slot : ℕ
+    memory-slot = slotBy d t (h .state .key) (Memory k)
+
+    memory-found : find d t memory-name ≡ at memory-slot
+    memory-found = subst (λ (x : Open). IsKept d t (h .state .key) x) o (g .settled .kept)
+
+    change-stays : (x : Reading) → ReadingOk k x → Stays (changeAsk memory-name x)
+    unfolding changeAsk acted
+    change-stays (Misread c) r = g .same
+    change-stays (Change e) r =
+        held-stays d t (edited d t memory-name e) (edited-find d t f memory-name memory-slot memory-found e (in-time-fits e (r .1))) (g .same)
+
+    obeyed-stays : (e : Secondary) → augments k e ≡ true → (ws : List Word) → Stays (obeyedAsk d memory-name e ws)
+    unfolding obeyedAsk acted
+    obeyed-stays Chan a ws =
+        held-stays d t (allDone d (memory memory-name) t (pairsOf d ws))
+        (slot-find d t f memory-name memory-slot memory-found (pairsOf d ws) (pairs-fit d ws)) (g .same)
+    obeyed-stays Up a ws = change-stays (timesOf Up ws) (reading-ok k Up a ws)
+    obeyed-stays Down a ws = change-stays (timesOf Down ws) (reading-ok k Down a ws)
+    obeyed-stays Followon a ws = change-stays (timesOf Followon ws) (reading-ok k Followon a ws)
+    obeyed-stays Link a ws = change-stays (timesOf Link ws) (reading-ok k Link a ws)
+
+  open-stays : (e : Secondary) (w : Word) (ws : List Word) (o : Open) → h .state .«open» ≡ o → Stays (secondaryAsk d (h .state .key) o e w ws)
+  unfolding secondaryAsk
+  open-stays e w ws Nothing q = rests-stay (Dropped (blame w wrongSecondary))
+  open-stays e w ws Skipping q = rests-stay Passed
+  open-stays e w ws (Memory k) q =
+      by-test Stays (augments k e) (obeyedAsk d (name k (h .state .key)) e ws) (rests (Dropped (blame w wrongSecondary)))
+      (λ a. obeyed-stays k q e a ws)
+      (λ a. rests-stay (Dropped (blame w wrongSecondary)))
+
+  pub secondary-stays : (e : Secondary) (w : Word) (ws : List Word) → Stays (secondaryAsk d (h .state .key) (h .state .«open») e w ws)
+  secondary-stays e w ws = open-stays e w ws (h .state .«open») refl

@@ -1,5 +1,5 @@
 -- A record's step as the code takes it: what is open goes with the slot where the store keeps it, so that a secondary does not search
--- for it (paper 01, "Keywords and conditions").
+-- for it; faults go into a lent list (paper 01, "Keywords and conditions").
 -- Assumes nothing.
 use mathlib.Core.Path.{_≡_}
 use mathlib.Core.List.{List}
@@ -15,7 +15,7 @@ use Rattle.store_code.specs.Fits.{Fitting}
 use Rattle.load.specs.declared.State.{State}
 use Rattle.load.specs.declared.Open.{Open}
 use Rattle.load.specs.declared.Open.the-variants.{Nothing, Skipping, Memory}
-use Rattle.load_items.specs.Done.{faultsHeld}
+use Rattle.load_items.specs.Done.{faultsIn, mostFaults}
 use Rattle.load.specs.Ask.{name}
 use Rattle.load.specs.Step.{Step}
 use Rattle.load_step.specs.declared.Held.{Held}
@@ -52,12 +52,15 @@ pub record HeldReady (d : Desk) (t : List ℕ) (h : Held) : Type 0 where
   pub same : h ≡ heldOf d t (h .state)
   pub settled : Settled d t (h .state)
 
--- what a step is asked with: a store that fits the desk, a cleaned record of at most 80 characters, and what is open
-pub record Stepping (d : Desk) (h : Held) (text columns t : List ℕ) : Type 0 where
+-- what a step is asked with: a store that fits the desk, a record's text of at most 80 characters, and what is open
+pub record Stepping (d : Desk) (h : Held) (text t : List ℕ) : Type 0 where
   pub fitting : Fitting d t
-  pub even : length columns ≡ length text
   pub short : length text ≤ longest
   pub ready : HeldReady d t h
+
+-- a list that has room for a record's faults
+abbrev pub Room : List ℕ → Type 0
+Room faults = mostFaults ≤ length faults
 
 -- ---- what it answers
 
@@ -71,5 +74,15 @@ stepping r t = record { stepped = r; store = t }
 
 -- a step of the definitions as the code answers it
 unfoldable pub steppedOf : Desk → Step → Res
-steppedOf d x =
-    stepping (record { held = heldOf d (x .store) (x .state); outcome = x .outcome; faults = faultsHeld (x .faults) }) (x .store)
+steppedOf d x = stepping (record { held = heldOf d (x .store) (x .state); outcome = x .outcome; faults = length (x .faults) }) (x .store)
+
+-- with the lent list of faults
+pub record ResAll : Type 0 where
+  pub res : Res
+  pub faults : List ℕ
+
+abbrev pub steppingAll : Stepped → List ℕ → List ℕ → ResAll
+steppingAll r t fs = record { res = stepping r t; faults = fs }
+
+unfoldable pub steppedAll : Desk → Step → List ℕ → ResAll
+steppedAll d x fs = record { res = steppedOf d x; faults = faultsIn fs (x .faults) }

@@ -1,27 +1,27 @@
 // One record's step of the load: what its keyword asks for, done to the store (paper 01, "Keywords and conditions").
 ghost use mathlib.Core.Path.{_≡_};
 ghost use mathlib.Core.Bool.{true};
-ghost use mathlib.Core.List.{[]};
 ghost use Prim.Native.Nat.{_≤_};
 ghost use Rattle.store_desk.specs.Name.{KeyFits, okName};
-ghost use Rattle.text_fields.specs.Words.{wordsOf};
+ghost use Rattle.text_fields.specs.Words.{wordsOf, headOf};
 ghost use Rattle.text_fields.specs.Places.{wordsFrom};
+ghost use Rattle.value.specs.Field.{versionOf};
 ghost use Rattle.store_code.specs.Fits.{Fitting};
-ghost use Rattle.load_items.specs.Done.{faultsHeld, mostFaults};
 ghost use Rattle.load.specs.Ask.{name, opens, primaryAsk, changeAsk, obeyedAsk, secondaryAsk, kindAsk, dimmersAsk, kindWipes, dimmerWipes, allWipes, allAsk, clearAsk, patchAsk, identOutcome, keywordAsk};
+ghost use Rattle.load.specs.Condition.{identMismatch};
+ghost use Rattle.load.specs.Item.{blame};
 ghost use Rattle.load.specs.Step.{ended as endedStep, nothingOpen, settle, wiped, acted, stepOf};
 ghost use Rattle.load_naming.specs.Line.{Line};
-ghost use Rattle.load_step.specs.Held.{heldOf, HeldReady, Stepping, stepping, steppedOf};
-ghost use Rattle.load_step.specs.Parts.{openName, IsOpen, resting as restingAs, endedAs, ReadingFits};
+ghost use Rattle.load_items.specs.Done.{mostFaults};
+ghost use Rattle.load_step.specs.Held.{heldOf, HeldReady, Stepping, Room, stepping, steppedOf, steppingAll, steppedAll};
+ghost use Rattle.load_step.specs.Parts.{openName, IsOpen, keywordIn, resting as restingAs, endedAs, didAs, withHeld, hasItems, ReadingFits, doing, doingAll, didOf, didAll, familyIn, basicAsk};
+use load::Fault;
 use load::Named;
 use load::Open;
 use load::Outcome;
 use load::Reading;
 use load::Secondary;
 use load::State;
-use load_items::Aim;
-use load_items::Faults;
-use load_items::Group;
 use store::Place;
 use store_desk::Desk;
 use store_desk::Key;
@@ -37,11 +37,17 @@ pub struct Held {
     pub slot: usize,
 }
 
-// What a record comes to: what is open after it, its outcome, and the conditions of the items that it dropped.
+// What a record comes to: what is open after it, its outcome, and how many items it dropped.
 pub struct Stepped {
     pub held: Held,
     pub outcome: Outcome,
-    pub faults: Faults,
+    pub faults: usize,
+}
+
+// The same of a record that leaves open what was open.
+struct Did {
+    outcome: Outcome,
+    faults: usize,
 }
 
 const BAD_PAGE: u32 = 43;
@@ -63,23 +69,30 @@ const EVERY_PAGE: u32 = 0;
 
 // ---- answers
 
-fn no_faults() -> Faults
-    ensures { λ r. ⌜ r ≡ faultsHeld [] ⌝ }
-{
-    Faults {
-        conditions: [0; 40],
-        count: 0,
-    }
-}
-
 fn ended(held: Held, outcome: Outcome) -> Stepped
     ensures { λ r. ⌜ r ≡ endedAs held outcome ⌝ }
 {
-    let faults = no_faults();
     Stepped {
         held,
         outcome,
-        faults,
+        faults: 0,
+    }
+}
+
+fn answered(outcome: Outcome) -> Did
+    ensures { λ r. ⌜ r ≡ didAs outcome ⌝ }
+{
+    Did { outcome, faults: 0 }
+}
+
+fn with_held(held: Held, d: Did) -> Stepped
+    ensures { λ r. ⌜ r ≡ withHeld held d ⌝ }
+{
+    let outcome = d.outcome;
+    Stepped {
+        held,
+        outcome,
+        faults: d.faults,
     }
 }
 
@@ -97,10 +110,10 @@ fn resting(open: Open) -> Held
 }
 
 // A refused primary starts skipping, and closes what was open.
-fn refused(condition: u32) -> Stepped
-    ensures { λ r. ⌜ r ≡ endedAs (restingAs Open.Skipping) (Outcome.Dropped condition) ⌝ }
+fn refused(fault: Fault) -> Stepped
+    ensures { λ r. ⌜ r ≡ endedAs (restingAs Open.Skipping) (Outcome.Dropped fault) ⌝ }
 {
-    ended(resting(Open::Skipping), Outcome::Dropped(condition))
+    ended(resting(Open::Skipping), Outcome::Dropped(fault))
 }
 
 // ---- primaries
@@ -116,151 +129,120 @@ fn opened(desk: Desk, kind: Kind, key: Key, store: &mut [u8]) -> Stepped
             let state = State { open, key };
             ended(Held { state, slot }, Outcome::Obeyed)
         }
-        Place::Nowhere => refused(load_naming::full(kind)),
+        Place::Nowhere => refused(load::blameless(load_naming::full(kind))),
     }
 }
 
 // Support, then number, page, room.
-fn primary<'a>(
-    desk: Desk,
-    kind: Kind,
-    text: &'a [u8],
-    columns: &'a [u8],
-    at: usize,
-    store: &mut [u8],
-) -> Stepped
+fn primary(desk: Desk, kind: Kind, text: &[u8], at: usize, store: &mut [u8]) -> Stepped
     requires { ⌜ Fitting desk (now store) ⌝ }
-    requires { ⌜ Line (now text) (now columns) at ⌝ }
-    ensures { λ r. ⌜ stepping r (now (store .exit)) ≡ steppedOf desk (acted desk nothingOpen (now (store .entry)) (primaryAsk desk kind (wordsFrom (now (text .entry)) (now (columns .entry)) at))) ⌝ }
+    requires { ⌜ Line (now text) at ⌝ }
+    ensures { λ r. ⌜ stepping r (now (store .exit)) ≡ steppedOf desk (acted desk nothingOpen (now (store .entry)) (primaryAsk desk kind (keywordIn (now (text .entry))) (wordsFrom (now (text .entry)) at))) ⌝ }
 {
     if store_desk::supports(desk, kind) {
-        match load_naming::name_at(desk, kind, text, columns, at) {
-            Named::Refused(condition) => return refused(condition),
+        match load_naming::name_at(desk, kind, text, at) {
+            Named::Refused(fault) => return refused(fault),
             Named::Name(key) => return opened(desk, kind, key, store),
         }
     }
-    refused(load_naming::unsupported(kind))
+    refused(load::blamed_at(text, 0, load_naming::unsupported(kind)))
 }
 
 // ---- secondaries
 
 // UP, DOWN, FOLLOWON, LINK.
-fn changed(desk: Desk, held: Held, change: Reading, store: &mut [u8]) -> Stepped
+fn changed(desk: Desk, held: Held, change: Reading, store: &mut [u8]) -> Did
     requires { ⌜ Fitting desk (now store) ⌝ }
     requires { ⌜ HeldReady desk (now store) held ⌝ }
     requires { ⌜ IsOpen (held .state .«open») ⌝ }
     requires { ⌜ ReadingFits desk change ⌝ }
-    ensures { λ r. ⌜ stepping r (now (store .exit)) ≡ steppedOf desk (acted desk (held .state) (now (store .entry)) (changeAsk (openName (held .state)) change)) ⌝ }
+    ensures { λ r. ⌜ doing r (now (store .exit)) ≡ didOf (acted desk (held .state) (now (store .entry)) (changeAsk (openName (held .state)) change)) ⌝ }
 {
     match change {
-        Reading::Wrong(condition) => ended(held, Outcome::Dropped(condition)),
+        Reading::Wrong(fault) => answered(Outcome::Dropped(fault)),
         Reading::Change(e) => {
             store_code::edit(desk, store, held.slot, e);
-            ended(held, Outcome::Obeyed)
+            answered(Outcome::Obeyed)
         }
     }
 }
 
-fn chan<'a>(
-    desk: Desk,
-    held: Held,
-    text: &'a [u8],
-    columns: &'a [u8],
-    at: usize,
-    store: &mut [u8],
-) -> Stepped
+fn chan(desk: Desk, held: Held, text: &[u8], at: usize, store: &mut [u8], faults: &mut [u32]) -> Did
     requires { ⌜ Fitting desk (now store) ⌝ }
-    requires { ⌜ Line (now text) (now columns) at ⌝ }
+    requires { ⌜ Line (now text) at ⌝ }
     requires { ⌜ HeldReady desk (now store) held ⌝ }
     requires { ⌜ IsOpen (held .state .«open») ⌝ }
-    ensures { λ r. ⌜ stepping r (now (store .exit)) ≡ steppedOf desk (acted desk (held .state) (now (store .entry)) (obeyedAsk desk (openName (held .state)) Secondary.Chan (wordsFrom (now (text .entry)) (now (columns .entry)) at))) ⌝ }
+    requires { ⌜ Room (now faults) ⌝ }
+    ensures { λ r. ⌜ doingAll r (now (store .exit)) (now (faults .exit)) ≡ didAll (acted desk (held .state) (now (store .entry)) (obeyedAsk desk (openName (held .state)) Secondary.Chan (wordsFrom (now (text .entry)) at))) (now (faults .entry)) ⌝ }
 {
-    let slot = held.slot;
-    let faults = load_items::take_items(
-        desk,
-        Group::Pair,
-        text,
-        columns,
-        at,
-        store,
-        Aim::Slot(slot),
-    );
-    Stepped {
-        held,
+    let faults = load_items::take_pairs(desk, held.slot, text, at, store, faults);
+    Did {
         outcome: Outcome::Obeyed,
         faults,
     }
 }
 
-fn obeyed<'a>(
-    desk: Desk,
-    held: Held,
-    e: Secondary,
-    text: &'a [u8],
-    columns: &'a [u8],
-    at: usize,
-    store: &mut [u8],
-) -> Stepped
-    requires { ⌜ Fitting desk (now store) ⌝ }
-    requires { ⌜ Line (now text) (now columns) at ⌝ }
-    requires { ⌜ HeldReady desk (now store) held ⌝ }
-    requires { ⌜ IsOpen (held .state .«open») ⌝ }
-    ensures { λ r. ⌜ stepping r (now (store .exit)) ≡ steppedOf desk (acted desk (held .state) (now (store .entry)) (obeyedAsk desk (openName (held .state)) e (wordsFrom (now (text .entry)) (now (columns .entry)) at))) ⌝ }
+// CHAN has items, the others times or a link.
+fn has_items(e: Secondary) -> bool
+    ensures { λ r. ⌜ r ≡ hasItems e ⌝ }
 {
     match e {
-        Secondary::Chan => chan(desk, held, text, columns, at, store),
-        Secondary::Up => changed(
-            desk,
-            held,
-            load_naming::change_at(e, text, columns, at),
-            store,
-        ),
-        Secondary::Down => changed(
-            desk,
-            held,
-            load_naming::change_at(e, text, columns, at),
-            store,
-        ),
-        Secondary::Followon => changed(
-            desk,
-            held,
-            load_naming::change_at(e, text, columns, at),
-            store,
-        ),
-        Secondary::Link => changed(
-            desk,
-            held,
-            load_naming::change_at(e, text, columns, at),
-            store,
-        ),
+        Secondary::Chan => true,
+        Secondary::Up => false,
+        Secondary::Down => false,
+        Secondary::Followon => false,
+        Secondary::Link => false,
     }
 }
 
-// With nothing open, or a memory that it does not apply to, a secondary is wrong; while skipping it is passed silently.
-fn secondary<'a>(
+fn obeyed(
     desk: Desk,
     held: Held,
     e: Secondary,
-    text: &'a [u8],
-    columns: &'a [u8],
+    text: &[u8],
     at: usize,
     store: &mut [u8],
-) -> Stepped
+    faults: &mut [u32],
+) -> Did
     requires { ⌜ Fitting desk (now store) ⌝ }
-    requires { ⌜ Line (now text) (now columns) at ⌝ }
+    requires { ⌜ Line (now text) at ⌝ }
     requires { ⌜ HeldReady desk (now store) held ⌝ }
-    ensures { λ r. ⌜ stepping r (now (store .exit)) ≡ steppedOf desk (acted desk (held .state) (now (store .entry)) (secondaryAsk desk (held .state .key) (held .state .«open») e (wordsFrom (now (text .entry)) (now (columns .entry)) at))) ⌝ }
+    requires { ⌜ IsOpen (held .state .«open») ⌝ }
+    requires { ⌜ Room (now faults) ⌝ }
+    ensures { λ r. ⌜ doingAll r (now (store .exit)) (now (faults .exit)) ≡ didAll (acted desk (held .state) (now (store .entry)) (obeyedAsk desk (openName (held .state)) e (wordsFrom (now (text .entry)) at))) (now (faults .entry)) ⌝ }
+{
+    if has_items(e) {
+        return chan(desk, held, text, at, store, faults);
+    }
+    changed(desk, held, load_naming::change_at(e, text, at), store)
+}
+
+// With nothing open, or a memory that it does not apply to, a secondary is wrong; while skipping it is passed silently.
+fn secondary(
+    desk: Desk,
+    held: Held,
+    e: Secondary,
+    text: &[u8],
+    at: usize,
+    store: &mut [u8],
+    faults: &mut [u32],
+) -> Did
+    requires { ⌜ Fitting desk (now store) ⌝ }
+    requires { ⌜ Line (now text) at ⌝ }
+    requires { ⌜ HeldReady desk (now store) held ⌝ }
+    requires { ⌜ Room (now faults) ⌝ }
+    ensures { λ r. ⌜ doingAll r (now (store .exit)) (now (faults .exit)) ≡ didAll (acted desk (held .state) (now (store .entry)) (secondaryAsk desk (held .state .key) (held .state .«open») e (keywordIn (now (text .entry))) (wordsFrom (now (text .entry)) at))) (now (faults .entry)) ⌝ }
 {
     let state = held.state;
     let open = state.open;
     match open {
-        Open::Nothing => ended(held, Outcome::Dropped(WRONG_SECONDARY)),
-        Open::Skipping => ended(held, Outcome::Passed),
+        Open::Nothing => answered(Outcome::Dropped(load::blamed_at(text, 0, WRONG_SECONDARY))),
+        Open::Skipping => answered(Outcome::Passed),
         Open::Memory(kind) => {
             if load_naming::augments(kind, e) {
-                return obeyed(desk, held, e, text, columns, at, store);
+                return obeyed(desk, held, e, text, at, store, faults);
             }
-            ended(held, Outcome::Dropped(WRONG_SECONDARY))
+            answered(Outcome::Dropped(load::blamed_at(text, 0, WRONG_SECONDARY)))
         }
     }
 }
@@ -293,23 +275,24 @@ fn cleared(desk: Desk, state: State, store: &[u8]) -> Stepped
 }
 
 // Clearing an unsupported kind does nothing, and its page is not looked at.
-fn clear_kind<'a>(
+fn clear_kind(
     desk: Desk,
     held: Held,
     kind: Kind,
-    text: &'a [u8],
-    columns: &'a [u8],
+    text: &[u8],
     at: usize,
     store: &mut [u8],
 ) -> Stepped
     requires { ⌜ Fitting desk (now store) ⌝ }
-    requires { ⌜ Line (now text) (now columns) at ⌝ }
+    requires { ⌜ Line (now text) at ⌝ }
     requires { ⌜ HeldReady desk (now store) held ⌝ }
-    ensures { λ r. ⌜ stepping r (now (store .exit)) ≡ steppedOf desk (acted desk (held .state) (now (store .entry)) (kindAsk desk kind (wordsFrom (now (text .entry)) (now (columns .entry)) at))) ⌝ }
+    ensures { λ r. ⌜ stepping r (now (store .exit)) ≡ steppedOf desk (acted desk (held .state) (now (store .entry)) (kindAsk desk kind (wordsFrom (now (text .entry)) at))) ⌝ }
 {
     if store_desk::supports(desk, kind) {
-        match load_naming::page_at(EVERY_PAGE, store_desk::pages(desk, kind), text, columns, at) {
-            Paged::Bad => return ended(held, Outcome::Dropped(BAD_PAGE)),
+        match load_naming::page_at(EVERY_PAGE, store_desk::pages(desk, kind), text, at) {
+            Paged::Bad => {
+                return ended(held, Outcome::Dropped(load::blamed_at(text, at, BAD_PAGE)));
+            }
             Paged::Value(page) => {
                 store_code::clear_kind(desk, &mut *store, kind, page);
                 let state = held.state;
@@ -320,21 +303,14 @@ fn clear_kind<'a>(
     ended(held, Outcome::Obeyed)
 }
 
-fn clear_patch<'a>(
-    desk: Desk,
-    held: Held,
-    text: &'a [u8],
-    columns: &'a [u8],
-    at: usize,
-    store: &mut [u8],
-) -> Stepped
+fn clear_patch(desk: Desk, held: Held, text: &[u8], at: usize, store: &mut [u8]) -> Stepped
     requires { ⌜ Fitting desk (now store) ⌝ }
-    requires { ⌜ Line (now text) (now columns) at ⌝ }
+    requires { ⌜ Line (now text) at ⌝ }
     requires { ⌜ HeldReady desk (now store) held ⌝ }
-    ensures { λ r. ⌜ stepping r (now (store .exit)) ≡ steppedOf desk (acted desk (held .state) (now (store .entry)) (dimmersAsk desk (wordsFrom (now (text .entry)) (now (columns .entry)) at))) ⌝ }
+    ensures { λ r. ⌜ stepping r (now (store .exit)) ≡ steppedOf desk (acted desk (held .state) (now (store .entry)) (dimmersAsk desk (wordsFrom (now (text .entry)) at))) ⌝ }
 {
-    match load_naming::page_at(EVERY_PAGE, desk.patch_pages, text, columns, at) {
-        Paged::Bad => ended(held, Outcome::Dropped(BAD_PAGE)),
+    match load_naming::page_at(EVERY_PAGE, desk.patch_pages, text, at) {
+        Paged::Bad => ended(held, Outcome::Dropped(load::blamed_at(text, at, BAD_PAGE))),
         Paged::Value(page) => {
             store_code::clear_patch(desk, &mut *store, page);
             let state = held.state;
@@ -372,21 +348,14 @@ fn clear_tables(desk: Desk, page: u32, store: &mut [u8])
     clear_table(desk, Kind::Sub, page, &mut *store);
 }
 
-fn clear_all<'a>(
-    desk: Desk,
-    held: Held,
-    text: &'a [u8],
-    columns: &'a [u8],
-    at: usize,
-    store: &mut [u8],
-) -> Stepped
+fn clear_all(desk: Desk, held: Held, text: &[u8], at: usize, store: &mut [u8]) -> Stepped
     requires { ⌜ Fitting desk (now store) ⌝ }
-    requires { ⌜ Line (now text) (now columns) at ⌝ }
+    requires { ⌜ Line (now text) at ⌝ }
     requires { ⌜ HeldReady desk (now store) held ⌝ }
-    ensures { λ r. ⌜ stepping r (now (store .exit)) ≡ steppedOf desk (acted desk (held .state) (now (store .entry)) (allAsk desk (wordsFrom (now (text .entry)) (now (columns .entry)) at))) ⌝ }
+    ensures { λ r. ⌜ stepping r (now (store .exit)) ≡ steppedOf desk (acted desk (held .state) (now (store .entry)) (allAsk desk (wordsFrom (now (text .entry)) at))) ⌝ }
 {
-    match load_naming::page_at(EVERY_PAGE, load_naming::most_pages(desk), text, columns, at) {
-        Paged::Bad => ended(held, Outcome::Dropped(BAD_PAGE)),
+    match load_naming::page_at(EVERY_PAGE, load_naming::most_pages(desk), text, at) {
+        Paged::Bad => ended(held, Outcome::Dropped(load::blamed_at(text, at, BAD_PAGE))),
         Paged::Value(page) => {
             clear_tables(desk, page, &mut *store);
             let state = held.state;
@@ -395,63 +364,41 @@ fn clear_all<'a>(
     }
 }
 
-fn clear<'a>(
-    desk: Desk,
-    held: Held,
-    text: &'a [u8],
-    columns: &'a [u8],
-    at: usize,
-    store: &mut [u8],
-) -> Stepped
+fn clear(desk: Desk, held: Held, text: &[u8], at: usize, store: &mut [u8]) -> Stepped
     requires { ⌜ Fitting desk (now store) ⌝ }
-    requires { ⌜ Line (now text) (now columns) at ⌝ }
+    requires { ⌜ Line (now text) at ⌝ }
     requires { ⌜ HeldReady desk (now store) held ⌝ }
-    ensures { λ r. ⌜ stepping r (now (store .exit)) ≡ steppedOf desk (acted desk (held .state) (now (store .entry)) (clearAsk desk (wordsFrom (now (text .entry)) (now (columns .entry)) at))) ⌝ }
+    ensures { λ r. ⌜ stepping r (now (store .exit)) ≡ steppedOf desk (acted desk (held .state) (now (store .entry)) (clearAsk desk (keywordIn (now (text .entry))) (wordsFrom (now (text .entry)) at))) ⌝ }
 {
-    let f = text_fields::field_at(text, columns, at);
-    let end = f.end;
-    match text_fields::item_of(text_fields::word(text, f)) {
-        Item::All => clear_all(desk, held, text, columns, end, store),
-        Item::Cues => clear_kind(desk, held, Kind::Cue, text, columns, end, store),
-        Item::Groups => clear_kind(desk, held, Kind::Group, text, columns, end, store),
-        Item::Patch => clear_patch(desk, held, text, columns, end, store),
-        Item::Subs => clear_kind(desk, held, Kind::Sub, text, columns, end, store),
+    let said = text_fields::item_at(text, text_fields::field_start(text, at));
+    let end = said.end;
+    let item = said.item;
+    match item {
+        Item::All => clear_all(desk, held, text, end, store),
+        Item::Cues => clear_kind(desk, held, Kind::Cue, text, end, store),
+        Item::Groups => clear_kind(desk, held, Kind::Group, text, end, store),
+        Item::Patch => clear_patch(desk, held, text, end, store),
+        Item::Subs => clear_kind(desk, held, Kind::Sub, text, end, store),
         Item::Local => ended(held, Outcome::Obeyed),
-        Item::Other => ended(held, Outcome::Dropped(UNKNOWN)),
+        Item::Other => ended(held, Outcome::Dropped(load::blamed_at(text, 0, UNKNOWN))),
     }
 }
 
 // ---- PATCH, IDENT
 
-fn patch<'a>(
-    desk: Desk,
-    held: Held,
-    text: &'a [u8],
-    columns: &'a [u8],
-    at: usize,
-    store: &mut [u8],
-) -> Stepped
+fn patch(desk: Desk, text: &[u8], at: usize, store: &mut [u8], faults: &mut [u32]) -> Did
     requires { ⌜ Fitting desk (now store) ⌝ }
-    requires { ⌜ Line (now text) (now columns) at ⌝ }
-    requires { ⌜ HeldReady desk (now store) held ⌝ }
-    ensures { λ r. ⌜ stepping r (now (store .exit)) ≡ steppedOf desk (acted desk (held .state) (now (store .entry)) (patchAsk desk (wordsFrom (now (text .entry)) (now (columns .entry)) at))) ⌝ }
+    requires { ⌜ Line (now text) at ⌝ }
+    requires { ⌜ Room (now faults) ⌝ }
+    ensures { λ r. ⌜ doingAll r (now (store .exit)) (now (faults .exit)) ≡ didAll (acted desk nothingOpen (now (store .entry)) (patchAsk desk (wordsFrom (now (text .entry)) at))) (now (faults .entry)) ⌝ }
 {
-    let f = text_fields::field_at(text, columns, at);
+    let f = text_fields::field_at(text, at);
+    let end = f.end;
     match value::read_page(text_fields::word(text, f), desk.patch_pages) {
-        Paged::Bad => ended(held, Outcome::Dropped(BAD_PATCH_PAGE)),
+        Paged::Bad => answered(Outcome::Dropped(load::blamed(f, BAD_PATCH_PAGE))),
         Paged::Value(page) => {
-            let end = f.end;
-            let faults = load_items::take_items(
-                desk,
-                Group::Triple,
-                text,
-                columns,
-                end,
-                store,
-                Aim::Page(page),
-            );
-            Stepped {
-                held,
+            let faults = load_items::take_triples(desk, page, text, end, store, faults);
+            Did {
                 outcome: Outcome::Obeyed,
                 faults,
             }
@@ -459,78 +406,137 @@ fn patch<'a>(
     }
 }
 
-fn ident(version: Version) -> Outcome
-    ensures { λ r. ⌜ r ≡ identOutcome version ⌝ }
+fn mismatch(text: &[u8], at: usize) -> Outcome
+    requires { ⌜ Line (now text) at ⌝ }
+    ensures { λ r. ⌜ r ≡ Outcome.Stopped (blame (headOf (wordsFrom (now (text .entry)) at)) identMismatch) ⌝ }
 {
-    let Version::Value(major, minor) = version else {
-        return Outcome::Stopped(IDENT_MISMATCH);
+    Outcome::Stopped(load::blamed_at(text, at, IDENT_MISMATCH))
+}
+
+fn ident(text: &[u8], at: usize) -> Outcome
+    requires { ⌜ Line (now text) at ⌝ }
+    ensures { λ r. ⌜ r ≡ identOutcome (headOf (wordsFrom (now (text .entry)) at)) (versionOf (headOf (wordsFrom (now (text .entry)) at) .chars)) ⌝ }
+{
+    let Version::Value(major, minor) = load_naming::version_at(text, at) else {
+        return mismatch(text, at);
     };
     if major != MAJOR {
-        return Outcome::Stopped(IDENT_MISMATCH);
+        return mismatch(text, at);
     }
     if minor != MINOR {
-        return Outcome::Stopped(IDENT_MISMATCH);
+        return mismatch(text, at);
     }
     Outcome::Obeyed
 }
 
 // ---- the step
 
+// What a keyword begins: a primary's record, a secondary's, or a basic one. Each has one place that calls it.
+enum Family {
+    Primary(Kind),
+    Augments(Secondary),
+    Basic(Basic),
+}
+
+// A basic record: one that is read, passed over, skipped with what follows, or unknown.
+enum Basic {
+    Ident,
+    Clear,
+    Patch,
+    Enddata,
+    Passed,
+    Local,
+    Unknown,
+}
+
+fn family_of(k: Keyword) -> Family
+    ensures { λ r. ⌜ r ≡ familyIn k ⌝ }
+{
+    match k {
+        Keyword::Ident => Family::Basic(Basic::Ident),
+        Keyword::Clear => Family::Basic(Basic::Clear),
+        Keyword::Patch => Family::Basic(Basic::Patch),
+        Keyword::Cue => Family::Primary(Kind::Cue),
+        Keyword::Group => Family::Primary(Kind::Group),
+        Keyword::Sub => Family::Primary(Kind::Sub),
+        Keyword::Chan => Family::Augments(Secondary::Chan),
+        Keyword::Up => Family::Augments(Secondary::Up),
+        Keyword::Down => Family::Augments(Secondary::Down),
+        Keyword::Followon => Family::Augments(Secondary::Followon),
+        Keyword::Link => Family::Augments(Secondary::Link),
+        Keyword::Enddata => Family::Basic(Basic::Enddata),
+        Keyword::Manufacturer => Family::Basic(Basic::Passed),
+        Keyword::Console => Family::Basic(Basic::Passed),
+        Keyword::Set => Family::Basic(Basic::Passed),
+        Keyword::Text => Family::Basic(Basic::Passed),
+        Keyword::Part => Family::Basic(Basic::Passed),
+        Keyword::Local => Family::Basic(Basic::Local),
+        Keyword::Comment => Family::Basic(Basic::Passed),
+        Keyword::Unknown => Family::Basic(Basic::Unknown),
+    }
+}
+
+fn obey_basic(
+    desk: Desk,
+    held: Held,
+    b: Basic,
+    text: &[u8],
+    at: usize,
+    store: &mut [u8],
+    faults: &mut [u32],
+) -> Stepped
+    requires { ⌜ Fitting desk (now store) ⌝ }
+    requires { ⌜ Line (now text) at ⌝ }
+    requires { ⌜ HeldReady desk (now store) held ⌝ }
+    requires { ⌜ Room (now faults) ⌝ }
+    ensures { λ r. ⌜ steppingAll r (now (store .exit)) (now (faults .exit)) ≡ steppedAll desk (acted desk (held .state) (now (store .entry)) (basicAsk desk b (keywordIn (now (text .entry))) (wordsFrom (now (text .entry)) at))) (now (faults .entry)) ⌝ }
+{
+    match b {
+        Basic::Ident => ended(held, ident(text, at)),
+        Basic::Clear => clear(desk, held, text, at, store),
+        Basic::Patch => with_held(held, patch(desk, text, at, store, faults)),
+        Basic::Enddata => ended(held, Outcome::Stopped(load::blameless(0))),
+        Basic::Passed => ended(held, Outcome::Passed),
+        Basic::Local => ended(resting(Open::Skipping), Outcome::Passed),
+        Basic::Unknown => ended(held, Outcome::Dropped(load::blamed_at(text, 0, UNKNOWN))),
+    }
+}
+
 // What the fields behind a keyword ask for.
-fn obey<'a>(
+fn obey(
     desk: Desk,
     held: Held,
     k: Keyword,
-    text: &'a [u8],
-    columns: &'a [u8],
+    text: &[u8],
     at: usize,
     store: &mut [u8],
+    faults: &mut [u32],
 ) -> Stepped
     requires { ⌜ Fitting desk (now store) ⌝ }
-    requires { ⌜ Line (now text) (now columns) at ⌝ }
+    requires { ⌜ Line (now text) at ⌝ }
     requires { ⌜ HeldReady desk (now store) held ⌝ }
-    ensures { λ r. ⌜ stepping r (now (store .exit)) ≡ steppedOf desk (acted desk (held .state) (now (store .entry)) (keywordAsk desk (held .state) k (wordsFrom (now (text .entry)) (now (columns .entry)) at))) ⌝ }
+    requires { ⌜ Room (now faults) ⌝ }
+    ensures { λ r. ⌜ steppingAll r (now (store .exit)) (now (faults .exit)) ≡ steppedAll desk (acted desk (held .state) (now (store .entry)) (keywordAsk desk (held .state) k (keywordIn (now (text .entry))) (wordsFrom (now (text .entry)) at))) (now (faults .entry)) ⌝ }
 {
-    match k {
-        Keyword::Ident => ended(held, ident(load_naming::version_at(text, columns, at))),
-        Keyword::Clear => clear(desk, held, text, columns, at, store),
-        Keyword::Patch => patch(desk, held, text, columns, at, store),
-        Keyword::Cue => primary(desk, Kind::Cue, text, columns, at, store),
-        Keyword::Group => primary(desk, Kind::Group, text, columns, at, store),
-        Keyword::Sub => primary(desk, Kind::Sub, text, columns, at, store),
-        Keyword::Chan => secondary(desk, held, Secondary::Chan, text, columns, at, store),
-        Keyword::Up => secondary(desk, held, Secondary::Up, text, columns, at, store),
-        Keyword::Down => secondary(desk, held, Secondary::Down, text, columns, at, store),
-        Keyword::Followon => secondary(desk, held, Secondary::Followon, text, columns, at, store),
-        Keyword::Link => secondary(desk, held, Secondary::Link, text, columns, at, store),
-        Keyword::Enddata => ended(held, Outcome::Stopped(0)),
-        Keyword::Manufacturer => ended(held, Outcome::Passed),
-        Keyword::Console => ended(held, Outcome::Passed),
-        Keyword::Set => ended(held, Outcome::Passed),
-        Keyword::Text => ended(held, Outcome::Passed),
-        Keyword::Part => ended(held, Outcome::Passed),
-        Keyword::Local => ended(resting(Open::Skipping), Outcome::Passed),
-        Keyword::Comment => ended(held, Outcome::Passed),
-        Keyword::Unknown => ended(held, Outcome::Dropped(UNKNOWN)),
+    match family_of(k) {
+        Family::Primary(kind) => primary(desk, kind, text, at, store),
+        Family::Augments(e) => with_held(held, secondary(desk, held, e, text, at, store, faults)),
+        Family::Basic(b) => obey_basic(desk, held, b, text, at, store, faults),
     }
 }
 
 // One record. A record with no field is blank.
-pub fn step<'a>(
-    desk: Desk,
-    held: Held,
-    text: &'a [u8],
-    columns: &'a [u8],
-    store: &mut [u8],
-) -> Stepped
-    requires { ⌜ Stepping desk held (now text) (now columns) (now store) ⌝ }
-    ensures { λ r. ⌜ stepping r (now (store .exit)) ≡ steppedOf desk (stepOf desk (held .state) (wordsOf (now (text .entry)) (now (columns .entry))) (now (store .entry))) ⌝ }
-    ensures { λ r. ⌜ r .faults .count ≤ mostFaults ⌝ }
+pub fn step(desk: Desk, held: Held, text: &[u8], store: &mut [u8], faults: &mut [u32]) -> Stepped
+    requires { ⌜ Stepping desk held (now text) (now store) ⌝ }
+    requires { ⌜ Room (now faults) ⌝ }
+    ensures { λ r. ⌜ steppingAll r (now (store .exit)) (now (faults .exit)) ≡ steppedAll desk (stepOf desk (held .state) (wordsOf 0 (now (text .entry))) (now (store .entry))) (now (faults .entry)) ⌝ }
+    ensures { λ r. ⌜ r .faults ≤ mostFaults ⌝ }
 {
-    if text_fields::more(text, 0) {
-        let f = text_fields::field_at(text, columns, 0);
-        let k = text_fields::keyword_of(text_fields::word(text, f));
-        return obey(desk, held, k, text, columns, f.end, store);
+    let start = text_fields::field_start(text, 0);
+    if start < text.len() {
+        let said = text_fields::keyword_at(text, start);
+        let k = said.keyword;
+        return obey(desk, held, k, text, said.end, store, faults);
     }
     ended(held, Outcome::Blank)
 }

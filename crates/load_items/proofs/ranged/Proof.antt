@@ -1,43 +1,44 @@
--- `ranged` meets its contract: a number that is malformed, 0, above the limit, or in its range.
+-- `ranged` meets its contract, by whether the field ends with its digits, and by their value.
 -- Assumes nothing.
-use Rattle.load_items.proofs.Laws.{ranged-malformed, ranged-zero, ranged-high, ranged-within}
+use mathlib.Core.Logic.{⊎-elim}
+use Rattle.load_items.proofs.Fields.{digits-within, ranged-zero, ranged-high, ranged-within, ranged-longer, ranged-empty}
 use borrow.Author.Needs.{needs}
 use Rattle.load_items.proofs.ranged.Statement.{statement}
 use Rattle.load_items.proofs.ranged.Tie as tie
 
-word-requires : tie.Need-word-requires
-word-requires c κs = search needs
+digits-at-requires : tie.Need-digits-at-requires
+digits-at-requires c κs = search needs
 
-read-integer-requires : tie.Need-read-integer-requires
-read-integer-requires c κs = search needs
-
-enum-told : tie.Need-enum-told
-enum-told c = search needs
-
-enum-known-n : tie.Need-enum-known-n
-enum-known-n c = search needs
+ends-requires : tie.Need-ends-requires
+ends-requires c κs = search needs
 
 returns : tie.Need-returns
-returns c = ranged-zero _ _ (c .before .before .before .before .before .word .ensures) (c .before .before .before .before .read-integer .ensures) (c .before .before .n .given .1) (c .if1 .taken)
+returns c = ranged-zero _ _ _ _ (c .before .before .before .before .digits-at .ensures) (c .before .before .before .ends .ensures) (c .before .before .if1 .taken) (c .before .if2 .taken) (c .if3 .taken)
 
 returns-2 : tie.Need-returns-2
-returns-2 c = ranged-high _ _ (c .before .before .before .before .before .before .word .ensures) (c .before .before .before .before .before .read-integer .ensures) (c .before .before .before .n .given .1) (c .if2 .taken)
+returns-2 c = ranged-high _ _ _ _ (c .before .before .before .before .before .digits-at .ensures) (c .before .before .before .before .ends .ensures) (c .before .before .before .if1 .taken) (c .before .before .if2 .taken) (c .if4 .taken)
 
 returns-3 : tie.Need-returns-3
-returns-3 c = ranged-malformed _ _ (c .before .before .before .word .ensures) (c .before .before .read-integer .ensures) (c .enum-told .given .1)
+returns-3 c = ranged-within _ _ _ _ (c .before .before .before .before .before .digits-at .ensures) (c .before .before .before .before .ends .ensures) (c .before .before .before .if1 .taken) (c .before .before .if2 .taken) (c .before .if3 .left) (c .if4 .left)
+
+wrong-requires : tie.Need-wrong-requires
+wrong-requires c κs = digits-within _ _ (c .before .before .digits-at .ensures) (c .before .before .before .before .pre)
 
 returns-4 : tie.Need-returns-4
-returns-4 c = ranged-within _ _ (c .before .before .before .before .before .before .word .ensures) (c .before .before .before .before .before .read-integer .ensures) (c .before .before .before .n .given .1) (c .before .if1 .left) (c .if2 .left)
+returns-4 c =
+    ⊎-elim
+    (λ w. ranged-empty _ _ _ _ (c .before .before .before .digits-at .ensures) (c .before .before .ends .ensures) (w .0 .taken) (w .1 .left) (c .wrong .ensures))
+    (λ w. ranged-longer _ _ _ _ (c .before .before .before .digits-at .ensures) (c .before .before .ends .ensures) (w .left) (c .wrong .ensures))
+    (c .before .if1 .came)
 
 pub ranged-spec : {M : Type 1} → statement M
 ranged-spec =
     tie.close
     (tie.spec
-    word-requires
-    read-integer-requires
-    enum-told
-    enum-known-n
+    digits-at-requires
+    ends-requires
     returns
     returns-2
     returns-3
+    wrong-requires
     returns-4)

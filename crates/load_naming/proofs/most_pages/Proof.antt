@@ -1,7 +1,7 @@
 -- `most_pages` meets its contract.
 -- Assumes nothing.
+use Rattle.load_naming.proofs.Names.{most-is}
 use borrow.Author.Needs.{needs}
-use Rattle.load.specs.Fits.{highestPage}
 use Rattle.load_naming.proofs.most_pages.Statement.{statement}
 use Rattle.load_naming.proofs.most_pages.Tie as tie
 
@@ -24,8 +24,7 @@ larger-requires-3 : tie.Need-larger-requires-3
 larger-requires-3 c κs = search needs
 
 returns : tie.Need-returns
-unfolding highestPage
-returns c = cc
+returns c = most-is _ (c .before .before .before .before .before .table-pages .ensures) (c .before .before .before .before .table-pages2 .ensures) (c .before .before .before .larger .ensures) (c .before .before .table-pages3 .ensures) (c .before .larger2 .ensures) (c .larger3 .ensures)
 
 pub most-pages-spec : {M : Type 1} → statement M
 most-pages-spec =

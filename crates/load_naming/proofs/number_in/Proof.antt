@@ -5,9 +5,6 @@ use borrow.Author.Needs.{needs}
 use Rattle.load_naming.proofs.number_in.Statement.{statement}
 use Rattle.load_naming.proofs.number_in.Tie as tie
 
-word-requires : tie.Need-word-requires
-word-requires c κs = search needs
-
 enum-told : tie.Need-enum-told
 enum-told c = search needs
 
@@ -27,19 +24,18 @@ sub-number-requires : tie.Need-sub-number-requires
 sub-number-requires c κs = search needs
 
 returns : tie.Need-returns
-returns c = numeral-cue _ _ (c .before .enum-told .given .1) (c .before .before .before .word .ensures) (c .cue-number .ensures)
+returns c = numeral-cue _ (c .before .before .before .before .args .text .now) (c .before .before .before .before .args .f) (c .before .enum-told .given .1) (c .cue-number .ensures)
 
 returns-2 : tie.Need-returns-2
-returns-2 c = numeral-group _ _ (c .before .enum-told2 .given .1) (c .before .before .before .word .ensures) (c .cue-number2 .ensures)
+returns-2 c = numeral-group _ (c .before .before .before .before .args .text .now) (c .before .before .before .before .args .f) (c .before .enum-told2 .given .1) (c .cue-number2 .ensures)
 
 returns-3 : tie.Need-returns-3
-returns-3 c = numeral-sub _ _ (c .before .enum-told3 .given .1) (c .before .before .before .word .ensures) (c .sub-number .ensures)
+returns-3 c = numeral-sub _ (c .before .before .before .before .args .text .now) (c .before .before .before .before .args .f) (c .before .enum-told3 .given .1) (c .sub-number .ensures)
 
 pub number-in-spec : {M : Type 1} → statement M
 number-in-spec =
     tie.close
     (tie.spec
-    word-requires
     enum-told
     cue-number-requires
     enum-told-2

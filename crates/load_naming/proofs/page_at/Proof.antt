@@ -1,29 +1,35 @@
--- `page_at` meets its contract: with a field, and with none.
+-- `page_at` meets its contract: with no field, and with one.
 -- Assumes nothing.
-use Rattle.load_naming.proofs.Fields.{field-in, page-some, page-none}
+use Rattle.load_naming.proofs.Fields.{field-in, field-lent, page-none, page-some}
 use borrow.Author.Needs.{needs}
 use Rattle.load_naming.proofs.page_at.Statement.{statement}
 use Rattle.load_naming.proofs.page_at.Tie as tie
 
-more-requires : tie.Need-more-requires
-more-requires c κs = search needs
-
 field-at-requires : tie.Need-field-at-requires
 field-at-requires c κs = search needs
 
+is-missing-requires : tie.Need-is-missing-requires
+is-missing-requires c κs = search needs
+
+returns : tie.Need-returns
+returns c = page-none _ _ (c .before .before .field-at .ensures) (c .before .is-missing .ensures) _ _ (c .if1 .taken)
+
 word-requires : tie.Need-word-requires
-word-requires c κs = field-in (c .before .before .before .before .before .pre) (c .field-at .ensures)
+word-requires c κs = field-lent (field-in (c .before .before .before .before .pre) (c .before .before .field-at .ensures))
 
 read-page-requires : tie.Need-read-page-requires
 read-page-requires c κs = search needs
 
-returns : tie.Need-returns
-returns c = page-some _ _ _ (c .before .before .before .before .more .ensures) (c .before .before .before .if1 .taken) (c .before .before .field-at .ensures) _ _ (c .before .word .ensures) (c .read-page .ensures)
-
 returns-2 : tie.Need-returns-2
-returns-2 c = page-none _ _ _ (c .before .more .ensures) _ _ (c .if1 .left)
+returns-2 c = page-some _ _ (c .before .before .before .before .field-at .ensures) (c .before .before .before .is-missing .ensures) _ _ (c .before .before .if1 .left) (c .before .word .ensures) (c .read-page .ensures)
 
 pub page-at-spec : {M : Type 1} → statement M
 page-at-spec =
     tie.close
-    (tie.spec more-requires field-at-requires word-requires read-page-requires returns returns-2)
+    (tie.spec
+    field-at-requires
+    is-missing-requires
+    returns
+    word-requires
+    read-page-requires
+    returns-2)

@@ -1,11 +1,12 @@
 -- `sub_number` meets its contract, case by case.
 -- Assumes nothing.
-use mathlib.Core.Path.{_∙_, ap}
-use Rattle.load.specs.Ask.{subBy}
 use Rattle.load_naming.proofs.Numbers.{sub-malformed, sub-zero, sub-high, sub-good}
 use borrow.Author.Needs.{needs}
 use Rattle.load_naming.proofs.sub_number.Statement.{statement}
 use Rattle.load_naming.proofs.sub_number.Tie as tie
+
+word-requires : tie.Need-word-requires
+word-requires c κs = search needs
 
 read-integer-requires : tie.Need-read-integer-requires
 read-integer-requires c κs = search needs
@@ -16,19 +17,39 @@ enum-known-n c = search needs
 enum-told : tie.Need-enum-told
 enum-told c = search needs
 
+blamed-requires : tie.Need-blamed-requires
+blamed-requires c κs = search needs
+
 returns : tie.Need-returns
-returns c = sub-malformed _ (c .enum-told .given .1) ∙ ap (subBy _) (c .before .before .read-integer .ensures)
+returns c = sub-malformed _ (c .before .before .before .before .before .before .args .text .now) (c .before .before .before .before .before .before .args .f) (c .before .before .before .before .word .ensures) (c .before .before .before .read-integer .ensures) (c .before .enum-told .given .1) (c .blamed .ensures)
+
+blamed-requires-2 : tie.Need-blamed-requires-2
+blamed-requires-2 c κs = search needs
 
 returns-2 : tie.Need-returns-2
-returns-2 c = sub-zero _ (c .before .before .n .given .1) (c .if1 .taken) ∙ ap (subBy _) (c .before .before .before .before .read-integer .ensures)
+returns-2 c = sub-zero _ (c .before .before .before .before .before .before .before .before .args .text .now) (c .before .before .before .before .before .before .before .before .args .f) (c .before .before .before .before .before .before .word .ensures) (c .before .before .before .before .before .read-integer .ensures) (c .before .before .before .n .given .1) (c .before .if1 .taken) (c .blamed2 .ensures)
+
+blamed-requires-3 : tie.Need-blamed-requires-3
+blamed-requires-3 c κs = search needs
 
 returns-3 : tie.Need-returns-3
-returns-3 c = sub-high _ (c .before .before .before .before .n .given .1) (c .if2 .taken) ∙ ap (subBy _) (c .before .before .before .before .before .before .read-integer .ensures)
+returns-3 c = sub-high _ (c .before .before .before .before .before .before .before .before .before .before .args .text .now) (c .before .before .before .before .before .before .before .before .before .before .args .f) (c .before .before .before .before .before .before .before .before .word .ensures) (c .before .before .before .before .before .before .before .read-integer .ensures) (c .before .before .before .before .before .n .given .1) (c .before .if2 .taken) (c .blamed3 .ensures)
 
 returns-4 : tie.Need-returns-4
-returns-4 c = sub-good _ (c .before .before .before .before .n .given .1) (c .before .before .if1 .left) (c .if2 .left) ∙ ap (subBy _) (c .before .before .before .before .before .before .read-integer .ensures)
+returns-4 c = sub-good _ (c .before .before .before .before .before .before .before .before .before .args .text .now) (c .before .before .before .before .before .before .before .before .before .args .f) (c .before .before .before .before .before .before .before .word .ensures) (c .before .before .before .before .before .before .read-integer .ensures) (c .before .before .before .before .n .given .1) (c .before .before .if1 .left) (c .if2 .left)
 
 pub sub-number-spec : {M : Type 1} → statement M
 sub-number-spec =
     tie.close
-    (tie.spec read-integer-requires enum-known-n enum-told returns returns-2 returns-3 returns-4)
+    (tie.spec
+    word-requires
+    read-integer-requires
+    enum-known-n
+    enum-told
+    blamed-requires
+    returns
+    blamed-requires-2
+    returns-2
+    blamed-requires-3
+    returns-3
+    returns-4)

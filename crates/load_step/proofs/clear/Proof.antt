@@ -1,51 +1,48 @@
 -- `clear` meets its contract, item by item.
 -- Assumes nothing.
-use borrow.Author.Needs.{needs}
+use mathlib.Core.Path.{_∙_}
 use Rattle.load.specs.Ask.{itemAsk}
-use Rattle.load_naming.proofs.Fields.{field-in, line-next}
-use Rattle.load_step.proofs.Holding.{asked-as, rests-as}
-use Rattle.load_step.proofs.Clearing.{clear-as}
+use Rattle.load_step.proofs.Answers.{asked-as, rests-as}
+use Rattle.load_step.proofs.Clearing.{item-start, item-other, item-line, clear-as}
+use borrow.Author.Needs.{needs}
 use Rattle.load_step.proofs.clear.Statement.{statement}
 use Rattle.load_step.proofs.clear.Tie as tie
 
-field-at-requires : tie.Need-field-at-requires
-field-at-requires c κs = search needs
+field-start-requires : tie.Need-field-start-requires
+field-start-requires c κs = search needs
 
-word-requires : tie.Need-word-requires
-word-requires c κs = field-in (c .before .before .before .before .pre .1 .0) (c .field-at .ensures)
-
-item-of-requires : tie.Need-item-of-requires
-item-of-requires c κs = search needs
+item-at-requires : tie.Need-item-at-requires
+item-at-requires c κs = item-start (c .field-start .ensures) (c .before .before .before .pre .1 .0)
 
 enum-told : tie.Need-enum-told
 enum-told c = search needs
 
 clear-all-requires : tie.Need-clear-all-requires
-clear-all-requires c κs = (c .before .before .before .before .before .before .before .before .before .pre .0, (line-next (c .before .before .before .before .before .before .before .before .before .pre .1 .0) (c .before .before .before .before .before .field-at .ensures), c .before .before .before .before .before .before .before .before .before .pre .1 .1))
+clear-all-requires c κs = (c .before .before .before .before .before .before .before .pre .0, (item-line _ _ (c .before .before .before .before .field-start .ensures) (c .before .before .before .item-at .ensures) (c .before .before .before .before .before .before .before .pre .1 .0), c .before .before .before .before .before .before .before .pre .1 .1))
 
 enum-told-2 : tie.Need-enum-told-2
 enum-told-2 c = search needs
 
 clear-kind-requires : tie.Need-clear-kind-requires
-clear-kind-requires c κs = (c .before .before .before .before .before .before .before .before .before .pre .0, (line-next (c .before .before .before .before .before .before .before .before .before .pre .1 .0) (c .before .before .before .before .before .field-at .ensures), c .before .before .before .before .before .before .before .before .before .pre .1 .1))
+clear-kind-requires c κs = (c .before .before .before .before .before .before .before .pre .0, (item-line _ _ (c .before .before .before .before .field-start .ensures) (c .before .before .before .item-at .ensures) (c .before .before .before .before .before .before .before .pre .1 .0), c .before .before .before .before .before .before .before .pre .1 .1))
 
 enum-told-3 : tie.Need-enum-told-3
 enum-told-3 c = search needs
 
 clear-kind-requires-2 : tie.Need-clear-kind-requires-2
-clear-kind-requires-2 c κs = (c .before .before .before .before .before .before .before .before .before .pre .0, (line-next (c .before .before .before .before .before .before .before .before .before .pre .1 .0) (c .before .before .before .before .before .field-at .ensures), c .before .before .before .before .before .before .before .before .before .pre .1 .1))
+clear-kind-requires-2 c κs = (c .before .before .before .before .before .before .before .pre .0, (item-line _ _ (c .before .before .before .before .field-start .ensures) (c .before .before .before .item-at .ensures) (c .before .before .before .before .before .before .before .pre .1 .0), c .before .before .before .before .before .before .before .pre .1 .1))
 
 enum-told-4 : tie.Need-enum-told-4
 enum-told-4 c = search needs
 
 clear-patch-requires : tie.Need-clear-patch-requires
-clear-patch-requires c κs = (c .before .before .before .before .before .before .before .before .before .pre .0, (line-next (c .before .before .before .before .before .before .before .before .before .pre .1 .0) (c .before .before .before .before .before .field-at .ensures), c .before .before .before .before .before .before .before .before .before .pre .1 .1))
+clear-patch-requires c κs = (c .before .before .before .before .before .before .before .pre .0, (item-line _ _ (c .before .before .before .before .field-start .ensures) (c .before .before .before .item-at .ensures) (c .before .before .before .before .before .before .before .pre .1 .0), c .before .before .before .before .before .before .before .pre .1 .1))
 
 enum-told-5 : tie.Need-enum-told-5
 enum-told-5 c = search needs
 
 clear-kind-requires-3 : tie.Need-clear-kind-requires-3
-clear-kind-requires-3 c κs = (c .before .before .before .before .before .before .before .before .before .pre .0, (line-next (c .before .before .before .before .before .before .before .before .before .pre .1 .0) (c .before .before .before .before .before .field-at .ensures), c .before .before .before .before .before .before .before .before .before .pre .1 .1))
+clear-kind-requires-3 c κs = (c .before .before .before .before .before .before .before .pre .0, (item-line _ _ (c .before .before .before .before .field-start .ensures) (c .before .before .before .item-at .ensures) (c .before .before .before .before .before .before .before .pre .1 .0), c .before .before .before .before .before .before .before .pre .1 .1))
 
 enum-told-6 : tie.Need-enum-told-6
 enum-told-6 c = search needs
@@ -56,6 +53,9 @@ ended-requires c κs = search needs
 enum-told-7 : tie.Need-enum-told-7
 enum-told-7 c = search needs
 
+blamed-at-requires : tie.Need-blamed-at-requires
+blamed-at-requires c κs = search needs
+
 ended-requires-2 : tie.Need-ended-requires-2
 ended-requires-2 c κs = search needs
 
@@ -64,51 +64,49 @@ same-length c = search needs
 
 returns : tie.Need-returns
 unfolding itemAsk
-returns c = asked-as _ _ _ (clear-as _ (c .before .before .before .before .before .before .before .before .before .before .before .before .pre .1 .0) (c .before .before .before .before .before .before .before .before .field-at .ensures) (c .before .before .before .before .before .before .before .word .ensures) (c .before .before .before .before .before .before .item-of .ensures) (c .before .before .before .before .enum-told .given .1)) (c .before .before .clear-all .ensures)
+returns c = asked-as _ _ _ (clear-as _ _ (c .before .before .before .before .before .before .before .field-start .ensures) (c .before .before .before .before .before .before .item-at .ensures) _ (c .before .before .before .before .enum-told .given .1)) (c .before .before .clear-all .ensures)
 
 same-length-2 : tie.Need-same-length-2
 same-length-2 c = search needs
 
 returns-2 : tie.Need-returns-2
 unfolding itemAsk
-returns-2 c = asked-as _ _ _ (clear-as _ (c .before .before .before .before .before .before .before .before .before .before .before .before .pre .1 .0) (c .before .before .before .before .before .before .before .before .field-at .ensures) (c .before .before .before .before .before .before .before .word .ensures) (c .before .before .before .before .before .before .item-of .ensures) (c .before .before .before .before .enum-told2 .given .1)) (c .before .before .clear-kind .ensures)
+returns-2 c = asked-as _ _ _ (clear-as _ _ (c .before .before .before .before .before .before .before .field-start .ensures) (c .before .before .before .before .before .before .item-at .ensures) _ (c .before .before .before .before .enum-told2 .given .1)) (c .before .before .clear-kind .ensures)
 
 same-length-3 : tie.Need-same-length-3
 same-length-3 c = search needs
 
 returns-3 : tie.Need-returns-3
 unfolding itemAsk
-returns-3 c = asked-as _ _ _ (clear-as _ (c .before .before .before .before .before .before .before .before .before .before .before .before .pre .1 .0) (c .before .before .before .before .before .before .before .before .field-at .ensures) (c .before .before .before .before .before .before .before .word .ensures) (c .before .before .before .before .before .before .item-of .ensures) (c .before .before .before .before .enum-told3 .given .1)) (c .before .before .clear-kind2 .ensures)
+returns-3 c = asked-as _ _ _ (clear-as _ _ (c .before .before .before .before .before .before .before .field-start .ensures) (c .before .before .before .before .before .before .item-at .ensures) _ (c .before .before .before .before .enum-told3 .given .1)) (c .before .before .clear-kind2 .ensures)
 
 same-length-4 : tie.Need-same-length-4
 same-length-4 c = search needs
 
 returns-4 : tie.Need-returns-4
 unfolding itemAsk
-returns-4 c = asked-as _ _ _ (clear-as _ (c .before .before .before .before .before .before .before .before .before .before .before .before .pre .1 .0) (c .before .before .before .before .before .before .before .before .field-at .ensures) (c .before .before .before .before .before .before .before .word .ensures) (c .before .before .before .before .before .before .item-of .ensures) (c .before .before .before .before .enum-told4 .given .1)) (c .before .before .clear-patch .ensures)
+returns-4 c = asked-as _ _ _ (clear-as _ _ (c .before .before .before .before .before .before .before .field-start .ensures) (c .before .before .before .before .before .before .item-at .ensures) _ (c .before .before .before .before .enum-told4 .given .1)) (c .before .before .clear-patch .ensures)
 
 same-length-5 : tie.Need-same-length-5
 same-length-5 c = search needs
 
 returns-5 : tie.Need-returns-5
 unfolding itemAsk
-returns-5 c = asked-as _ _ _ (clear-as _ (c .before .before .before .before .before .before .before .before .before .before .before .before .pre .1 .0) (c .before .before .before .before .before .before .before .before .field-at .ensures) (c .before .before .before .before .before .before .before .word .ensures) (c .before .before .before .before .before .before .item-of .ensures) (c .before .before .before .before .enum-told5 .given .1)) (c .before .before .clear-kind3 .ensures)
+returns-5 c = asked-as _ _ _ (clear-as _ _ (c .before .before .before .before .before .before .before .field-start .ensures) (c .before .before .before .before .before .before .item-at .ensures) _ (c .before .before .before .before .enum-told5 .given .1)) (c .before .before .clear-kind3 .ensures)
 
 returns-6 : tie.Need-returns-6
 unfolding itemAsk
-returns-6 c = asked-as _ _ _ (clear-as _ (c .before .before .before .before .before .before .before .before .before .pre .1 .0) (c .before .before .before .before .before .field-at .ensures) (c .before .before .before .before .word .ensures) (c .before .before .before .item-of .ensures) (c .before .enum-told6 .given .1)) (rests-as _ _ _ (c .before .before .before .before .before .before .before .before .before .pre .1 .1) (c .ended .ensures))
+returns-6 c = asked-as _ _ _ (clear-as _ _ (c .before .before .before .before .field-start .ensures) (c .before .before .before .item-at .ensures) _ (c .before .enum-told6 .given .1)) (rests-as _ _ _ (c .before .before .before .before .before .before .before .pre .1 .1) (c .ended .ensures))
 
 returns-7 : tie.Need-returns-7
-unfolding itemAsk
-returns-7 c = asked-as _ _ _ (clear-as _ (c .before .before .before .before .before .before .before .before .before .pre .1 .0) (c .before .before .before .before .before .field-at .ensures) (c .before .before .before .before .word .ensures) (c .before .before .before .item-of .ensures) (c .before .enum-told7 .given .1)) (rests-as _ _ _ (c .before .before .before .before .before .before .before .before .before .pre .1 .1) (c .ended2 .ensures))
+returns-7 c = asked-as _ _ _ (item-other _ _ _ (c .before .blamed-at .ensures) ∙ clear-as _ _ (c .before .before .before .before .before .field-start .ensures) (c .before .before .before .before .item-at .ensures) _ (c .before .before .enum-told7 .given .1)) (rests-as _ _ _ (c .before .before .before .before .before .before .before .before .pre .1 .1) (c .ended2 .ensures))
 
 pub clear-spec : {M : Type 1} → statement M
 clear-spec =
     tie.close
     (tie.spec
-    field-at-requires
-    word-requires
-    item-of-requires
+    field-start-requires
+    item-at-requires
     enum-told
     clear-all-requires
     enum-told-2
@@ -122,6 +120,7 @@ clear-spec =
     enum-told-6
     ended-requires
     enum-told-7
+    blamed-at-requires
     ended-requires-2
     same-length
     returns

@@ -1,9 +1,9 @@
--- `clear_all` meets its contract, by the page.
+-- `clear_all` meets its contract: a wrong page, and a right one.
 -- Assumes nothing.
-use borrow.Author.Needs.{needs}
 use mathlib.Core.Path.{_∙_}
-use Rattle.load_step.proofs.Holding.{asked-as, rests-as}
-use Rattle.load_step.proofs.Clearing.{paged-bad, paged-good, clears-as, all-as}
+use Rattle.load_step.proofs.Answers.{asked-as, rests-as}
+use Rattle.load_step.proofs.Clearing.{paged-bad, paged-good, all-as, clears-as}
+use borrow.Author.Needs.{needs}
 use Rattle.load_step.proofs.clear_all.Statement.{statement}
 use Rattle.load_step.proofs.clear_all.Tie as tie
 
@@ -15,6 +15,9 @@ page-at-requires c κs = search needs
 
 enum-told : tie.Need-enum-told
 enum-told c = search needs
+
+blamed-at-requires : tie.Need-blamed-at-requires
+blamed-at-requires c κs = (c .before .before .before .before .before .before .pre .1 .0 .within, c .before .before .before .before .before .before .pre .1 .0 .short)
 
 ended-requires : tie.Need-ended-requires
 ended-requires c κs = search needs
@@ -29,13 +32,13 @@ cleared-requires : tie.Need-cleared-requires
 cleared-requires c κs = search needs
 
 returns : tie.Need-returns
-returns c = asked-as _ _ _ (paged-bad _ (c .before .enum-told .given .1) ∙ all-as _ _ (c .before .before .before .before .most-pages .ensures) (c .before .before .before .page-at .ensures)) (rests-as _ _ _ (c .before .before .before .before .before .before .before .before .pre .1 .1) (c .ended .ensures))
+returns c = asked-as _ _ _ (paged-bad _ _ (c .before .before .enum-told .given .1) (c .before .blamed-at .ensures) ∙ all-as _ _ (c .before .before .before .before .before .most-pages .ensures) (c .before .before .before .before .page-at .ensures)) (rests-as _ _ _ (c .before .before .before .before .before .before .before .before .pre .1 .1) (c .ended .ensures))
 
 same-length : tie.Need-same-length
 same-length c = search needs
 
 returns-2 : tie.Need-returns-2
-returns-2 c = asked-as _ _ _ (paged-good _ (c .before .before .before .before .before .before .before .before .page .given .1) ∙ all-as _ _ (c .before .before .before .before .before .before .before .before .before .before .before .most-pages .ensures) (c .before .before .before .before .before .before .before .before .before .before .page-at .ensures)) (clears-as _ _ _ (c .cleared .ensures) _ (c .before .before .before .before .before .clear-tables .ensures))
+returns-2 c = asked-as _ _ _ (paged-good _ _ (c .before .before .before .before .before .before .before .before .page .given .1) ∙ all-as _ _ (c .before .before .before .before .before .before .before .before .before .before .before .most-pages .ensures) (c .before .before .before .before .before .before .before .before .before .before .page-at .ensures)) (clears-as _ _ _ (c .cleared .ensures) _ (c .before .before .before .before .before .clear-tables .ensures))
 
 pub clear-all-spec : {M : Type 1} → statement M
 clear-all-spec =
@@ -44,6 +47,7 @@ clear-all-spec =
     most-pages-requires
     page-at-requires
     enum-told
+    blamed-at-requires
     ended-requires
     enum-known-page
     clear-tables-requires

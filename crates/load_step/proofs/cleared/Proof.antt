@@ -1,7 +1,7 @@
 -- `cleared` meets its contract.
 -- Assumes nothing.
 use borrow.Author.Needs.{needs}
-use Rattle.load_step.proofs.Holding.{ended-as}
+use Rattle.load_step.proofs.Answers.{ended-as}
 use Rattle.load_step.proofs.cleared.Statement.{statement}
 use Rattle.load_step.proofs.cleared.Tie as tie
 

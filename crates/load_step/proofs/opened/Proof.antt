@@ -1,7 +1,7 @@
--- `opened` meets its contract: with room and with none.
+-- `opened` meets its contract: at a seat, and with no room.
 -- Assumes nothing.
-use borrow.Author.Needs.{needs}
 use Rattle.load_step.proofs.Primaries.{opened-at, opened-full}
+use borrow.Author.Needs.{needs}
 use Rattle.load_step.proofs.opened.Statement.{statement}
 use Rattle.load_step.proofs.opened.Tie as tie
 
@@ -20,6 +20,9 @@ enum-told c = search needs
 full-requires : tie.Need-full-requires
 full-requires c κs = search needs
 
+blameless-requires : tie.Need-blameless-requires
+blameless-requires c κs = search needs
+
 refused-requires : tie.Need-refused-requires
 refused-requires c κs = search needs
 
@@ -33,7 +36,7 @@ same-length-2 : tie.Need-same-length-2
 same-length-2 c = search needs
 
 returns-2 : tie.Need-returns-2
-returns-2 c = opened-full _ _ _ _ (c .before .before .before .before .before .before .start .ensures) (c .before .before .enum-told .given .1) (c .before .full .ensures) (c .refused .ensures)
+returns-2 c = opened-full _ _ _ _ (c .before .before .before .before .before .before .before .start .ensures) (c .before .before .before .enum-told .given .1) (c .before .before .full .ensures) (c .before .blameless .ensures) (c .refused .ensures)
 
 pub opened-spec : {M : Type 1} → statement M
 opened-spec =
@@ -44,6 +47,7 @@ opened-spec =
     ended-requires
     enum-told
     full-requires
+    blameless-requires
     refused-requires
     same-length
     returns

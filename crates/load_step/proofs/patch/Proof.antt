@@ -1,10 +1,9 @@
--- `patch` meets its contract: the page, then the triples.
+-- `patch` meets its contract: a wrong page, and its triples.
 -- Assumes nothing.
+use Rattle.load_naming.proofs.Fields.{field-in, field-lent, start-low, line-next}
+use Rattle.load_step.proofs.Answers.{asked-did-all, rests-did-all}
+use Rattle.load_step.proofs.Basics.{patch-page, patch-bad, patch-items, patched-did}
 use borrow.Author.Needs.{needs}
-use mathlib.Core.Path.{_∙_}
-use Rattle.load_step.proofs.Holding.{asked-as, rests-as}
-use Rattle.load_naming.proofs.Fields.{field-in, line-next}
-use Rattle.load_step.proofs.Basic.{patch-page, patch-bad, patch-items, patch-as, patched-as}
 use Rattle.load_step.proofs.patch.Statement.{statement}
 use Rattle.load_step.proofs.patch.Tie as tie
 
@@ -12,7 +11,7 @@ field-at-requires : tie.Need-field-at-requires
 field-at-requires c κs = search needs
 
 word-requires : tie.Need-word-requires
-word-requires c κs = field-in (c .before .before .before .before .pre .1 .0) (c .field-at .ensures)
+word-requires c κs = field-lent (field-in (c .before .before .before .before .pre .1 .0) (c .field-at .ensures))
 
 read-page-requires : tie.Need-read-page-requires
 read-page-requires c κs = search needs
@@ -20,23 +19,29 @@ read-page-requires c κs = search needs
 enum-told : tie.Need-enum-told
 enum-told c = search needs
 
-ended-requires : tie.Need-ended-requires
-ended-requires c κs = search needs
+blamed-requires : tie.Need-blamed-requires
+blamed-requires c κs = start-low (field-in (c .before .before .before .before .before .before .before .before .pre .1 .0) (c .before .before .before .before .field-at .ensures))
+
+answered-requires : tie.Need-answered-requires
+answered-requires c κs = search needs
 
 enum-known-page : tie.Need-enum-known-page
 enum-known-page c = search needs
 
-take-items-requires : tie.Need-take-items-requires
-take-items-requires c κs = record { fitting = c .before .before .before .before .before .before .before .before .before .before .pre .0; within = line-next (c .before .before .before .before .before .before .before .before .before .before .pre .1 .0) (c .before .before .before .before .before .before .field-at .ensures) .within; columned = c .before .before .before .before .before .before .before .before .before .before .pre .1 .0 .beside; short = c .before .before .before .before .before .before .before .before .before .before .pre .1 .0 .short; aimed = patch-page _ _ (c .before .before .before .before .read-page .ensures) (c .before .before .page .given .1) }
+take-triples-requires : tie.Need-take-triples-requires
+take-triples-requires c κs = record { fitting = c .before .before .before .before .before .before .before .before .before .before .before .pre .0; within = line-next (c .before .before .before .before .before .before .before .before .before .before .before .pre .1 .0) (c .before .before .before .before .before .before .before .field-at .ensures) .within; short = c .before .before .before .before .before .before .before .before .before .before .before .pre .1 .0 .short; aimed = patch-page _ _ (c .before .before .before .before .before .read-page .ensures) (c .before .before .before .page .given .1); room = c .before .before .before .before .before .before .before .before .before .before .before .pre .1 .1 }
 
 returns : tie.Need-returns
-returns c = asked-as _ _ _ (patch-bad _ _ (c .before .enum-told .given .1) ∙ patch-as _ (c .before .before .before .before .before .before .before .before .before .pre .1 .0) (c .before .before .before .before .before .field-at .ensures) (c .before .before .before .before .word .ensures) (c .before .before .before .read-page .ensures)) (rests-as _ _ _ (c .before .before .before .before .before .before .before .before .before .pre .1 .1) (c .ended .ensures))
+returns c = asked-did-all _ _ _ _ (patch-bad _ (c .before .before .before .before .before .before .before .before .before .before .pre .1 .0) (c .before .before .before .before .before .before .field-at .ensures) (c .before .before .before .before .before .word .ensures) (c .before .before .before .before .read-page .ensures) (c .before .before .enum-told .given .1) (c .before .blamed .ensures)) (rests-did-all _ _ _ _ (c .answered .ensures) _)
 
 same-length : tie.Need-same-length
 same-length c = search needs
 
+same-length-2 : tie.Need-same-length-2
+same-length-2 c = search needs
+
 returns-2 : tie.Need-returns-2
-returns-2 c = asked-as _ _ _ (patch-items _ _ (c .before .before .before .before .before .page .given .1) ∙ patch-as _ (c .before .before .before .before .before .before .before .before .before .before .before .before .before .pre .1 .0) (c .before .before .before .before .before .before .before .before .before .field-at .ensures) (c .before .before .before .before .before .before .before .before .word .ensures) (c .before .before .before .before .before .before .before .read-page .ensures)) (patched-as _ _ (c .before .before .before .before .before .before .before .before .before .before .before .before .before .pre .1 .1) (c .before .before .before .before .before .before .before .before .before .before .before .before .before .pre .0) _ (patch-page _ _ (c .before .before .before .before .before .before .before .read-page .ensures) (c .before .before .before .before .before .page .given .1)) (c .before .before .take-items .ensures .0))
+returns-2 c = asked-did-all _ _ _ _ (patch-items _ (c .before .before .before .before .before .before .before .before .before .before .before .before .before .before .before .before .pre .1 .0) (c .before .before .before .before .before .before .before .before .before .before .before .before .field-at .ensures) (c .before .before .before .before .before .before .before .before .before .before .before .word .ensures) (c .before .before .before .before .before .before .before .before .before .before .read-page .ensures) (c .before .before .before .before .before .before .before .before .page .given .1)) (patched-did _ _ _ _ _ _ (c .before .before .before .before .take-triples .ensures))
 
 pub patch-spec : {M : Type 1} → statement M
 patch-spec =
@@ -46,9 +51,11 @@ patch-spec =
     word-requires
     read-page-requires
     enum-told
-    ended-requires
+    blamed-requires
+    answered-requires
     enum-known-page
-    take-items-requires
+    take-triples-requires
     returns
     same-length
+    same-length-2
     returns-2)

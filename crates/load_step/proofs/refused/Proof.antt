@@ -1,10 +1,10 @@
--- `refused` meets its contract: nothing is open after it.
+-- `refused` meets its contract.
 -- Assumes nothing.
-use borrow.Author.Needs.{needs}
 use mathlib.Core.Path.{_∙_, ap}
 use Rattle.load.specs.declared.Outcome.the-variants.{Dropped}
 use Rattle.load_step.specs.declared.Held.{Held}
 use Rattle.load_step.specs.Parts.{endedAs}
+use borrow.Author.Needs.{needs}
 use Rattle.load_step.proofs.refused.Statement.{statement}
 use Rattle.load_step.proofs.refused.Tie as tie
 
@@ -15,7 +15,7 @@ ended-requires : tie.Need-ended-requires
 ended-requires c κs = search needs
 
 returns : tie.Need-returns
-returns c = c .ended .ensures ∙ ap (λ (h : Held). endedAs h (Dropped (c .before .before .args .condition))) (c .before .resting .ensures)
+returns c = c .ended .ensures ∙ ap (λ (h : Held). endedAs h (Dropped (c .before .before .args .fault))) (c .before .resting .ensures)
 
 pub refused-spec : {M : Type 1} → statement M
 refused-spec = tie.close (tie.spec resting-requires ended-requires returns)

@@ -1,0 +1,251 @@
+-- PATCH's triples, IDENT's version, what a keyword begins, and a record's first field. By cases on each.
+-- Assumes nothing.
+use mathlib.Core.Path.{_≡_, refl, sym, ap, _∙_, subst}
+use mathlib.Core.Bool.{true, false}
+use mathlib.Core.List.{List}
+use Prim.Native.Nat.{ℕ, _≤_, _<_}
+use native.Mathlib.Omega.{arith}
+use lib.Dec.{eqb}
+use lib.ListN.{length}
+use borrow.Author.Tests.{eq-eqb, ne-eqb, lt-ltb, le-ltb}
+use Rattle.cells.proofs.Split.{and-true, and-false-left, and-false-right, cond-true, cond-false}
+use Rattle.store_desk.specs.declared.Desk.{Desk}
+use Rattle.store_desk.specs.declared.Kind.{Kind}
+use Rattle.store_desk.specs.Size.{Within}
+use Rattle.text_records.specs.Received.{longest}
+use Rattle.text_fields.specs.declared.Field.{Field}
+use Rattle.text_fields.specs.declared.Keyword.{Keyword}
+use Rattle.text_fields.specs.declared.Keyword.the-variants as key
+use Rattle.text_fields.specs.declared.Said.{Said}
+use Rattle.text_fields.specs.Words.{Word, wordsOf, headOf, tailOf}
+use Rattle.text_fields.specs.Places.{wordsFrom, startAt, endAt, isMore, fieldAt, wordIn, wordAt}
+use Rattle.text_fields.specs.Keywords.{keywordOf, itemOf}
+use Rattle.text_fields.specs.Tables.{saidAt}
+use Rattle.text_fields.proofs.Words.{end-within, words-none, words-some, words-head, said-head}
+use Rattle.value.specs.declared.Paged.{Paged}
+use Rattle.value.specs.declared.Paged.the-variants.{Bad, Value as IsPage}
+use Rattle.value.specs.declared.Version.{Version}
+use Rattle.value.specs.declared.Version.the-variants.{Malformed as BadVersion, Value as IsVersion}
+use Rattle.value.specs.Field.{pageOf, versionOf}
+use Rattle.store_code.specs.Fits.{Fitting}
+use Rattle.load_items.specs.declared.Aim.the-variants.{Page}
+use Rattle.load.specs.declared.Entry.{Entry}
+use Rattle.load.specs.declared.Fault.{Fault}
+use Rattle.load.specs.declared.State.{State}
+use Rattle.load.specs.declared.Secondary.{Secondary}
+use Rattle.load.specs.declared.Outcome.{Outcome}
+use Rattle.load.specs.declared.Outcome.the-variants.{Blank, Dropped, Obeyed, Stopped}
+use Rattle.load.specs.Condition.{badPatchPage, identMismatch, unknownKeyword}
+use Rattle.load.specs.Item.{blame, blameNone, triplesOf, page, allDone}
+use Rattle.load.specs.Fits.{blameField}
+use Rattle.load.specs.Ask.{rests, items, triplesAsk, clearAsk, patchAsk, isThree, identOutcome, primaryAsk, secondaryAsk, keywordAsk, fieldsAsk}
+use Rattle.load.specs.Step.{nothingOpen, acted, stepOf}
+use Rattle.load.proofs.Entries.{triples-fit}
+use Rattle.load.proofs.Read.{PageIn, page-in}
+use Rattle.load.proofs.Steps.{item-faults}
+use Rattle.load.proofs.Counts.{text-few}
+use Rattle.load_naming.specs.Line.{Line}
+use Rattle.load_naming.proofs.Fields.{head-at, tail-at}
+use Rattle.load_items.specs.Done.{mostFaults}
+use Rattle.load_items.specs.Take.{Taken, takenAs, takenOf}
+use Rattle.load_items.proofs.Done.{done-page, page-find}
+use Rattle.load_step.specs.declared.Basic.{Basic}
+use Rattle.load_step.specs.declared.Basic.the-variants.{Ident, Clear, Patch, Enddata, Unknown}
+use Rattle.load_step.specs.declared.Did.{Did}
+use Rattle.load_step.specs.declared.Family.{Family}
+use Rattle.load_step.specs.declared.Family.the-variants.{Primary, Augments, Basic as BasicOf}
+use Rattle.load_step.specs.declared.Held.{Held}
+use Rattle.load_step.specs.declared.Stepped.{Stepped}
+use Rattle.load_step.specs.Held.{heldOf, HeldReady, stepping, steppedOf, ResAll, steppingAll, steppedAll}
+use Rattle.load_step.specs.Parts.{keywordIn, withHeld, didOf, DeedsAll, doingAll, didAll, familyIn, basicAsk, familyAsk}
+use Rattle.load_step.proofs.Holding.{held-stays}
+use Rattle.load_step.proofs.Answers.{step-all, asked-all, held-with}
+
+-- ---- PATCH
+pub patch-page : (limit : ℕ) (w : List ℕ) {x : Paged} {p : ℕ} → x ≡ pageOf limit w → x ≡ IsPage p → Within 1 p limit
+patch-page limit w e g = subst (λ (x : Paged). PageIn 1 limit x) (sym e ∙ g) (page-in 1 limit (omega arith) w)
+
+module _ (d : Desk) {text : List ℕ} {place : ℕ} {f : Field} {w : List ℕ} {x : Paged} (l : Line text place)
+    (e : f ≡ fieldAt text place) (g : w ≡ wordIn text f .chars) (h : x ≡ pageOf (d .«patch_pages») w) where
+  patch-as : {y : Paged} → x ≡ y → triplesAsk d (wordIn text f) y (wordsFrom text (f .end)) ≡ patchAsk d (wordsFrom text place)
+  patch-as k =
+      let a : pageOf (d .«patch_pages») w ≡ pageOf (d .«patch_pages») (headOf (wordsFrom text place) .chars) =
+      ap (λ (v : List ℕ). pageOf (d .«patch_pages») v) g ∙ sym (ap (λ (v : Word). pageOf (d .«patch_pages») (v .chars)) (head-at l e)) in
+      let b : wordsFrom text (f .end) ≡ tailOf (wordsFrom text place) = sym (tail-at l e) in
+      let c : wordIn text f ≡ headOf (wordsFrom text place) = sym (head-at l e) in
+      λ i. triplesAsk d (c i) ((sym k ∙ h ∙ a) i) (b i)
+
+  pub patch-bad : x ≡ Bad → {r : Fault} → r ≡ blameField f badPatchPage → rests (Dropped r) ≡ patchAsk d (wordsFrom text place)
+  unfolding triplesAsk
+  patch-bad k q = ap (λ (y : Fault). rests (Dropped y)) q ∙ patch-as k
+
+  pub patch-items : {p : ℕ} → x ≡ IsPage p → items (page p) (triplesOf d (wordsFrom text (f .end))) ≡ patchAsk d (wordsFrom text place)
+  unfolding triplesAsk
+  patch-items k = patch-as k
+
+-- what the store does with them
+pub patched-did : (d : Desk) (s : State) (t : List ℕ) (ws : List Word) (fs : List ℕ) (p : ℕ) {n : ℕ} {u us : List ℕ}
+    → takenAs n u us ≡ takenOf d (Page p) t fs (triplesOf d ws)
+    → doingAll (record { outcome = Obeyed; faults = n }) u us ≡ didAll (acted d s t (items (page p) (triplesOf d ws))) fs
+unfolding acted didAll didOf takenOf
+patched-did d s t ws fs p {n} {u} {us} q =
+    let es : List Entry = triplesOf d ws in
+    let a : u ≡ allDone d (page p) t es = ap (λ (z : Taken). z .store) q ∙ sym (done-page d p es t) in
+    λ i. doingAll (record { outcome = Obeyed; faults = q i .count }) (a i) (q i .faults)
+
+-- what was open plays no part, and stays open in its slot
+triples-anew : (d : Desk) (s : State) (t fs : List ℕ) (w : Word) (x : Paged) (ws : List Word)
+    → didAll (acted d nothingOpen t (triplesAsk d w x ws)) fs ≡ didAll (acted d s t (triplesAsk d w x ws)) fs
+unfolding acted didAll didOf triplesAsk
+triples-anew d s t fs w Bad ws = refl
+triples-anew d s t fs w (IsPage p) ws = refl
+
+patch-anew : (d : Desk) (s : State) (t fs : List ℕ) (ws : List Word) {q : DeedsAll}
+    → q ≡ didAll (acted d nothingOpen t (patchAsk d ws)) fs → q ≡ didAll (acted d s t (patchAsk d ws)) fs
+patch-anew d s t fs ws z = z ∙ triples-anew d s t fs (headOf ws) (pageOf (d .«patch_pages») (headOf ws .chars)) (tailOf ws)
+
+module _ (d : Desk) (t : List ℕ) {h : Held} (g : HeldReady d t h) (f : Fitting d t) where
+  triples-stay : (w : Word) (x : Paged) → PageIn 1 (d .«patch_pages») x → (ws : List Word)
+      → h ≡ heldOf d (acted d (h .state) t (triplesAsk d w x ws) .store) (acted d (h .state) t (triplesAsk d w x ws) .state)
+  unfolding acted triplesAsk
+  triples-stay w Bad r ws = g .same
+  triples-stay w (IsPage p) r ws =
+      held-stays d t (allDone d (page p) t (triplesOf d ws)) (page-find d t f p r (triplesOf d ws) (triples-fit d ws)) (g .same)
+
+  patch-stays : (ws : List Word) → h ≡ heldOf d (acted d (h .state) t (patchAsk d ws) .store) (acted d (h .state) t (patchAsk d ws) .state)
+  patch-stays ws =
+      triples-stay (headOf ws) (pageOf (d .«patch_pages») (headOf ws .chars)) (page-in 1 (d .«patch_pages») (omega arith) (headOf ws .chars)) (tailOf ws)
+
+-- ---- IDENT
+module _ (w : Word) {v u : Version} (z : v ≡ u) {o : Outcome} where
+  pub ident-bad : v ≡ BadVersion → o ≡ Stopped (blame w identMismatch) → o ≡ identOutcome w u
+  unfolding identOutcome
+  ident-bad e k = k ∙ ap (λ (x : Version). identOutcome w x) (sym e ∙ z)
+
+  module _ {a b : ℕ} (e : v ≡ IsVersion a b) where
+    other : isThree a b ≡ false → o ≡ Stopped (blame w identMismatch) → o ≡ identOutcome w u
+    unfolding identOutcome
+    other t k =
+        k ∙ sym (cond-false (isThree a b) Obeyed (Stopped (blame w identMismatch)) t) ∙ ap (λ (x : Version). identOutcome w x) (sym e ∙ z)
+
+    pub ident-major : (a ≡ 3 → ⊥) → o ≡ Stopped (blame w identMismatch) → o ≡ identOutcome w u
+    ident-major t k = other (and-false-left (eqb a 3) (eqb b 0) (ne-eqb a 3 t)) k
+
+    pub ident-minor : (b ≡ 0 → ⊥) → o ≡ Stopped (blame w identMismatch) → o ≡ identOutcome w u
+    ident-minor t k = other (and-false-right (eqb a 3) (eqb b 0) (ne-eqb b 0 t)) k
+
+module _ (w : Word) {v u : Version} (z : v ≡ u) {a b : ℕ} (e : v ≡ IsVersion a b) where
+  pub ident-three : a ≡ 3 → b ≡ 0 → Obeyed ≡ identOutcome w u
+  unfolding identOutcome
+  ident-three s t =
+      sym (cond-true (isThree a b) Obeyed (Stopped (blame w identMismatch)) (and-true (eqb a 3) (eqb b 0) (eq-eqb a 3 s) (eq-eqb b 0 t)))
+      ∙ ap (λ (x : Version). identOutcome w x) (sym e ∙ z)
+
+-- ---- a basic record
+module _ (d : Desk) (w : Word) (ws : List Word) where
+  pub basic-ident : {o : Outcome} → o ≡ identOutcome (headOf ws) (versionOf (headOf ws .chars)) → rests o ≡ basicAsk d Ident w ws
+  unfolding basicAsk
+  basic-ident e = ap rests e
+
+  pub basic-enddata : {f : Fault} → f ≡ blameNone 0 → rests (Stopped f) ≡ basicAsk d Enddata w ws
+  unfolding basicAsk
+  basic-enddata e = ap (λ (x : Fault). rests (Stopped x)) e
+
+  pub basic-unknown : {f : Fault} → f ≡ blame w unknownKeyword → rests (Dropped f) ≡ basicAsk d Unknown w ws
+  unfolding basicAsk
+  basic-unknown e = ap (λ (x : Fault). rests (Dropped x)) e
+
+  pub basic-clear : (s : State) (t fs : List ℕ) {r : Stepped} {u : List ℕ} → stepping r u ≡ steppedOf d (acted d s t (clearAsk d w ws))
+      → steppingAll r u fs ≡ steppedAll d (acted d s t (basicAsk d Clear w ws)) fs
+  unfolding basicAsk
+  basic-clear s t fs z = step-all (acted d s t (clearAsk d w ws)) fs (item-faults d s t (itemOf (headOf ws .chars)) w (tailOf ws)) d z
+
+  pub basic-patch : (t fs : List ℕ) {h : Held} → HeldReady d t h → Fitting d t → {r : Did} {q : Stepped} {u us : List ℕ}
+      → doingAll r u us ≡ didAll (acted d nothingOpen t (patchAsk d ws)) fs → q ≡ withHeld h r
+      → steppingAll q u us ≡ steppedAll d (acted d (h .state) t (basicAsk d Patch w ws)) fs
+  unfolding basicAsk
+  basic-patch t fs {h} g f z e =
+      held-with d (acted d (h .state) t (patchAsk d ws)) fs (patch-stays d t g f ws) (patch-anew d (h .state) t fs ws z) e
+
+  pub basic-as : (s : State) (t fs : List ℕ) {b c : Basic} {q : ResAll} → b ≡ c
+      → q ≡ steppedAll d (acted d s t (basicAsk d c w ws)) fs → q ≡ steppedAll d (acted d s t (basicAsk d b w ws)) fs
+  basic-as s t fs e z = asked-all d s t fs (sym (ap (λ (x : Basic). basicAsk d x w ws) e)) z
+
+-- ---- what a keyword begins
+family-is : (d : Desk) (s : State) (k : Keyword) (w : Word) (ws : List Word) → keywordAsk d s k w ws ≡ familyAsk d s (familyIn k) w ws
+unfolding keywordAsk familyIn familyAsk basicAsk
+family-is d s key.Ident w ws = refl
+family-is d s key.Clear w ws = refl
+family-is d s key.Patch w ws = refl
+family-is d s key.Cue w ws = refl
+family-is d s key.Group w ws = refl
+family-is d s key.Sub w ws = refl
+family-is d s key.Chan w ws = refl
+family-is d s key.Up w ws = refl
+family-is d s key.Down w ws = refl
+family-is d s key.Followon w ws = refl
+family-is d s key.Link w ws = refl
+family-is d s key.Enddata w ws = refl
+family-is d s key.Manufacturer w ws = refl
+family-is d s key.Console w ws = refl
+family-is d s key.Set w ws = refl
+family-is d s key.Text w ws = refl
+family-is d s key.Part w ws = refl
+family-is d s key.Local w ws = refl
+family-is d s key.Comment w ws = refl
+family-is d s key.Unknown w ws = refl
+
+module _ (d : Desk) (s : State) (k : Keyword) (w : Word) (ws : List Word) {x : Family} (e : x ≡ familyIn k) where
+  family-as : {y : Family} → x ≡ y → familyAsk d s y w ws ≡ keywordAsk d s k w ws
+  family-as h = ap (λ (z : Family). familyAsk d s z w ws) (sym h ∙ e) ∙ sym (family-is d s k w ws)
+
+  pub family-primary : {kind : Kind} → x ≡ Primary kind → primaryAsk d kind w ws ≡ keywordAsk d s k w ws
+  unfolding familyAsk
+  family-primary h = family-as h
+
+  pub family-secondary : {y : Secondary} → x ≡ Augments y → secondaryAsk d (s .key) (s .«open») y w ws ≡ keywordAsk d s k w ws
+  unfolding familyAsk
+  family-secondary h = family-as h
+
+  pub family-basic : {b : Basic} → x ≡ BasicOf b → basicAsk d b w ws ≡ keywordAsk d s k w ws
+  unfolding familyAsk
+  family-basic h = family-as h
+
+-- ---- a record's first field
+pub step-blank : (d : Desk) (s : State) (text : List ℕ) {start : ℕ} → start ≡ startAt text 0 → length text ≤ start
+    → rests Blank ≡ fieldsAsk d s (wordsOf 0 text)
+unfolding fieldsAsk
+step-blank d s text e h =
+    let m : isMore text 0 ≡ false = le-ltb (startAt text 0) (length text) (subst (λ (n : ℕ). length text ≤ n) e h) in
+    sym (ap (λ (ws : List Word). fieldsAsk d s ws) (words-none text 0 m))
+
+module _ (text : List ℕ) {start : ℕ} (e : start ≡ startAt text 0) {said : Said} (g : said ≡ saidAt text start) where
+  keyword-said : said ≡ record { keyword = keywordOf (headOf (wordsFrom text 0) .chars); end = endAt text 0 }
+  keyword-said = g ∙ said-head text 0 e
+
+  pub step-line : length text ≤ longest → Line text (said .end)
+  step-line h =
+      record {
+        within = subst (λ (y : Said). y .end ≤ length text) (sym keyword-said) (end-within text 0 (omega arith));
+        short = h;
+      }
+
+  pub step-as : (d : Desk) (s : State) → start < length text
+      → keywordAsk d s (said .keyword) (keywordIn text) (wordsFrom text (said .end)) ≡ fieldsAsk d s (wordsOf 0 text)
+  unfolding fieldsAsk
+  step-as d s h =
+      let m : isMore text 0 ≡ true = lt-ltb (startAt text 0) (length text) (subst (λ (n : ℕ). n < length text) e h) in
+      let w : keywordIn text ≡ wordAt text 0 = words-head text 0 in
+      ap (λ (y : Said). keywordAsk d s (y .keyword) (keywordIn text) (wordsFrom text (y .end))) keyword-said
+      ∙ (λ i. keywordAsk d s (keywordOf (w i .chars)) (w i) (wordsFrom text (endAt text 0)))
+      ∙ sym (ap (λ (ws : List Word). fieldsAsk d s ws) (words-some text 0 m))
+
+-- and at most forty faults
+pub step-told : (d : Desk) (s : State) (t text fs : List ℕ) → length text ≤ longest → {r : Stepped} {u us : List ℕ}
+    → steppingAll r u us ≡ steppedAll d (stepOf d s (wordsOf 0 text) t) fs
+    → (steppingAll r u us ≡ steppedAll d (stepOf d s (wordsOf 0 text) t) fs) × (r .faults ≤ mostFaults)
+unfolding steppedAll steppedOf
+step-told d s t text fs h {r} e =
+    let a : r .faults ≡ length (stepOf d s (wordsOf 0 text) t .faults) = ap (λ (y : ResAll). y .res .stepped .faults) e in
+    let b : length (stepOf d s (wordsOf 0 text) t .faults) ≤ mostFaults = text-few d s text t h in
+    (e, (let z : r .faults ≤ mostFaults = omega arith in z))

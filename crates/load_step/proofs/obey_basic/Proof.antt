@@ -1,0 +1,134 @@
+-- `obey_basic` meets its contract, case by case.
+-- Assumes nothing.
+use mathlib.Core.Path.{_∙_, ap}
+use Rattle.load.specs.declared.Outcome.the-variants.{Passed}
+use Rattle.load_step.specs.declared.Held.{Held}
+use Rattle.load_step.specs.Parts.{endedAs, basicAsk}
+use Rattle.load_step.proofs.Answers.{asked-all, rests-all, skips-all}
+use Rattle.load_step.proofs.Basics.{basic-ident, basic-clear, basic-patch, basic-enddata, basic-unknown, basic-as}
+use borrow.Author.Needs.{needs}
+use Rattle.load_step.proofs.obey_basic.Statement.{statement}
+use Rattle.load_step.proofs.obey_basic.Tie as tie
+
+enum-told : tie.Need-enum-told
+enum-told c = search needs
+
+ident-requires : tie.Need-ident-requires
+ident-requires c κs = search needs
+
+ended-requires : tie.Need-ended-requires
+ended-requires c κs = search needs
+
+enum-told-2 : tie.Need-enum-told-2
+enum-told-2 c = search needs
+
+clear-requires : tie.Need-clear-requires
+clear-requires c κs = search needs
+
+enum-told-3 : tie.Need-enum-told-3
+enum-told-3 c = search needs
+
+patch-requires : tie.Need-patch-requires
+patch-requires c κs = search needs
+
+with-held-requires : tie.Need-with-held-requires
+with-held-requires c κs = search needs
+
+enum-told-4 : tie.Need-enum-told-4
+enum-told-4 c = search needs
+
+blameless-requires : tie.Need-blameless-requires
+blameless-requires c κs = search needs
+
+ended-requires-2 : tie.Need-ended-requires-2
+ended-requires-2 c κs = search needs
+
+enum-told-5 : tie.Need-enum-told-5
+enum-told-5 c = search needs
+
+ended-requires-3 : tie.Need-ended-requires-3
+ended-requires-3 c κs = search needs
+
+enum-told-6 : tie.Need-enum-told-6
+enum-told-6 c = search needs
+
+resting-requires : tie.Need-resting-requires
+resting-requires c κs = search needs
+
+ended-requires-4 : tie.Need-ended-requires-4
+ended-requires-4 c κs = search needs
+
+enum-told-7 : tie.Need-enum-told-7
+enum-told-7 c = search needs
+
+blamed-at-requires : tie.Need-blamed-at-requires
+blamed-at-requires c κs = search needs
+
+ended-requires-5 : tie.Need-ended-requires-5
+ended-requires-5 c κs = search needs
+
+returns : tie.Need-returns
+returns c = basic-as _ _ _ _ _ _ (c .before .before .enum-told .given .1) (asked-all _ _ _ _ (basic-ident _ _ _ (c .before .ident .ensures)) (rests-all _ _ _ (c .before .before .before .before .before .before .before .pre .1 .1 .0) (c .ended .ensures) _))
+
+same-length : tie.Need-same-length
+same-length c = search needs
+
+returns-2 : tie.Need-returns-2
+returns-2 c = basic-as _ _ _ _ _ _ (c .before .before .before .before .enum-told2 .given .1) (basic-clear _ _ _ _ _ _ (c .before .before .clear .ensures))
+
+same-length-2 : tie.Need-same-length-2
+same-length-2 c = search needs
+
+same-length-3 : tie.Need-same-length-3
+same-length-3 c = search needs
+
+returns-3 : tie.Need-returns-3
+returns-3 c = basic-as _ _ _ _ _ _ (c .before .before .before .before .before .before .before .before .enum-told3 .given .1) (basic-patch _ _ _ _ _ (c .before .before .before .before .before .before .before .before .before .before .before .before .before .pre .1 .1 .0) (c .before .before .before .before .before .before .before .before .before .before .before .before .before .pre .0) (c .before .before .before .before .before .patch .ensures) (c .with-held .ensures))
+
+returns-4 : tie.Need-returns-4
+returns-4 c = basic-as _ _ _ _ _ _ (c .before .before .enum-told4 .given .1) (asked-all _ _ _ _ (basic-enddata _ _ _ (c .before .blameless .ensures)) (rests-all _ _ _ (c .before .before .before .before .before .before .before .pre .1 .1 .0) (c .ended2 .ensures) _))
+
+returns-5 : tie.Need-returns-5
+unfolding basicAsk
+returns-5 c = basic-as _ _ _ _ _ _ (c .before .enum-told5 .given .1) (rests-all _ _ _ (c .before .before .before .before .before .before .pre .1 .1 .0) (c .ended3 .ensures) _)
+
+returns-6 : tie.Need-returns-6
+unfolding basicAsk
+returns-6 c = basic-as _ _ _ _ _ _ (c .before .before .enum-told6 .given .1) (skips-all _ _ _ _ (c .ended4 .ensures ∙ ap (λ (h : Held). endedAs h Passed) (c .before .resting .ensures)) _)
+
+returns-7 : tie.Need-returns-7
+returns-7 c = basic-as _ _ _ _ _ _ (c .before .before .enum-told7 .given .1) (asked-all _ _ _ _ (basic-unknown _ _ _ (c .before .blamed-at .ensures)) (rests-all _ _ _ (c .before .before .before .before .before .before .before .pre .1 .1 .0) (c .ended5 .ensures) _))
+
+pub obey-basic-spec : {M : Type 1} → statement M
+obey-basic-spec =
+    tie.close
+    (tie.spec
+    enum-told
+    ident-requires
+    ended-requires
+    enum-told-2
+    clear-requires
+    enum-told-3
+    patch-requires
+    with-held-requires
+    enum-told-4
+    blameless-requires
+    ended-requires-2
+    enum-told-5
+    ended-requires-3
+    enum-told-6
+    resting-requires
+    ended-requires-4
+    enum-told-7
+    blamed-at-requires
+    ended-requires-5
+    returns
+    same-length
+    returns-2
+    same-length-2
+    same-length-3
+    returns-3
+    returns-4
+    returns-5
+    returns-6
+    returns-7)
