@@ -1,134 +1,228 @@
 -- One record taken: from what the step, the cleaning and the reports ensure to the record's definition, and that there is room.
 -- By unfolding the definitions along those equations.
 -- Assumes nothing.
-use mathlib.Core.Path.{_≡_, sym, ap, _∙_, subst}
-use mathlib.Core.Bool.{Bool, true, false}
+use mathlib.Core.Path.{_≡_, refl, sym, ap, _∙_, subst}
+use mathlib.Core.Bool.{Bool, true, false, not}
 use mathlib.Core.List.{List, [], _∷_, _++_}
 use Prim.Native.Nat.{ℕ, _+_, _-_, _≤_}
 use native.Mathlib.Omega.{arith}
-use lib.ListN.{length, take, drop}
+use lib.Dec.{ltb}
+use lib.ListN.{length, take, drop, length-append}
+use borrow.Author.Tests.{eqb-true, not-false}
 use Rattle.store_desk.specs.declared.Desk.{Desk}
 use Rattle.text_records.specs.declared.Record.{Record}
 use Rattle.text_records.specs.declared.Cleaned.{Cleaned}
-use Rattle.text_records.specs.Received.{longest, recordOf, overLong, textOf}
-use Rattle.text_records.specs.Cleaning.{keptOf, cleanedOf}
-use Rattle.text_records.proofs.Received.{part-length, received-count, received-long, received-short}
-use Rattle.text_records.proofs.Cleaning.{kept-length, cleaned-received, cleaned-count, cleaned-high, cleaned-control, cleaned-fits}
+use Rattle.text_records.specs.Stream.{recordEnd}
+use Rattle.text_records.specs.Received.{longest}
+use Rattle.text_records.specs.Cleaning.{isHigh, isControl, has, keptOf}
+use Rattle.text_records.specs.Window.{windowOf, overLong, textOf, inFront, cleanedOf, plainEnd}
+use Rattle.text_records.proofs.Stream.{end-within}
+use Rattle.text_records.proofs.Received.{part-length, received-count, received-length, received-long, received-short, received-part}
+use Rattle.text_records.proofs.Cleaning.{kept-length, cleaned-high, cleaned-control, cleaned-within, cleaned-length, cleaned-front}
+use Rattle.text_records.proofs.Plain.{plain-kept, plain-high, plain-control}
 use Rattle.text_fields.specs.Words.{wordsOf, fieldsOf}
-use Rattle.text_fields.proofs.Words.{fields-cleaned}
 use Rattle.text_fields.proofs.Counts.{words-few}
 use Rattle.load.specs.declared.State.{State}
-use Rattle.load.specs.declared.Outcome.the-variants.{Stopped}
+use Rattle.load.specs.declared.Outcome.the-variants.{Stopped, Blank}
 use Rattle.load.specs.Condition.{overLongRecord}
+use Rattle.load.specs.Item.{blameNone}
 use Rattle.load.specs.Ask.{isOverLong, askOf}
-use Rattle.load.specs.Step.{Step, acted, stepOf, recordStep, ignoredIn, outcomeReports, conditionsOf}
+use Rattle.load.specs.Step.{Step, ended, acted, stepOf, recordStep, ignoredIn, outcomeReports, faultReports, conditionsOf}
 use Rattle.load.specs.Run.{stops}
+use Rattle.load.specs.Fits.{Small}
 use Rattle.load.proofs.Steps.{Modest, saidBy, step-said}
+use Rattle.load.proofs.Counts.{blank-step, blank-said}
+use Rattle.load_items.specs.Done.{faultsIn, mostFaults}
+use Rattle.load_items.proofs.Faults.{conditions}
+use Rattle.load_step.specs.declared.Held.{Held}
 use Rattle.load_step.specs.declared.Stepped.{Stepped}
-use Rattle.load_step.specs.Held.{heldOf, HeldReady, stepping, steppedOf}
+use Rattle.load_step.specs.Held.{heldOf, HeldReady, Room, ResAll, steppingAll, steppedOf, steppedAll}
 use Rattle.load_tell.specs.declared.Count.{Count}
 use Rattle.load_run.specs.declared.Progress.{Progress}
 use Rattle.load_tell.specs.Count.{tallied, told, toldOne, toldAll, ignoredBy, conditionsIn, mostRecords, Tellable, Countable}
-use Rattle.load_run.specs.Take.{taken, takenBy, cleanedTaken, recordTaken, Taking}
-use Rattle.load_tell.proofs.Telling.{told-single, said-room, conditions-held}
+use Rattle.load_run.specs.Take.{taken, takenBy, textTaken, recordTaken, blankTaken, Spans, Taking}
+use Rattle.load_tell.proofs.Telling.{told-single, said-room}
 
 -- ---- what the step ensures, part by part
-module _ (d : Desk) (x : Step) {s : Stepped} {t : List ℕ} (e : stepping s t ≡ steppedOf d x) where
-  pub stepped-outcome : s .outcome ≡ x .outcome
-  unfolding steppedOf
-  stepped-outcome = ap (λ r. r .stepped .outcome) e
+module _ (d : Desk) (x : Step) (fs : List ℕ) {s : Stepped} {t ws : List ℕ} (e : steppingAll s t ws ≡ steppedAll d x fs) where
+  stepped-outcome : s .outcome ≡ x .outcome
+  unfolding steppedAll steppedOf
+  stepped-outcome = ap (λ (r : ResAll). r .res .stepped .outcome) e
 
   stepped-held : s .held ≡ heldOf d (x .store) (x .state)
-  unfolding steppedOf
-  stepped-held = ap (λ r. r .stepped .held) e
+  unfolding steppedAll steppedOf
+  stepped-held = ap (λ (r : ResAll). r .res .stepped .held) e
 
   stepped-store : t ≡ x .store
-  unfolding steppedOf
-  stepped-store = ap (λ r. r .store) e
+  unfolding steppedAll steppedOf
+  stepped-store = ap (λ (r : ResAll). r .res .store) e
 
-  pub stepped-faults : conditionsIn (s .faults) ≡ x .faults
-  unfolding steppedOf
-  stepped-faults = ap (λ r. conditionsIn (r .stepped .faults)) e ∙ conditions-held (x .faults)
+  stepped-words : take (s .faults) ws ≡ take (length (x .faults)) (faultsIn fs (x .faults))
+  unfolding steppedAll steppedOf
+  stepped-words = ap (λ (r : ResAll). take (r .res .stepped .faults) (r .faults)) e
 
-  -- the conditions as the code has them
-  said-same : (ig : List ℕ) → ig ++ (outcomeReports (s .outcome) ++ conditionsIn (s .faults)) ≡ ig ++ saidBy x
-  said-same ig = λ i. ig ++ (outcomeReports (stepped-outcome i) ++ stepped-faults i)
+  stepped-count : s .faults ≡ length (x .faults)
+  unfolding steppedAll steppedOf
+  stepped-count = ap (λ (r : ResAll). r .res .stepped .faults) e
 
-  -- the step taken
-  pub step-taken : (n : Count) (l ig : List ℕ) {m : Count} {k : List ℕ} {b : Bool}
-      → told m k ≡ toldAll (told (tallied n (s .outcome)) l) (ig ++ (outcomeReports (s .outcome) ++ conditionsIn (s .faults)))
-      → b ≡ stops (s .outcome)
-      → taken (record { held = s .held; count = m; stopped = b }) t k ≡ takenBy d n l x (ig ++ saidBy x)
-  unfolding takenBy
-  step-taken n l ig {m} {k} {b} f g =
-      let q : told m k ≡ toldAll (told (tallied n (x .outcome)) l) (ig ++ saidBy x) =
-      f ∙ (λ i. toldAll (told (tallied n (stepped-outcome i)) l) (said-same ig i)) in
-      let c : b ≡ stops (x .outcome) = g ∙ ap stops stepped-outcome in
-      λ i. taken (record { held = stepped-held i; count = q i .count; stopped = c i }) (stepped-store i) (q i .list)
+  module _ (g : Small (faultReports (x .faults))) (few : s .faults ≤ mostFaults) (room : Room fs) where
+    stepped-faults : conditionsIn (take (s .faults) ws) ≡ faultReports (x .faults)
+    unfolding conditionsIn
+    stepped-faults =
+        let h : length (x .faults) ≤ length fs = omega (arith, stepped-count) in
+        ap conditionsIn stepped-words ∙ conditions fs (x .faults) h g
 
-  -- there is room for its conditions
-  pub step-room : (n : Count) (size : ℕ) (high control : Bool) → Countable n → n .reports + size ≤ mostRecords
-      → Modest size (saidBy x)
-      → Tellable (tallied n (s .outcome)) (ignoredBy high control ++ (outcomeReports (s .outcome) ++ conditionsIn (s .faults)))
-  step-room n size high control h g m =
-      subst (λ (cs : List ℕ). Tellable (tallied n (s .outcome)) cs) (sym (said-same (ignoredBy high control)))
-      (said-room n (s .outcome) size high control (saidBy x) h g m)
+    -- the conditions as the code has them
+    said-same : (ig : List ℕ) → ig ++ (outcomeReports (s .outcome) ++ conditionsIn (take (s .faults) ws)) ≡ ig ++ saidBy x
+    said-same ig = λ i. ig ++ (outcomeReports (stepped-outcome i) ++ stepped-faults i)
 
--- ---- the record as received
-module _ (xs : List ℕ) {q : Record} {b : Bool} (e : q ≡ recordOf xs) (f : b ≡ overLong q) where
-  pub is-long : {v : Bool} → b ≡ v → isOverLong xs ≡ v
-  is-long g = sym (received-long xs e) ∙ sym f ∙ g
+    -- the step taken
+    pub step-taken : (n : Count) (l ig : List ℕ) {h : Held} {c : Count} {k : List ℕ} {b : Bool}
+        → h ≡ s .held
+        → told c k ≡ toldAll (told (tallied n (s .outcome)) l) (ig ++ (outcomeReports (s .outcome) ++ conditionsIn (take (s .faults) ws)))
+        → b ≡ stops (s .outcome)
+        → taken (record { held = h; count = c; stopped = b }) t k ≡ takenBy d n l x (ig ++ saidBy x)
+    unfolding takenBy
+    step-taken n l ig {h} {c} {k} {b} y f a =
+        let q : told c k ≡ toldAll (told (tallied n (x .outcome)) l) (ig ++ saidBy x) =
+        f ∙ (λ i. toldAll (told (tallied n (stepped-outcome i)) l) (said-same ig i)) in
+        let z : b ≡ stops (x .outcome) = a ∙ ap stops stepped-outcome in
+        let v : h ≡ heldOf d (x .store) (x .state) = y ∙ stepped-held in
+        λ i. taken (record { held = v i; count = q i .count; stopped = z i }) (stepped-store i) (q i .list)
 
-  module _ (g : b ≡ false) where
-    pub short-length : length xs ≤ longest
-    short-length = received-short xs e (sym f ∙ g)
+    -- there is room for its conditions
+    pub step-room : (n : Count) (size : ℕ) (high control : Bool) → Countable n → n .reports + size ≤ mostRecords → Modest size (saidBy x)
+        → Tellable (tallied n (s .outcome)) (ignoredBy high control ++ (outcomeReports (s .outcome) ++ conditionsIn (take (s .faults) ws)))
+    step-room n size high control h k m =
+        subst (λ (cs : List ℕ). Tellable (tallied n (s .outcome)) cs) (sym (said-same (ignoredBy high control)))
+        (said-room n (s .outcome) size high control (saidBy x) h k m)
 
-    pub short-count : q .count ≤ 80
-    short-count =
-        let a : q .count ≡ length xs = received-count xs e in
-        let h : length xs ≤ longest = short-length in
-        omega arith
-
-    pub short-cleaned : {c : Cleaned} → c ≡ cleanedOf (textOf q) → c ≡ cleanedOf xs
-    short-cleaned k = cleaned-received xs e short-length k
-
-pub part-taking : (d : Desk) (p : Progress) (s t : List ℕ) (at end : ℕ) → at ≤ end → end ≤ length s → Taking d p (end - at) t
-    → Taking d p (length (take (end - at) (drop at s))) t
-part-taking d p s t at end h g k =
-    let w : at + (end - at) ≤ length s = omega arith in
-    subst (λ (n : ℕ). Taking d p n t) (sym (part-length s at (end - at) w)) k
-
--- ---- a record that is not over-long
-pub text-said : (d : Desk) (s : State) (text at t : List ℕ) (size : ℕ) → length text ≤ size
-    → Modest size (saidBy (stepOf d s (wordsOf text at) t))
-text-said d s text at t size h =
-    let m = step-said d s (wordsOf text at) t in
-    let f : length (saidBy (stepOf d s (wordsOf text at) t)) ≤ length (wordsOf text at) = m .few in
-    let w : length (wordsOf text at) ≤ length text = words-few text at in
+-- no more of them than characters of the text
+pub text-said : (d : Desk) (s : State) (text t : List ℕ) → Modest (length text) (saidBy (stepOf d s (wordsOf 0 text) t))
+text-said d s text t =
+    let m = step-said d s (wordsOf 0 text) t in
+    let f : length (saidBy (stepOf d s (wordsOf 0 text) t)) ≤ length (wordsOf 0 text) = m .few in
+    let w : length (wordsOf 0 text) ≤ length text = words-few 0 text in
     record { few = omega arith; small = m .small }
 
-pub cleaned-taken : (d : Desk) (p : Progress) (r t l : List ℕ) {c : Cleaned} → isOverLong r ≡ false → c ≡ cleanedOf r
-    → cleanedTaken d p c t l ≡ recordTaken d p r t l
-unfolding recordStep askOf conditionsOf ignoredIn
-cleaned-taken d p r t l {c} o e =
-    let w : wordsOf (take (c .count) (c .text)) (take (c .count) (c .columns)) ≡ fieldsOf r = fields-cleaned r e in
-    rw o (λ i.
-    let x = stepOf d (p .held .state) (w i) t in
-    takenBy d (p .count) l x (ignoredBy (cleaned-high r e i) (cleaned-control r e i) ++ saidBy x))
+-- ---- a record's text at the front of some bytes, and the sorts of ignored characters in it
+pub record Texted (xs bytes : List ℕ) (n : ℕ) (high control : Bool) : Type 0 where
+  pub within : n ≤ length bytes
+  pub text : take n bytes ≡ keptOf xs
+  pub highs : high ≡ has isHigh xs
+  pub controls : control ≡ has isControl xs
 
-pub cleaned-room : (d : Desk) (p : Progress) (r t : List ℕ) {c : Cleaned} → length r ≤ longest → c ≡ cleanedOf r → Taking d p (length r) t
-    → (c .count ≤ 80) × Taking d p (c .count) t
-cleaned-room d p r t {c} h e k =
-    let a : c .count ≡ length (keptOf r) = cleaned-count r e in
-    let b : length (keptOf r) ≤ length r = kept-length r in
-    let f : p .count .reports + length r ≤ mostRecords = k .room in
-    (cleaned-fits r e h, record { fitting = k .fitting; ready = k .ready; countable = k .countable; room = omega arith })
+-- where the two ways meet
+pub texted-as : {xs bytes ys : List ℕ} {n m : ℕ} {high control h c : Bool} → Texted xs bytes n high control
+    → ys ≡ bytes → m ≡ n → h ≡ high → c ≡ control → Texted xs ys m h c
+texted-as {xs} {bytes} {ys} {n} {m} {high} {control} {h} {c} w e f g k =
+    subst (λ (z : List ℕ). Texted xs z m h c) (sym e)
+    (subst (λ (z : ℕ). Texted xs bytes z h c) (sym f)
+    (subst (λ (z : Bool). Texted xs bytes n z c) (sym g) (subst (λ (z : Bool). Texted xs bytes n high z) (sym k) w)))
+
+-- ---- the record as received
+module _ (s : List ℕ) (at end : ℕ) {plain : Bool} (w : Spans s at end plain) where
+  pub spans-in : (at ≤ end) × (end ≤ length s)
+  spans-in =
+      let a : recordEnd s at ≤ length s = end-within s at (w .within) in
+      let b : end ≡ recordEnd s at = w .ends in
+      (omega arith, omega arith)
+
+  abbrev chars : List ℕ
+  chars = take (end - at) (drop at s)
+
+  chars-length : length chars ≡ end - at
+  chars-length = let i : (at ≤ end) × (end ≤ length s) = spans-in in part-length s at (end - at) (omega arith)
+
+  pub part-taking : {d : Desk} {p : Progress} {t : List ℕ} → Taking d p (end - at) t → Taking d p (length chars) t
+  part-taking {d} {p} {t} k = subst (λ (n : ℕ). Taking d p n t) (sym chars-length) k
+
+  module _ {q : Record} {b : Bool} (e : q ≡ windowOf (drop at s) (end - at)) (f : b ≡ overLong q) where
+    pub is-long : {v : Bool} → b ≡ v → isOverLong chars ≡ v
+    is-long g = ap (λ (n : ℕ). ltb longest n) chars-length ∙ sym (received-long (drop at s) (end - at) e) ∙ sym f ∙ g
+
+    module _ (g : b ≡ false) where
+      short-size : end - at ≤ longest
+      short-size = received-short (drop at s) (end - at) e (sym f ∙ g)
+
+      short-count : q .count ≤ longest
+      short-count =
+          let a : q .count ≡ end - at = received-count (drop at s) (end - at) e in
+          let h : end - at ≤ longest = short-size in
+          omega arith
+
+      pub short-within : q .count ≤ length (q .bytes)
+      short-within = subst (λ (n : ℕ). q .count ≤ n) (sym (received-length (drop at s) (end - at) e)) short-count
+
+      short-text : textOf q ≡ chars
+      short-text = received-part s at end e short-size (spans-in .1)
+
+      -- a plain record is its own text
+      pub plain-texted : not plain ≡ false → Texted chars (q .bytes) (q .count) false false
+      plain-texted g =
+          let h : plainEnd s at ≡ end = eqb-true (plainEnd s at) end (sym (w .told) ∙ not-false plain g) in
+          record {
+            within = short-within;
+            text = short-text ∙ sym (plain-kept s at refl h);
+            highs = sym (plain-high s at refl h);
+            controls = sym (plain-control s at refl h);
+          }
+
+      -- another is cleaned at the front of its bytes
+      pub cleaned-texted : {c : Cleaned} {front : List ℕ} → inFront c front ≡ cleanedOf (textOf q)
+          → Texted chars (front ++ drop (q .count) (q .bytes)) (c .count) (c .high) (c .control)
+      cleaned-texted {c} {front} k =
+          let z : inFront c front ≡ cleanedOf chars = k ∙ ap cleanedOf short-text in
+          let rest = drop (q .count) (q .bytes) in
+          let l : length (front ++ rest) ≡ length front + length rest = length-append front rest in
+          let m : length front ≡ length chars = cleaned-length chars z in
+          let n : c .count ≤ length chars = cleaned-within chars z in
+          record {
+            within = omega arith;
+            text = cleaned-front chars z rest;
+            highs = cleaned-high chars z;
+            controls = cleaned-control chars z;
+          }
+
+      pub short-chars : length chars ≤ longest
+      short-chars = omega (arith, chars-length, short-size)
+
+-- ---- a record that is not over-long
+module _ {xs bytes : List ℕ} {n : ℕ} {high control : Bool} (w : Texted xs bytes n high control) where
+  pub text-taken : (d : Desk) (p : Progress) (t l : List ℕ) → isOverLong xs ≡ false
+      → textTaken d p (take n bytes) high control t l ≡ recordTaken d p xs t l
+  unfolding recordStep askOf conditionsOf ignoredIn fieldsOf
+  text-taken d p t l o =
+      rw o (λ i.
+      let x = stepOf d (p .held .state) (wordsOf 0 (w .text i)) t in
+      takenBy d (p .count) l x (ignoredBy (w .highs i) (w .controls i) ++ saidBy x))
+
+  pub text-room : {d : Desk} {p : Progress} {t : List ℕ} → length xs ≤ longest → Taking d p (length xs) t
+      → (length (take n bytes) ≤ longest) × Taking d p (length (take n bytes)) t
+  text-room {d} {p} {t} h k =
+      let a : length (take n bytes) ≡ length (keptOf xs) = ap (λ (z : List ℕ). length z) (w .text) in
+      let b : length (keptOf xs) ≤ length xs = kept-length xs in
+      let f : p .count .reports + length xs ≤ mostRecords = k .room in
+      (omega arith, record { fitting = k .fitting; ready = k .ready; countable = k .countable; room = omega arith })
 
 -- ---- an over-long one
 pub long-taken : (d : Desk) (p : Progress) (r t l : List ℕ) {n : Count} {k : List ℕ} → isOverLong r ≡ true → HeldReady d t (p .held)
-    → told n k ≡ toldOne (told (tallied (p .count) (Stopped overLongRecord)) l) overLongRecord
+    → told n k ≡ toldOne (told (tallied (p .count) (Stopped (blameNone overLongRecord))) l) overLongRecord
     → taken (record { held = p .held; count = n; stopped = true }) t k ≡ recordTaken d p r t l
-unfolding recordStep askOf acted conditionsOf outcomeReports takenBy stops
+unfolding recordStep askOf acted conditionsOf outcomeReports faultReports takenBy stops
 long-taken d p r t l {n} {k} o h e =
-    let q : told n k ≡ toldAll (told (tallied (p .count) (Stopped overLongRecord)) l) (overLongRecord ∷ []) = e ∙ told-single _ overLongRecord in
+    let q : told n k ≡ toldAll (told (tallied (p .count) (Stopped (blameNone overLongRecord))) l) (overLongRecord ∷ []) =
+    e ∙ told-single _ overLongRecord in
     rw o (λ i. taken (record { held = h .same i; count = q i .count; stopped = true }) t (q i .list))
+
+-- ---- one with no character
+pub blank-taken : (d : Desk) (p : Progress) (r t l : List ℕ) {q : Progress} → r ≡ [] → HeldReady d t (p .held) → q ≡ blankTaken p
+    → taken q t l ≡ recordTaken d p r t l
+unfolding takenBy stops toldAll
+blank-taken d p r t l {q} e h f =
+    let s = p .held .state in
+    (λ i. taken (f i) t l)
+    ∙ (λ i. taken (record { held = h .same i; count = tallied (p .count) Blank; stopped = false }) t l)
+    ∙ (λ i. takenBy d (p .count) l (ended s Blank t) (sym (blank-said s t) i))
+    ∙ (λ i. takenBy d (p .count) l (sym (blank-step d s t) i) (conditionsOf [] (sym (blank-step d s t) i)))
+    ∙ (λ i. recordTaken d p (sym e i) t l)

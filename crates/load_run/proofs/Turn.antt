@@ -6,11 +6,14 @@ use mathlib.Core.Bool.{Bool, true, false}
 use mathlib.Core.List.{List, [], _∷_, _++_, append-nil, append-assoc}
 use Prim.Native.Nat.{ℕ, _+_, _-_, _≤_, _<_, zero-le}
 use native.Mathlib.Omega.{arith}
-use lib.ListN.{length, take, drop, length-append, length-map}
+use lib.Dec.{eqb}
+use lib.ListN.{length, getD, take, drop, length-append, length-map}
 use Rattle.store_desk.specs.declared.Desk.{Desk}
-use Rattle.text_records.specs.Stream.{recordsOf, recordEnd, nextStart}
+use Rattle.text_records.specs.Stream.{isEnd, recordsOf, recordEnd, nextStart}
+use Rattle.text_records.specs.Window.{plainEnd}
 use Rattle.text_records.proofs.Received.{part-length}
 use Rattle.text_records.proofs.Stream.{records-at, records-end, start-forward, start-within, end-within}
+use Rattle.text_records.proofs.Plain.{plain-within, end-is, end-here}
 use Rattle.store_code.specs.Fits.{Fitting}
 use Rattle.store_code.proofs.Laws.{fitting-kept}
 use Rattle.load.specs.declared.State.{State}
@@ -20,16 +23,17 @@ use Rattle.load.specs.Condition.{noEnddata}
 use Rattle.load.specs.Step.{Step, recordStep, conditionsOf}
 use Rattle.load.specs.Run.{Report, Run, stops, reportsAt, runFrom, loadOf, allReports, storedIn}
 use Rattle.load.specs.Fits.{Small}
-use Rattle.load.proofs.Counts.{record-said}
+use Rattle.load.proofs.Counts.{record-said, stored-none}
 use Rattle.load_step.specs.declared.Held.{Held}
 use Rattle.load_step.specs.Held.{heldOf, HeldReady}
 use Rattle.load_tell.specs.declared.Count.{Count}
 use Rattle.load_run.specs.declared.Progress.{Progress}
 use Rattle.load_tell.specs.Count.{countOf, totalsBy, tallied, Told, told, toldOne, toldAll, Tellable, Countable, mostRecords}
-use Rattle.load_run.specs.Take.{Took, taken, takenBy, recordTaken, Taking}
+use Rattle.load_run.specs.Take.{Took, taken, takenBy, recordTaken, blankTaken, Spans, Taking}
 use Rattle.load_run.specs.Loaded.{Loaded, runLoaded, loadedOf, begunOf}
-use Rattle.load_tell.proofs.Counting.{count-record, after, told-one, told-all, stored-none, totals-same, count-countable, count-tellable}
+use Rattle.load_tell.proofs.Counting.{count-record, after, told-one, told-all, totals-same, count-countable, count-tellable}
 use Rattle.load_run.proofs.Kept.{ready-begun, ready-record}
+use Rattle.load_run.proofs.Taking.{blank-taken}
 
 -- ---- a run after the outcomes and reports before it
 abbrev pub runAfter : List Outcome → List Report → Run → Run
@@ -268,6 +272,36 @@ module _ {d : Desk} {t₀ reps₀ stream : List ℕ} {p : Progress} {at : ℕ} {
         run-here refl
         ∙ run-stop d (length (w .outcomes)) (p .held .state) t chars (left refl) (w .outcomes) (w .reports) (sym left-stopped ∙ z) in
         told-loaded x reps₀ left-told left-store ∙ ap (λ (y : Run). loadedOf y reps₀) (sym s)
+
+-- ---- a record that has a character: its end is looked for behind its plain characters
+module _ {d : Desk} {t₀ reps₀ stream : List ℕ} {p : Progress} {at : ℕ} {t reps : List ℕ} (w : SoFar d t₀ reps₀ stream p at t reps)
+    {first : ℕ} (e : first ≡ plainEnd stream at) where
+  pub first-in : first ≤ length stream
+  first-in = let h : plainEnd stream at ≤ length stream = plain-within stream at (w .within) in omega arith
+
+  pub loop-spans : {end : ℕ} → end ≡ recordEnd stream first → Spans stream at end (eqb first end)
+  loop-spans {end} f = record { ends = end-is stream at e f; within = w .within; told = ap (λ (k : ℕ). eqb k end) e }
+
+-- ---- one that has none
+module _ {d : Desk} {t₀ reps₀ stream : List ℕ} {p : Progress} {at : ℕ} {t reps : List ℕ} (w : SoFar d t₀ reps₀ stream p at t reps)
+    (h : at < length stream) {b : Bool} (e : b ≡ isEnd (getD stream at 0)) (f : b ≡ true) where
+  ends-here : at ≡ recordEnd stream at
+  ends-here = sym (end-here stream at h (sym e ∙ f))
+
+  pub blank-room : Countable (p .count)
+  blank-room = loop-room w h ends-here .countable
+
+  module _ {q : Progress} (g : q ≡ blankTaken p) {next : ℕ} (k : next ≡ nextStart stream at) where
+    blank-took : taken q t reps ≡ recordTaken d p (take (at - at) (drop at stream)) t reps
+    blank-took =
+        let z : at - at ≡ 0 = omega arith in
+        blank-taken d p (take (at - at) (drop at stream)) t reps (ap (λ (n : ℕ). take n (drop at stream)) z) (w .ready) g
+
+    pub blank-less : length stream - next < length stream - at
+    blank-less = loop-less w h ends-here blank-took k
+
+    pub blank-turn : SoFar d t₀ reps₀ stream q next t reps
+    blank-turn = loop-turn w h ends-here blank-took k (ap (λ (x : Progress). x .stopped) g) refl refl
 
 -- ---- the end of the stream
 module _ {d : Desk} {t₀ reps₀ stream : List ℕ} {p : Progress} {at : ℕ} {t reps : List ℕ} (w : SoFar d t₀ reps₀ stream p at t reps) where

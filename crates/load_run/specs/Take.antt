@@ -1,13 +1,18 @@
 -- One record taken into the load: its step done, its outcome tallied, its conditions told (paper 01, "Reports, tallies, closing number").
 -- Assumes nothing.
+use mathlib.Core.Bool.{Bool, false}
+use mathlib.Core.Path.{_≡_}
 use mathlib.Core.List.{List, _++_}
 use Prim.Native.Nat.{ℕ, _+_, _≤_}
-use lib.ListN.{take}
+use lib.Dec.{eqb}
+use lib.ListN.{length}
 use Rattle.store_desk.specs.declared.Desk.{Desk}
-use Rattle.text_records.specs.declared.Cleaned.{Cleaned}
+use Rattle.text_records.specs.Stream.{recordEnd}
+use Rattle.text_records.specs.Window.{plainEnd}
 use Rattle.text_fields.specs.Words.{wordsOf}
 use Rattle.store_code.specs.Fits.{Fitting}
-use Rattle.load.specs.Step.{Step, stepOf, recordStep, outcomeReports, conditionsOf}
+use Rattle.load.specs.Step.{Step, stepOf, recordStep, outcomeReports, faultReports, conditionsOf}
+use Rattle.load.specs.declared.Outcome.the-variants.{Blank}
 use Rattle.load.specs.Run.{stops}
 use Rattle.load_step.specs.Held.{heldOf, HeldReady}
 use Rattle.load_tell.specs.declared.Count.{Count}
@@ -38,11 +43,21 @@ recordTaken d p r t reps =
     let x = recordStep d (p .held .state) r t in
     takenBy d (p .count) reps x (conditionsOf r x)
 
--- after a record that is not over-long, from its text
-abbrev pub cleanedTaken : Desk → Progress → Cleaned → List ℕ → List ℕ → Took
-cleanedTaken d p c t reps =
-    let x = stepOf d (p .held .state) (wordsOf (take (c .count) (c .text)) (take (c .count) (c .columns))) t in
-    takenBy d (p .count) reps x (ignoredBy (c .high) (c .control) ++ (outcomeReports (x .outcome) ++ x .faults))
+-- after a record that is not over-long, from its text and the sorts of ignored characters in it
+abbrev pub textTaken : Desk → Progress → List ℕ → Bool → Bool → List ℕ → List ℕ → Took
+textTaken d p text high control t reps =
+    let x = stepOf d (p .held .state) (wordsOf 0 text) t in
+    takenBy d (p .count) reps x (ignoredBy high control ++ (outcomeReports (x .outcome) ++ faultReports (x .faults)))
+
+-- after a record with no character
+abbrev pub blankTaken : Progress → Progress
+blankTaken p = record { held = p .held; count = tallied (p .count) Blank; stopped = false }
+
+-- a record of a stream, and whether it is plain
+pub record Spans (s : List ℕ) (at end : ℕ) (plain : Bool) : Type 0 where
+  pub ends : end ≡ recordEnd s at
+  pub within : at ≤ length s
+  pub told : plain ≡ eqb (plainEnd s at) end
 
 -- a load that can take one more record of so many characters
 pub record Taking (d : Desk) (p : Progress) (size : ℕ) (t : List ℕ) : Type 0 where

@@ -6,16 +6,17 @@ ghost use lib.ListN.{length, take, drop};
 ghost use Rattle.text_records.specs.Received.{longest};
 ghost use Rattle.store_code.specs.Fits.{Fitting};
 ghost use Rattle.load.specs.Run.{loadOf};
-ghost use Rattle.load_tell.specs.Count.{mostRecords};
-ghost use Rattle.load_run.specs.Take.{taken, cleanedTaken, recordTaken, Taking};
+ghost use Rattle.load_step.specs.Held.{Room};
+ghost use Rattle.load_tell.specs.Count.{mostRecords, Countable};
+ghost use Rattle.load_run.specs.Take.{taken, textTaken, recordTaken, blankTaken, Taking, Spans};
 ghost use Rattle.load_run.specs.Loaded.{runLoaded, loadedOf, begunOf};
 use load::Open;
+use load::Outcome;
 use load::State;
 use load::Totals;
 use load_step::Held;
 use load_tell::Count;
 use store_desk::Desk;
-use text_records::Cleaned;
 
 // How far a load is: what is open, what was counted, and whether the last record stopped it.
 pub struct Progress {
@@ -28,35 +29,48 @@ const NO_ENDDATA: u32 = 100;
 
 // ---- a record
 
-// A record that is not over-long.
-fn take_cleaned(
+// The same, field by field: a struct that is copied whole goes through memory.
+fn parted(held: Held) -> Held
+    ensures { λ r. ⌜ r ≡ held ⌝ }
+{
+    let state = held.state;
+    let key = state.key;
+    let open = state.open;
+    let key = store_desk::Key {
+        page: key.page,
+        whole: key.whole,
+        fraction: key.fraction,
+    };
+    let state = State { open, key };
+    Held {
+        state,
+        slot: held.slot,
+    }
+}
+
+// A record that is not over-long, from its text. What its faults leave in the lent list is no one's to read afterwards.
+fn take_text(
     desk: Desk,
     done: Progress,
-    cleaned: Cleaned,
+    text: &[u8],
+    high: bool,
+    control: bool,
     store: &mut [u8],
     reports: &mut [u32],
+    faults: &mut [u32],
 ) -> Progress
-    requires { ⌜ cleaned .count ≤ longest ⌝ }
-    requires { ⌜ Taking desk done (cleaned .count) (now store) ⌝ }
-    ensures { λ r. ⌜ taken r (now (store .exit)) (now (reports .exit)) ≡ cleanedTaken desk done cleaned (now (store .entry)) (now (reports .entry)) ⌝ }
+    requires { ⌜ length (now text) ≤ longest ⌝ }
+    requires { ⌜ Taking desk done (length (now text)) (now store) ⌝ }
+    requires { ⌜ Room (now faults) ⌝ }
+    ensures { λ r. ⌜ taken r (now (store .exit)) (now (reports .exit)) ≡ textTaken desk done (now (text .entry)) high control (now (store .entry)) (now (reports .entry)) ⌝ }
 {
-    let text = cleaned.text;
-    let columns = cleaned.columns;
-    let n = cleaned.count;
     let held = done.held;
-    let s = load_step::step(desk, held, &text[..n], &columns[..n], store);
+    let s = load_step::step(desk, held, text, store, &mut *faults);
     let count = done.count;
     let outcome = s.outcome;
-    let faults = s.faults;
-    let count = load_tell::tell(
-        reports,
-        count,
-        cleaned.high,
-        cleaned.control,
-        outcome,
-        faults,
-    );
-    let held = s.held;
+    let n = s.faults;
+    let count = load_tell::tell(reports, count, high, control, outcome, &faults[..n]);
+    let held = parted(s.held);
     Progress {
         held,
         count,
@@ -64,18 +78,21 @@ fn take_cleaned(
     }
 }
 
-// The record from `at` to `end`.
+// The record from `at` to `end`, of plain characters or of any. A plain one is its own text.
 fn take_record(
     desk: Desk,
     done: Progress,
     stream: &[u8],
     at: usize,
     end: usize,
+    plain: bool,
     store: &mut [u8],
     reports: &mut [u32],
+    faults: &mut [u32],
 ) -> Progress
-    requires { ⌜ (at ≤ end) × (end ≤ length (now stream)) ⌝ }
+    requires { ⌜ Spans (now stream) at end plain ⌝ }
     requires { ⌜ Taking desk done (end - at) (now store) ⌝ }
+    requires { ⌜ Room (now faults) ⌝ }
     ensures { λ r. ⌜ taken r (now (store .exit)) (now (reports .exit)) ≡ recordTaken desk done (take (end - at) (drop at (now (stream .entry)))) (now (store .entry)) (now (reports .entry)) ⌝ }
 {
     let r = text_records::receive(stream, at, end);
@@ -88,7 +105,40 @@ fn take_record(
             stopped: true,
         };
     }
-    take_cleaned(desk, done, text_records::clean(r), store, reports)
+    let mut bytes = r.bytes;
+    let mut n = r.count;
+    let mut high = false;
+    let mut control = false;
+    if !plain {
+        let c = text_records::clean(&mut bytes[..n]);
+        n = c.count;
+        high = c.high;
+        control = c.control;
+    }
+    take_text(
+        desk,
+        done,
+        &bytes[..n],
+        high,
+        control,
+        store,
+        reports,
+        faults,
+    )
+}
+
+// A record with no character is blank, and nothing is said of it.
+fn take_blank(done: Progress) -> Progress
+    requires { ⌜ Countable (done .count) ⌝ }
+    ensures { λ r. ⌜ r ≡ blankTaken done ⌝ }
+{
+    let held = done.held;
+    let count = done.count;
+    Progress {
+        held,
+        count: load_tell::tally(count, Outcome::Blank),
+        stopped: false,
+    }
 }
 
 // ---- the load
@@ -121,13 +171,30 @@ pub fn run(desk: Desk, store: &mut [u8], stream: &[u8], reports: &mut [u32]) -> 
     requires { ⌜ length (now stream) ≤ mostRecords ⌝ }
     ensures { λ r. ⌜ runLoaded r (now (store .exit)) (now (reports .exit)) ≡ loadedOf (loadOf desk (now (store .entry)) (now (stream .entry))) (now (reports .entry)) ⌝ }
 {
+    let mut faults = [0u32; 40];
     let mut done = begun();
     let mut at = 0;
     while at < stream.len() {
-        let end = text_records::record_end(stream, at);
-        done = take_record(desk, done, stream, at, end, store, reports);
-        let count = done.count;
+        if text_records::is_end(stream[at]) {
+            done = take_blank(done);
+            at = text_records::next_start(stream, at);
+            continue;
+        }
+        let first = text_records::plain_end(stream, at);
+        let end = text_records::record_end(stream, first);
+        done = take_record(
+            desk,
+            done,
+            stream,
+            at,
+            end,
+            first == end,
+            store,
+            reports,
+            &mut faults,
+        );
         if done.stopped {
+            let count = done.count;
             return load_tell::totals(count);
         }
         at = text_records::next_start(stream, end);

@@ -7,9 +7,9 @@ use mathlib.Core.List.{List, [], _∷_, _++_, map, map-append, append-nil, appen
 use Prim.Native.Nat.{ℕ, suc, _+_, _≤_, _<_, min}
 use native.Mathlib.Omega.{arith}
 use lib.ListN.{length, set, take, length-append, length-map, length-take}
-use lib.Seq.{take-all, take-nil, take-append-le, set-out}
+use lib.Seq.{take-all, take-append-le, set-out}
 use Rattle.cells.specs.Put.{put}
-use Rattle.cells.proofs.Put.{length-put, put-nil, put-push}
+use Rattle.cells.proofs.Put.{length-put, put-push}
 use Rattle.cells.proofs.Split.{by-lt}
 use Rattle.load.specs.declared.Outcome.{Outcome}
 use Rattle.load.specs.Condition.{isError}
@@ -108,10 +108,6 @@ module _ (reps : List ℕ) (rs : List Report) (r : Report) where
 
   stored-more : set (storedIn reps rs) (length rs) (reportWord r) ≡ storedIn reps (rs ++ (r ∷ []))
   stored-more = by-lt (length rs) (length reps) stored-room stored-full
-
-pub stored-none : (reps : List ℕ) → storedIn reps [] ≡ reps
-unfolding storedIn
-stored-none reps = ap (λ (z : List ℕ). put reps 0 z) (take-nil (length reps)) ∙ put-nil reps 0
 
 -- ---- the counters and the list together
 module _ (os : List Outcome) (reps : List ℕ) where

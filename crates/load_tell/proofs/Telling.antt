@@ -3,21 +3,21 @@
 -- Assumes nothing.
 use mathlib.Core.Path.{_≡_, refl, sym, ap, _∙_, subst}
 use mathlib.Core.Bool.{Bool, true, false}
-use mathlib.Core.List.{List, [], _∷_, _++_, append-assoc}
-use Prim.Native.Nat.{ℕ, suc, _+_, _*_, _≤_, _<_}
+use mathlib.Core.List.{List, [], _∷_, _++_}
+use Prim.Native.Nat.{ℕ, suc, _+_, _*_, _%_, _≤_, _<_}
 use native.Mathlib.Numerals.{add-one}
 use native.Mathlib.Omega.{arith}
-use lib.ListN.{length, getD, set, take, drop, length-append, take-append-drop}
-use lib.Seq.{take-take, take-suc, drop-cons, getD-take, length-take-le}
-use Rattle.cells.proofs.Pad.{take-padded}
+use lib.ListN.{length, getD, set, take, drop, length-append, length-map, List·getD-map}
+use lib.Seq.{take-all, take-suc, split-at}
 use Rattle.load.specs.declared.Outcome.{Outcome}
+use Rattle.load.specs.declared.Outcome.the-variants.{Stopped}
+use Rattle.load.specs.declared.Fault.{Fault}
 use Rattle.load.specs.Condition.{overLongRecord}
 use Rattle.load.specs.Run.{reportWord, conditionSpan}
 use Rattle.load.specs.Step.{oneIf}
 use Rattle.load.specs.Fits.{Small}
-use Rattle.load.proofs.Steps.{Modest}
+use Rattle.load.proofs.Steps.{Modest, small-behind}
 use Rattle.load.proofs.Counts.{small-join, ignored-small}
-use Rattle.load_items.specs.Done.{faultsHeld}
 use Rattle.load_tell.specs.declared.Count.{Count}
 use Rattle.load_tell.specs.Count.{counted, tallied, Told, told, toldOne, toldAll, ignoredBy, conditionsIn}
 use Rattle.load_tell.specs.Count.{mostRecords, mostReports, Tellable, Countable}
@@ -50,6 +50,10 @@ told-from l c e f = e ∙ ap (λ (k : Count). toldOne (told k l) c) f
 pub all-from : (l cs : List ℕ) {n m : Count} {x : Told} → x ≡ toldAll (told n l) cs → n ≡ m → x ≡ toldAll (told m l) cs
 all-from l cs e f = e ∙ ap (λ (k : Count). toldAll (told k l) cs) f
 
+-- a record that is stopped, by the fault that stops it
+pub stopped-by : (n : Count) {f g : Fault} {r : Count} → r ≡ tallied n (Stopped f) → f ≡ g → r ≡ tallied n (Stopped g)
+stopped-by n e h = e ∙ ap (λ (f : Fault). tallied n (Stopped f)) h
+
 -- ---- what telling leaves of the counters
 told-records : (x : Told) (cs : List ℕ) → toldAll x cs .count .records ≡ x .count .records
 unfolding toldAll toldOne counted
@@ -68,18 +72,13 @@ unfolding Small
 small-front [] bs h = tt
 small-front (c ∷ cs) bs h = (h .0, small-front cs bs (h .1))
 
-small-rest : (cs bs : List ℕ) → Small (cs ++ bs) → Small bs
-unfolding Small
-small-rest [] bs h = h
-small-rest (c ∷ cs) bs h = small-rest cs bs (h .1)
-
-pub front : (n : Count) (cs bs : List ℕ) → Tellable n (cs ++ bs) → Tellable n cs
+front : (n : Count) (cs bs : List ℕ) → Tellable n (cs ++ bs) → Tellable n cs
 front n cs bs h =
     let l : length (cs ++ bs) ≡ length cs + length bs = length-append cs bs in
     let r : n .reports + length (cs ++ bs) ≤ mostReports = h .room in
     record { numbered = h .numbered; room = omega arith; small = small-front cs bs (h .small) }
 
-pub rest : (n : Count) (k : List ℕ) (cs bs : List ℕ) {r : Count} {l : List ℕ} → told r l ≡ toldAll (told n k) cs
+rest : (n : Count) (k : List ℕ) (cs bs : List ℕ) {r : Count} {l : List ℕ} → told r l ≡ toldAll (told n k) cs
     → Tellable n (cs ++ bs) → Tellable r bs
 rest n k cs bs {r} {l} e h =
     let a : length (cs ++ bs) ≡ length cs + length bs = length-append cs bs in
@@ -87,7 +86,7 @@ rest n k cs bs {r} {l} e h =
     let p : r .reports ≡ n .reports + length cs = ap (λ (x : Told). x .count .reports) e ∙ told-reports (told n k) cs in
     let q : r .records ≡ n .records = ap (λ (x : Told). x .count .records) e ∙ told-records (told n k) cs in
     let m : n .records ≤ mostRecords = h .numbered in
-    record { numbered = omega arith; room = omega arith; small = small-rest cs bs (h .small) }
+    record { numbered = omega arith; room = omega arith; small = small-behind cs bs (h .small) }
 
 pub tellable-if : (n : Count) (c : ℕ) {so : Bool} → so ≡ true → Tellable n (oneIf so c) → Tellable n (c ∷ [])
 tellable-if n c e h = subst (λ (b : Bool). Tellable n (oneIf b c)) e h
@@ -141,56 +140,88 @@ said-room n o size high control said h g m =
 pub told-then : (x : Told) (cs bs : List ℕ) {y z : Told} → y ≡ toldAll x cs → z ≡ toldAll y bs → z ≡ toldAll x (cs ++ bs)
 told-then x cs bs e f = f ∙ ap (λ (w : Told). toldAll w bs) e ∙ sym (told-join x cs bs)
 
--- ---- the conditions of an array: those that it holds, one by one
-pub conditions-held : (cs : List ℕ) → conditionsIn (faultsHeld cs) ≡ cs
-unfolding faultsHeld
-conditions-held cs = take-padded 40 cs
+-- ---- the conditions of faults as words, one by one
+conditions-length : (ws : List ℕ) → length (conditionsIn ws) ≡ length ws
+unfolding conditionsIn
+conditions-length ws = length-map ws _
 
-split-at : (cs : List ℕ) (i k : ℕ) → i < k → k ≤ length cs → take k cs ≡ take i cs ++ (getD cs i 0 ∷ drop (suc i) (take k cs))
-split-at cs i k h g =
-    let l : i ≤ k = omega arith in
-    let m : length (take k cs) ≡ k = length-take-le k cs g in
-    let n : i < length (take k cs) = omega arith in
-    sym (take-append-drop i (take k cs))
-    ∙ ap (λ (z : List ℕ). z ++ drop i (take k cs)) (take-take i k cs l)
-    ∙ ap (λ (z : List ℕ). take i cs ++ z) (drop-cons (take k cs) i 0 n)
-    ∙ ap (λ (v : ℕ). take i cs ++ (v ∷ drop (suc i) (take k cs))) (getD-take k cs i 0 h)
+condition-at : (ws : List ℕ) (i : ℕ) → getD (conditionsIn ws) i 0 ≡ getD ws i 0 % conditionSpan
+unfolding conditionsIn
+condition-at ws i = List·getD-map (λ (w : ℕ). w % conditionSpan) ws i 0
 
-pub turn-room : (n : Count) (k : List ℕ) (cs : List ℕ) (i m : ℕ) {r : Count} {l : List ℕ} → i < m → m ≤ length cs
-    → told r l ≡ toldAll (told n k) (take i cs) → Tellable n (take m cs) → Tellable r (getD cs i 0 ∷ [])
-turn-room n k cs i m {r} {l} h g e t =
-    let v = getD cs i 0 in
-    let z = drop (suc i) (take m cs) in
-    front r (v ∷ []) z (rest n k (take i cs) (v ∷ z) e (subst (λ (w : List ℕ). Tellable n w) (split-at cs i m h g) t))
+module _ (ws : List ℕ) (i : ℕ) where
+  abbrev cs : List ℕ
+  cs = conditionsIn ws
 
-pub turn-told : (x : Told) (cs : List ℕ) (i : ℕ) {y z : Told} → i < length cs → y ≡ toldAll x (take i cs) → z ≡ toldOne y (getD cs i 0)
-    → z ≡ toldAll x (take (i + 1) cs)
-turn-told x cs i h e f =
-    told-then x (take i cs) (getD cs i 0 ∷ []) e (f ∙ told-single _ (getD cs i 0))
-    ∙ ap (λ (w : List ℕ). toldAll x w) (sym (take-suc cs i 0 h) ∙ ap (λ (k : ℕ). take k cs) (sym (add-one i)))
+  pub turn-room : (n : Count) (k : List ℕ) {r : Count} {l : List ℕ} → i < length ws → told r l ≡ toldAll (told n k) (take i cs)
+      → Tellable n cs → Tellable r (getD ws i 0 % conditionSpan ∷ [])
+  turn-room n k {r} {l} h e t =
+      let v = getD cs i 0 in
+      let z = drop (suc i) cs in
+      let g : i < length cs = omega (arith, conditions-length ws) in
+      subst (λ (c : ℕ). Tellable r (c ∷ [])) (condition-at ws i)
+      (front r (v ∷ []) z (rest n k (take i cs) (v ∷ z) e (subst (λ (w : List ℕ). Tellable n w) (split-at cs i 0 g) t)))
 
-pub turn-end : (x : Told) (cs : List ℕ) {i m : ℕ} {y : Told} → i ≤ m → m ≤ i → y ≡ toldAll x (take i cs) → y ≡ toldAll x (take m cs)
-turn-end x cs {i} {m} h g e = let k : i ≡ m = omega arith in e ∙ ap (λ (j : ℕ). toldAll x (take j cs)) k
+  pub turn-told : (x : Told) {y z : Told} → i < length ws → y ≡ toldAll x (take i cs) → z ≡ toldOne y (getD ws i 0 % conditionSpan)
+      → z ≡ toldAll x (take (i + 1) cs)
+  turn-told x {y} h e f =
+      let g : i < length cs = omega (arith, conditions-length ws) in
+      told-then x (take i cs) (getD cs i 0 ∷ []) e (f ∙ ap (λ (c : ℕ). toldOne y c) (sym (condition-at ws i)) ∙ told-single _ (getD cs i 0))
+      ∙ ap (λ (w : List ℕ). toldAll x w) (sym (take-suc cs i 0 g) ∙ ap (λ (k : ℕ). take k cs) (sym (add-one i)))
+
+  pub turn-end : (x : Told) {y : Told} → length ws ≤ i → y ≡ toldAll x (take i cs) → y ≡ toldAll x cs
+  turn-end x h e =
+      let g : length cs ≤ i = omega (arith, conditions-length ws) in
+      e ∙ ap (λ (w : List ℕ). toldAll x w) (take-all i cs g)
 
 -- ---- the four groups of a record's conditions
-module _ {n : Count} (hs bs cs ds : List ℕ) (h : Tellable n ((hs ++ bs) ++ (cs ++ ds))) where
-  pub room-a : Tellable n hs
-  room-a = front n hs bs (front n (hs ++ bs) (cs ++ ds) h)
+module _ (hs bs cs ds : List ℕ) where
+  pub groups-length : length ((hs ++ bs) ++ (cs ++ ds)) ≡ length hs + length bs + length cs + length ds
+  groups-length =
+      let a : length ((hs ++ bs) ++ (cs ++ ds)) ≡ length (hs ++ bs) + length (cs ++ ds) = length-append (hs ++ bs) (cs ++ ds) in
+      let b : length (hs ++ bs) ≡ length hs + length bs = length-append hs bs in
+      let c : length (cs ++ ds) ≡ length cs + length ds = length-append cs ds in
+      omega arith
 
-  module _ (l : List ℕ) {l₁ : List ℕ} {n₁ : Count} (e : told n₁ l₁ ≡ toldAll (told n l) hs) where
-    pub room-b : Tellable n₁ bs
-    room-b = front n₁ bs (cs ++ ds) (rest n l hs (bs ++ (cs ++ ds)) e (subst (λ (z : List ℕ). Tellable n z) (append-assoc hs bs (cs ++ ds)) h))
+  pub groups-small : Small ((hs ++ bs) ++ (cs ++ ds)) → Small hs × Small bs × Small cs × Small ds
+  groups-small h =
+      let a = small-front (hs ++ bs) (cs ++ ds) h in
+      let b = small-behind (hs ++ bs) (cs ++ ds) h in
+      (small-front hs bs a, small-behind hs bs a, small-front cs ds b, small-behind cs ds b)
 
-    module _ {l₂ : List ℕ} {n₂ : Count} (f : told n₂ l₂ ≡ toldAll (told n₁ l₁) bs) where
-      told-ab : told n₂ l₂ ≡ toldAll (told n l) (hs ++ bs)
-      told-ab = told-then (told n l) hs bs e f
+-- room for conditions where there is room for more, and for others behind those that were told
+module _ {n : Count} {zs : List ℕ} (h : Tellable n zs) where
+  pub room-a : {us : List ℕ} → length us ≤ length zs → Small us → Tellable n us
+  room-a {us} k s =
+      let r : n .reports + length zs ≤ mostReports = h .room in
+      record { numbered = h .numbered; room = omega arith; small = s }
 
-      pub room-c : Tellable n₂ cs
-      room-c = front n₂ cs ds (rest n l (hs ++ bs) (cs ++ ds) told-ab h)
+  module _ (l xs : List ℕ) {l₁ : List ℕ} {n₁ : Count} (e : told n₁ l₁ ≡ toldAll (told n l) xs) where
+    pub room-b : {us : List ℕ} → length xs + length us ≤ length zs → Small us → Tellable n₁ us
+    room-b {us} k s =
+        let r : n .reports + length zs ≤ mostReports = h .room in
+        let m : n .records ≤ mostRecords = h .numbered in
+        let p : n₁ .reports ≡ n .reports + length xs = ap (λ (x : Told). x .count .reports) e ∙ told-reports (told n l) xs in
+        let q : n₁ .records ≡ n .records = ap (λ (x : Told). x .count .records) e ∙ told-records (told n l) xs in
+        record { numbered = omega arith; room = omega arith; small = s }
 
-      module _ {l₃ : List ℕ} {n₃ : Count} (g : told n₃ l₃ ≡ toldAll (told n₂ l₂) cs) where
-        pub room-d : Tellable n₃ ds
-        room-d = rest n₂ l₂ cs ds g (rest n l (hs ++ bs) (cs ++ ds) told-ab h)
+module _ {n : Count} {zs : List ℕ} (h : Tellable n zs) (l xs ys : List ℕ) {l₁ : List ℕ} {n₁ : Count} (e : told n₁ l₁ ≡ toldAll (told n l) xs)
+    {l₂ : List ℕ} {n₂ : Count} (f : told n₂ l₂ ≡ toldAll (told n₁ l₁) ys) where
+  pub room-c : {us : List ℕ} → length xs + length ys + length us ≤ length zs → Small us → Tellable n₂ us
+  room-c {us} k s =
+      let a : length (xs ++ ys) ≡ length xs + length ys = length-append xs ys in
+      room-b h l (xs ++ ys) (told-then (told n l) xs ys e f) (omega arith) s
 
-        pub told-groups : {x : Told} → x ≡ toldAll (told n₃ l₃) ds → x ≡ toldAll (told n l) ((hs ++ bs) ++ (cs ++ ds))
-        told-groups k = told-then (told n l) (hs ++ bs) (cs ++ ds) told-ab (told-then (told n₂ l₂) cs ds g k)
+  pub room-d : (vs : List ℕ) {l₃ : List ℕ} {n₃ : Count} → told n₃ l₃ ≡ toldAll (told n₂ l₂) vs
+      → {us : List ℕ} → length xs + length ys + length vs + length us ≤ length zs → Small us → Tellable n₃ us
+  room-d vs g {us} k s =
+      let a : length (xs ++ ys) ≡ length xs + length ys = length-append xs ys in
+      let b : length ((xs ++ ys) ++ vs) ≡ length (xs ++ ys) + length vs = length-append (xs ++ ys) vs in
+      room-b h l ((xs ++ ys) ++ vs) (told-then (told n l) (xs ++ ys) vs (told-then (told n l) xs ys e f) g) (omega arith) s
+
+-- what they come to
+pub told-groups : (n : Count) (hs bs cs ds l : List ℕ) {n₁ n₂ n₃ : Count} {l₁ l₂ l₃ : List ℕ} {x : Told} → told n₁ l₁ ≡ toldAll (told n l) hs
+    → told n₂ l₂ ≡ toldAll (told n₁ l₁) bs → told n₃ l₃ ≡ toldAll (told n₂ l₂) cs → x ≡ toldAll (told n₃ l₃) ds
+    → x ≡ toldAll (told n l) ((hs ++ bs) ++ (cs ++ ds))
+told-groups n hs bs cs ds l {n₁} {n₂} {n₃} {l₁} {l₂} {l₃} e f g k =
+    told-then (told n l) (hs ++ bs) (cs ++ ds) (told-then (told n l) hs bs e f) (told-then (told n₂ l₂) cs ds g k)

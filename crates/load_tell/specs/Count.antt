@@ -2,16 +2,15 @@
 -- those so far (paper 01, "Reports, tallies, closing number").
 -- Assumes nothing.
 use mathlib.Core.Bool.{Bool, cond, not}
-use mathlib.Core.List.{List, [], _∷_, _++_}
-use Prim.Native.Nat.{ℕ, _+_, _≤_, _<_}
+use mathlib.Core.List.{List, [], _∷_, _++_, map}
+use Prim.Native.Nat.{ℕ, _+_, _%_, _≤_, _<_}
 use lib.Dec.{eqb}
-use lib.ListN.{length, set, take}
+use lib.ListN.{length, set}
 use Rattle.load.specs.declared.Outcome.{Outcome}
 use Rattle.load.specs.declared.Totals.{Totals}
-use Rattle.load_items.specs.declared.Faults.{Faults}
 use Rattle.load.specs.Condition.{isError, ignoredHigh, ignoredControl}
 use Rattle.load.specs.Step.{oneIf, outcomeReports}
-use Rattle.load.specs.Run.{Report, Class, blank, passed, dropped, obeyed, classOf, eqClass, tallyOf, lastOf, reportWord}
+use Rattle.load.specs.Run.{Report, Class, blank, passed, dropped, obeyed, classOf, eqClass, tallyOf, lastOf, conditionSpan, reportWord}
 use Rattle.load.specs.Fits.{Small}
 use Rattle.load_tell.specs.declared.Count.{Count}
 
@@ -98,13 +97,13 @@ toldAll x (c ∷ cs) = toldAll (toldOne x c) cs
 abbrev pub ignoredBy : Bool → Bool → List ℕ
 ignoredBy high control = oneIf high ignoredHigh ++ oneIf control ignoredControl
 
--- the conditions held by value
-abbrev pub conditionsIn : Faults → List ℕ
-conditionsIn f = take (f .count) (f .conditions)
+-- the conditions of faults as words: below the place
+unfoldable pub conditionsIn : List ℕ → List ℕ
+conditionsIn ws = map (λ (w : ℕ). w % conditionSpan) ws
 
 -- the conditions of a record, in the order in which they are reported
-abbrev pub saidOf : Bool → Bool → Outcome → Faults → List ℕ
-saidOf high control o f = ignoredBy high control ++ (outcomeReports o ++ conditionsIn f)
+abbrev pub saidOf : Bool → Bool → Outcome → List ℕ → List ℕ
+saidOf high control o ws = ignoredBy high control ++ (outcomeReports o ++ conditionsIn ws)
 
 -- ---- what fits 32 bits: a record number has 18 bits and a condition 14
 abbrev pub mostRecords : ℕ

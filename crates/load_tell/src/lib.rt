@@ -5,15 +5,14 @@ ghost use mathlib.Core.List.{[], _∷_};
 ghost use Prim.Native.Nat.{_≤_, _<_};
 ghost use lib.ListN.{set};
 ghost use Rattle.load.specs.Condition.{isError, overLongRecord};
+ghost use Rattle.load.specs.Item.{blameNone};
 ghost use Rattle.load.specs.Step.{oneIf, outcomeReports};
 ghost use Rattle.load.specs.Run.{stops as stopsAt};
-ghost use Rattle.load_items.specs.Done.{mostFaults};
 ghost use Rattle.load_tell.specs.Count.{countOf, closingBy, totalsBy, tallied, counted as countedOf, told, toldOne, toldAll};
 ghost use Rattle.load_tell.specs.Count.{conditionsIn, saidOf, mostRecords, mostReports, Tellable, Countable};
 use cells::place;
 use load::Outcome;
 use load::Totals;
-use load_items::Faults;
 
 // What was read so far: the records and reports, the records of each class, and the last error and warning.
 pub struct Count {
@@ -117,23 +116,21 @@ fn report_outcome(reports: &mut [u32], count: Count, outcome: Outcome) -> Count
     match outcome {
         Outcome::Blank => count,
         Outcome::Passed => count,
-        Outcome::Dropped(c) => report(reports, count, c),
+        Outcome::Dropped(f) => report(reports, count, f.condition),
         Outcome::Obeyed => count,
-        Outcome::Stopped(c) => report_if(reports, count, 0 < c, c),
+        Outcome::Stopped(f) => report_if(reports, count, 0 < f.condition, f.condition),
     }
 }
 
 // The conditions of the items that a record dropped.
-fn report_faults(reports: &mut [u32], count: Count, faults: Faults) -> Count
-    requires { ⌜ faults .count ≤ mostFaults ⌝ }
-    requires { ⌜ Tellable count (conditionsIn faults) ⌝ }
-    ensures { λ r. ⌜ told r (now (reports .exit)) ≡ toldAll (told count (now (reports .entry))) (conditionsIn faults) ⌝ }
+fn report_faults(reports: &mut [u32], count: Count, faults: &[u32]) -> Count
+    requires { ⌜ Tellable count (conditionsIn (now faults)) ⌝ }
+    ensures { λ r. ⌜ told r (now (reports .exit)) ≡ toldAll (told count (now (reports .entry))) (conditionsIn (now (faults .entry))) ⌝ }
 {
-    let conditions = faults.conditions;
     let mut n = count;
     let mut i = 0;
-    while i < faults.count {
-        n = report(reports, n, conditions[i]);
+    while i < faults.len() {
+        n = report(reports, n, faults[i] % CONDITION_SPAN);
         i += 1;
     }
     n
@@ -142,7 +139,7 @@ fn report_faults(reports: &mut [u32], count: Count, faults: Faults) -> Count
 // ---- tallies
 
 // One more record, in one tally: ENDDATA is obeyed, and what 0091 or 0099 stopped is dropped.
-fn tally(count: Count, outcome: Outcome) -> Count
+pub fn tally(count: Count, outcome: Outcome) -> Count
     requires { ⌜ Countable count ⌝ }
     ensures { λ r. ⌜ r ≡ tallied count outcome ⌝ }
 {
@@ -165,8 +162,8 @@ fn tally(count: Count, outcome: Outcome) -> Count
             n.obeyed = count.obeyed + 1;
             n
         }
-        Outcome::Stopped(c) => {
-            if c == 0 {
+        Outcome::Stopped(f) => {
+            if f.condition == 0 {
                 n.obeyed = count.obeyed + 1;
                 return n;
             }
@@ -221,12 +218,11 @@ pub fn tell(
     high: bool,
     control: bool,
     outcome: Outcome,
-    faults: Faults,
+    faults: &[u32],
 ) -> Count
-    requires { ⌜ faults .count ≤ mostFaults ⌝ }
     requires { ⌜ Countable count ⌝ }
-    requires { ⌜ Tellable (tallied count outcome) (saidOf high control outcome faults) ⌝ }
-    ensures { λ r. ⌜ told r (now (reports .exit)) ≡ toldAll (told (tallied count outcome) (now (reports .entry))) (saidOf high control outcome faults) ⌝ }
+    requires { ⌜ Tellable (tallied count outcome) (saidOf high control outcome (now faults)) ⌝ }
+    ensures { λ r. ⌜ told r (now (reports .exit)) ≡ toldAll (told (tallied count outcome) (now (reports .entry))) (saidOf high control outcome (now (faults .entry))) ⌝ }
 {
     let a = tally(count, outcome);
     let b = report_if(reports, a, high, IGNORED_HIGH);
@@ -239,8 +235,8 @@ pub fn tell(
 pub fn tell_long(reports: &mut [u32], count: Count) -> Count
     requires { ⌜ Countable count ⌝ }
     requires { ⌜ count .reports ≤ mostRecords ⌝ }
-    ensures { λ r. ⌜ told r (now (reports .exit)) ≡ toldOne (told (tallied count (Outcome.Stopped overLongRecord)) (now (reports .entry))) overLongRecord ⌝ }
+    ensures { λ r. ⌜ told r (now (reports .exit)) ≡ toldOne (told (tallied count (Outcome.Stopped (blameNone overLongRecord))) (now (reports .entry))) overLongRecord ⌝ }
 {
-    let n = tally(count, Outcome::Stopped(OVER_LONG_RECORD));
+    let n = tally(count, Outcome::Stopped(load::blameless(OVER_LONG_RECORD)));
     report(reports, n, OVER_LONG_RECORD)
 }

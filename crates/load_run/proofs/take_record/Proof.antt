@@ -1,13 +1,31 @@
--- `take_record` meets its contract: an over-long record by its length, any other by its cleaned text.
+-- `take_record` meets its contract: an over-long record by its length, any other by its text, which is itself where all is plain.
 -- Assumes nothing.
-use Rattle.load_run.proofs.Taking.{is-long, short-length, short-count, short-cleaned, part-taking, cleaned-taken, cleaned-room, long-taken}
-use mathlib.Core.Path.{_∙_}
+use Rattle.load_run.proofs.Taking.{Texted, texted-as, spans-in, part-taking, is-long, short-within, short-chars, plain-texted, cleaned-texted}
+use Rattle.load_run.proofs.Taking.{text-taken, text-room, long-taken}
+use lib.ListN.{take, drop}
+use lib.Seq.{length-take-le}
+use Prim.Native.Nat.{_-_}
+use mathlib.Core.Logic.{⊎-elim}
+use mathlib.Core.Path.{sym, _∙_}
 use borrow.Author.Needs.{needs}
 use Rattle.load_run.proofs.take_record.Statement.{statement}
 use Rattle.load_run.proofs.take_record.Tie as tie
 
+-- where a plain record and another meet
+texted : (c : tie.Joined2)
+    → let s = c .before .before .before .before .before .before .before .before .before in Texted (take (s .args .end - s .args .at) (drop (s .args .at) (s .args .stream .now))) (c .if2 .bytes) (c .if2 .n) (c .if2 .high) (c .if2 .control)
+texted c =
+    let r = c .before .before .before .before .receive .ensures in
+    let o = c .before .before .before .over-long .ensures in
+    let l = c .before .before .if1 .left in
+    let s = c .before .before .before .before .before .before .before .before .before in
+    ⊎-elim
+    (λ w. texted-as (cleaned-texted _ _ _ (s .pre .0) r o l (w .2 .ensures)) (w .4) (w .5) (w .6) (w .7))
+    (λ w. texted-as (plain-texted _ _ _ (s .pre .0) r o l (w .0 .left)) (w .1) (w .2) (w .3) (w .4))
+    (c .if2 .came)
+
 receive-requires : tie.Need-receive-requires
-receive-requires c κs = search needs
+receive-requires c κs = spans-in _ _ _ (c .before .before .before .before .pre .0)
 
 over-long-requires : tie.Need-over-long-requires
 over-long-requires c κs = search needs
@@ -21,21 +39,31 @@ same-length c = search needs
 returns : tie.Need-returns
 returns c =
     let r = c .before .before .before .before .before .before .before .before in
-    let s = c .before .before .before .before .before .before .before .before .before .before .before .before in
-    long-taken _ (s .args .done) _ _ _ (is-long _ (r .receive .ensures) (c .before .before .before .before .before .before .before .over-long .ensures) (c .before .before .before .before .before .before .if1 .taken)) (s .pre .1 .ready) (c .before .before .tell-long .ensures)
+    let s = c .before .before .before .before .before .before .before .before .before .before .before .before .before in
+    long-taken _ (s .args .done) _ _ _ (is-long _ _ _ (s .pre .0) (r .receive .ensures) (c .before .before .before .before .before .before .before .over-long .ensures) (c .before .before .before .before .before .before .if1 .taken)) (s .pre .1 .0 .ready) (c .before .before .tell-long .ensures)
+
+array-borrow-prefix-bytes : tie.Need-array-borrow-prefix-bytes
+array-borrow-prefix-bytes c = short-within _ _ _ (c .before .before .before .before .before .before .before .before .before .pre .0) (c .before .before .before .before .receive .ensures) (c .before .before .before .over-long .ensures) (c .before .before .if1 .left)
+
+slice-aggregate-clean : tie.Need-slice-aggregate-clean
+slice-aggregate-clean c =
+    sym (length-take-le _ _ (short-within _ _ _ (c .before .before .before .before .before .before .before .before .before .before .pre .0) (c .before .before .before .before .before .receive .ensures) (c .before .before .before .before .over-long .ensures) (c .before .before .before .if1 .left)))
 
 clean-requires : tie.Need-clean-requires
-clean-requires c κs = short-count _ (c .before .before .receive .ensures) (c .before .over-long .ensures) (c .if1 .left)
+clean-requires c κs = search needs
 
-take-cleaned-requires : tie.Need-take-cleaned-requires
-take-cleaned-requires c κs =
-    let o = c .before .before .before .before in
-    let r = c .before .before .before .before .before in
-    let s = c .before .before .before .before .before .before .before .before .before in
-    cleaned-room _ _ _ _
-    (short-length _ (r .receive .ensures) (o .over-long .ensures) (c .before .before .before .if1 .left))
-    (short-cleaned _ (r .receive .ensures) (o .over-long .ensures) (c .before .before .before .if1 .left) (c .before .before .clean .ensures))
-    (part-taking _ _ _ _ _ _ (s .pre .0 .0) (s .pre .0 .1) (s .pre .1))
+array-share-prefix-bytes : tie.Need-array-share-prefix-bytes
+array-share-prefix-bytes c = texted c .within
+
+slice-aggregate-take-text : tie.Need-slice-aggregate-take-text
+slice-aggregate-take-text c = sym (length-take-le _ _ (texted (c .before) .within))
+
+take-text-requires : tie.Need-take-text-requires
+take-text-requires c κs =
+    let j = c .before .before .before .before in
+    let s = j .before .before .before .before .before .before .before .before .before in
+    let x = text-room (texted j) (short-chars _ _ _ (s .pre .0) (j .before .before .before .before .receive .ensures) (j .before .before .before .over-long .ensures) (j .before .before .if1 .left)) (part-taking _ _ _ (s .pre .0) (s .pre .1 .0)) in
+    (x .0, (x .1, s .pre .1 .1))
 
 same-length-2 : tie.Need-same-length-2
 same-length-2 c = search needs
@@ -43,15 +71,15 @@ same-length-2 c = search needs
 same-length-3 : tie.Need-same-length-3
 same-length-3 c = search needs
 
+same-length-4 : tie.Need-same-length-4
+same-length-4 c = search needs
+
 returns-2 : tie.Need-returns-2
 returns-2 c =
-    let o = c .before .before .before .before .before .before .before .before .before in
-    let r = c .before .before .before .before .before .before .before .before .before .before in
-    let s = c .before .before .before .before .before .before .before .before .before .before .before .before .before .before in
-    c .before .before .before .before .take-cleaned .ensures
-    ∙ cleaned-taken _ (s .args .done) _ _ _
-    (is-long _ (r .receive .ensures) (o .over-long .ensures) (c .before .before .before .before .before .before .before .before .if1 .left))
-    (short-cleaned _ (r .receive .ensures) (o .over-long .ensures) (c .before .before .before .before .before .before .before .before .if1 .left) (c .before .before .before .before .before .before .before .clean .ensures))
+    let j = c .before .before .before .before .before .before .before .before .before .before .before in
+    let s = j .before .before .before .before .before .before .before .before .before in
+    c .before .before .before .before .before .before .take-text .ensures
+    ∙ text-taken (texted j) _ (s .args .done) _ _ (is-long _ _ _ (s .pre .0) (j .before .before .before .before .receive .ensures) (j .before .before .before .over-long .ensures) (j .before .before .if1 .left))
 
 pub take-record-spec : {M : Type 1} → statement M
 take-record-spec =
@@ -62,8 +90,13 @@ take-record-spec =
     tell-long-requires
     same-length
     returns
+    array-borrow-prefix-bytes
+    slice-aggregate-clean
     clean-requires
-    take-cleaned-requires
+    array-share-prefix-bytes
+    slice-aggregate-take-text
+    take-text-requires
     same-length-2
     same-length-3
+    same-length-4
     returns-2)

@@ -28,7 +28,7 @@ enum-known-outcome-2 c = search needs
 
 report-if-requires : tie.Need-report-if-requires
 unfolding outcomeReports
-report-if-requires c κs = tellable-of outcomeReports (c .before .before .outcome2 .given .1) (c .before .before .before .before .before .pre)
+report-if-requires c κs = tellable-of outcomeReports (c .before .before .before .outcome2 .given .1) (c .before .before .before .before .before .before .pre)
 
 returns : tie.Need-returns
 unfolding outcomeReports
@@ -54,7 +54,7 @@ same-length-2 c = search needs
 
 returns-5 : tie.Need-returns-5
 unfolding outcomeReports
-returns-5 c = rw (c .before .before .before .before .before .outcome2 .given .1) (c .before .before .report-if .ensures)
+returns-5 c = rw (c .before .before .before .before .before .before .outcome2 .given .1) (c .before .before .report-if .ensures)
 
 pub report-outcome-spec : {M : Type 1} → statement M
 report-outcome-spec =

@@ -42,7 +42,7 @@ add-n-6 c = search needs
 
 returns : tie.Need-returns
 unfolding tallied classOf eqClass
-returns c = rw (c .before .before .before .outcome .given .1, eq-eqb _ _ (c .before .if1 .taken))
+returns c = rw (c .before .before .before .before .outcome .given .1, eq-eqb _ _ (c .before .if1 .taken))
 
 add-n-7 : tie.Need-add-n-7
 add-n-7 c = search needs
@@ -65,7 +65,7 @@ returns-5 c = rw (c .before .enum-told4 .given .1)
 
 returns-6 : tie.Need-returns-6
 unfolding tallied classOf eqClass
-returns-6 c = rw (c .before .before .before .outcome .given .1, ne-eqb _ _ (c .before .if1 .left))
+returns-6 c = rw (c .before .before .before .before .outcome .given .1, ne-eqb _ _ (c .before .if1 .left))
 
 pub tally-spec : {M : Type 1} → statement M
 tally-spec =

@@ -1,11 +1,14 @@
 -- `tell` meets its contract: four groups of conditions, told one after the other, are all of the record's.
 -- Assumes nothing.
-use Rattle.load_tell.proofs.Telling.{tellable-from, room-a, room-b, room-c, room-d, told-groups, all-from}
+use Rattle.load_tell.proofs.Telling.{tellable-from, groups-length, groups-small, room-a, room-b, room-c, room-d, told-groups, all-from}
 use Rattle.load_tell.specs.declared.Count.{Count}
 use Rattle.load_tell.specs.Count.{tallied, conditionsIn, Tellable}
 use Rattle.load.specs.Step.{oneIf, outcomeReports}
 use Rattle.load.specs.Condition.{ignoredHigh, ignoredControl}
-use Prim.Native.Nat.{ℕ}
+use Rattle.load.specs.Fits.{Small}
+use native.Mathlib.Omega.{arith}
+use lib.ListN.{length}
+use Prim.Native.Nat.{ℕ, _+_}
 use mathlib.Core.List.{List, _++_}
 use mathlib.Core.Path.{_≡_}
 use borrow.Author.Needs.{needs}
@@ -23,48 +26,60 @@ abbrev outcomes : tie.Start → List ℕ
 outcomes s = outcomeReports (s .args .outcome)
 
 abbrev drops : tie.Start → List ℕ
-drops s = conditionsIn (s .args .faults)
+drops s = conditionsIn (s .args .faults .now)
 
--- there is room for all of them
-room : (s : tie.Start) {n : Count} → n ≡ tallied (s .args .count) (s .args .outcome) → Tellable n ((highs s ++ controls s) ++ (outcomes s ++ drops s))
-room s e = tellable-from e (s .pre .1 .1)
+-- there is room for all of them, and each group fits
+all : tie.Start → List ℕ
+all s = (highs s ++ controls s) ++ (outcomes s ++ drops s)
+
+room : (s : tie.Start) {n : Count} → n ≡ tallied (s .args .count) (s .args .outcome) → Tellable n (all s)
+unfolding all
+room s e = tellable-from e (s .pre .1)
+
+long : (s : tie.Start) → length (all s) ≡ length (highs s) + length (controls s) + length (outcomes s) + length (drops s)
+unfolding all
+long s = groups-length (highs s) (controls s) (outcomes s) (drops s)
+
+small : (s : tie.Start) → Small (highs s) × Small (controls s) × Small (outcomes s) × Small (drops s)
+small s = groups-small (highs s) (controls s) (outcomes s) (drops s) (s .pre .1 .small)
 
 tally-requires : tie.Need-tally-requires
 tally-requires c κs = search needs
 
 report-if-requires : tie.Need-report-if-requires
 report-if-requires c κs =
-    let s = c .before .before .before in
-    room-a (highs s) (controls s) (outcomes s) (drops s) (room s (c .before .tally .ensures))
+    let k = c .before in
+    let s = k .before .before .before in
+    room-a (room s (k .tally .ensures)) (omega (arith, long s)) (search (small s))
 
 report-if-requires-2 : tie.Need-report-if-requires-2
 report-if-requires-2 c κs =
-    let s = c .before .before .before .before .before .before .before in
-    room-b (highs s) (controls s) (outcomes s) (drops s) (room s (c .before .before .before .before .before .tally .ensures)) _ (c .before .before .before .report-if .ensures)
+    let k = c .before .before .before .before .before in
+    let s = k .before .before .before in
+    room-b (room s (k .tally .ensures)) _ _ (c .before .before .before .report-if .ensures) (omega (arith, long s)) (search (small s))
 
 report-outcome-requires : tie.Need-report-outcome-requires
 report-outcome-requires c κs =
-    let s = c .before .before .before .before .before .before .before .before .before .before .before in
-    room-c (highs s) (controls s) (outcomes s) (drops s) (room s (c .before .before .before .before .before .before .before .before .before .tally .ensures)) _ (c .before .before .before .before .before .before .before .report-if .ensures) (c .before .before .before .report-if2 .ensures)
+    let k = c .before .before .before .before .before .before .before .before .before in
+    let s = k .before .before .before in
+    room-c (room s (k .tally .ensures)) _ _ _ (c .before .before .before .before .before .before .before .report-if .ensures) (c .before .before .before .report-if2 .ensures) (omega (arith, long s)) (small s .2)
 
 report-faults-requires : tie.Need-report-faults-requires
 report-faults-requires c κs =
-    let s = c .before .before .before .before .before .before .before .before .before .before .before .before .before .before .before in (
-      s .pre .0,
-      room-d (highs s) (controls s) (outcomes s) (drops s) (room s (c .before .before .before .before .before .before .before .before .before .before .before .before .before .tally .ensures)) _
-          (c .before .before .before .before .before .before .before .before .before .before .before .report-if .ensures) (c .before .before .before .before .before .before .before .report-if2 .ensures) (c .before .before .before .report-outcome .ensures),
-    )
+    let k = c .before .before .before .before .before .before .before .before .before .before .before .before .before in
+    let s = k .before .before .before in
+    room-d (room s (k .tally .ensures)) _ _ _ (c .before .before .before .before .before .before .before .before .before .before .before .report-if .ensures) (c .before .before .before .before .before .before .before .report-if2 .ensures) _ (c .before .before .before .report-outcome .ensures) (omega (arith, long s)) (small s .3)
 
 same-length : tie.Need-same-length
 same-length c = search needs
 
 returns : tie.Need-returns
 returns c =
-    let s = c .before .before .before .before .before .before .before .before .before .before .before .before .before .before .before .before .before .before in
     let k = c .before .before .before .before .before .before .before .before .before .before .before .before .before .before .before .before in
+    let s = k .before .before .before in
     all-from _ _
-    (told-groups (highs s) (controls s) (outcomes s) (drops s) (room s (k .tally .ensures)) _
-    (c .before .before .before .before .before .before .before .before .before .before .before .before .before .before .report-if .ensures) (c .before .before .before .before .before .before .before .before .before .before .report-if2 .ensures) (c .before .before .before .before .before .before .report-outcome .ensures) (c .before .before .report-faults .ensures))
+    (told-groups _ (highs s) (controls s) (outcomes s) (drops s) _ (c .before .before .before .before .before .before .before .before .before .before .before .before .before .before .report-if .ensures) (c .before .before .before .before .before .before .before .before .before .before .report-if2 .ensures)
+    (c .before .before .before .before .before .before .report-outcome .ensures) (c .before .before .report-faults .ensures))
     (k .tally .ensures)
 
 pub tell-spec : {M : Type 1} → statement M

@@ -1,0 +1,64 @@
+-- `take_text` meets its contract: from what the step and the telling ensure; the faults told are those at the front of the lent list.
+-- Assumes nothing.
+use Rattle.load_run.proofs.Taking.{step-room, text-said, step-taken}
+use Rattle.load.proofs.Steps.{step-small}
+use Rattle.load_tell.specs.Count.{ignoredBy}
+use lib.Seq.{length-take-le}
+use mathlib.Core.Path.{sym}
+use borrow.Author.Needs.{needs}
+use Rattle.load_run.proofs.take_text.Statement.{statement}
+use Rattle.load_run.proofs.take_text.Tie as tie
+
+step-requires : tie.Need-step-requires
+step-requires c κs =
+    let s = c .before .before .before .before .before .before .before in
+    (record { fitting = s .pre .1 .0 .fitting; short = s .pre .0; ready = s .pre .1 .0 .ready }, s .pre .1 .1)
+
+slice-reshare-prefix-tell : tie.Need-slice-reshare-prefix-tell
+slice-reshare-prefix-tell c = search needs
+
+slice-aggregate-tell : tie.Need-slice-aggregate-tell
+slice-aggregate-tell c = sym (length-take-le _ _ (search needs))
+
+tell-requires : tie.Need-tell-requires
+tell-requires c κs =
+    let k = c .before .before .before .before .before .before .before in
+    let s = c .before .before .before .before .before .before .before .before .before .before .before .before .before .before .before in
+    let t = s .pre .1 .0 in
+    (t .countable, step-room _ _ _ (k .step .ensures .0) (step-small _ _ _ _) (k .step .ensures .1) (s .pre .1 .1) _ _ (s .args .high) (s .args .control) (t .countable) (t .room) (text-said _ _ _ _))
+
+parted-requires : tie.Need-parted-requires
+parted-requires c κs = search needs
+
+stops-requires : tie.Need-stops-requires
+stops-requires c κs = search needs
+
+same-length : tie.Need-same-length
+same-length c = search needs
+
+same-length-2 : tie.Need-same-length-2
+same-length-2 c = search needs
+
+same-length-3 : tie.Need-same-length-3
+same-length-3 c = search needs
+
+returns : tie.Need-returns
+returns c =
+    let k = c .before .before .before .before .before .before .before .before .before .before .before .before in
+    let s = c .before .before .before .before .before .before .before .before .before .before .before .before .before .before .before .before .before .before .before .before in
+    step-taken _ _ _ (k .step .ensures .0) (step-small _ _ _ _) (k .step .ensures .1) (s .pre .1 .1) _ _ (ignoredBy (s .args .high) (s .args .control)) (c .before .parted .ensures) (c .before .before .before .before .tell .ensures) (c .stops .ensures)
+
+pub take-text-spec : {M : Type 1} → statement M
+take-text-spec =
+    tie.close
+    (tie.spec
+    step-requires
+    slice-reshare-prefix-tell
+    slice-aggregate-tell
+    tell-requires
+    parted-requires
+    stops-requires
+    same-length
+    same-length-2
+    same-length-3
+    returns)
