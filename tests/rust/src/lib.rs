@@ -1,6 +1,7 @@
 //! The proved library beside a plain Rust implementation of the same papers, with one interface, so that the benchmark and the
 //! differential run can put the same inputs through both.
 
+pub mod better;
 pub mod ours;
 pub mod plain;
 pub mod streams;

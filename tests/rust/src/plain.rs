@@ -3,9 +3,9 @@
 use crate::{Limits, Refused, Totals, LONGEST};
 use std::ops::{Range, RangeInclusive};
 
-const HEAD: usize = 24;
-const ENTRY: usize = 3;
-const LONGEST_RECORD: usize = 80;
+pub(crate) const HEAD: usize = 24;
+pub(crate) const ENTRY: usize = 3;
+pub(crate) const LONGEST_RECORD: usize = 80;
 const MOST_CUES: usize = 600;
 /// 999:59:59.9 in tenths of a second.
 const LONGEST_TIME: u32 = 35_999_999;
@@ -98,27 +98,27 @@ pub fn find(limits: &Limits, store: &[u8], page: u32, whole: u32, tenths: u32) -
 // The desk and its store.
 
 #[derive(Clone, Copy, PartialEq, Eq)]
-enum Kind {
+pub(crate) enum Kind {
     Cue,
     Group,
     Sub,
 }
 
 #[derive(Clone, Copy)]
-struct Desk {
-    channels: usize,
-    dimmers: usize,
+pub(crate) struct Desk {
+    pub(crate) channels: usize,
+    pub(crate) dimmers: usize,
     cues: usize,
     groups: usize,
     subs: usize,
     cue_pages: usize,
     group_pages: usize,
     sub_pages: usize,
-    patch_pages: usize,
+    pub(crate) patch_pages: usize,
 }
 
 impl Desk {
-    fn new(limits: &Limits) -> Result<Desk, Refused> {
+    pub(crate) fn new(limits: &Limits) -> Result<Desk, Refused> {
         if !RANGES.iter().zip(limits).all(|(range, limit)| range.contains(limit)) {
             return Err(Refused::R2);
         }
@@ -126,15 +126,15 @@ impl Desk {
         Ok(Desk { channels, dimmers, cues, groups, subs, cue_pages, group_pages, sub_pages, patch_pages })
     }
 
-    fn slot(&self) -> usize {
+    pub(crate) fn slot(&self) -> usize {
         HEAD + self.channels
     }
 
-    fn slots(&self) -> usize {
+    pub(crate) fn slots(&self) -> usize {
         self.cues + self.groups + self.subs * self.sub_pages
     }
 
-    fn needed(&self) -> usize {
+    pub(crate) fn needed(&self) -> usize {
         self.slots() * self.slot() + self.patch_pages * self.dimmers * ENTRY
     }
 
@@ -174,7 +174,7 @@ impl Desk {
         Some(self.places(kind).start + at)
     }
 
-    fn good_form(&self, store: &[u8]) -> bool {
+    pub(crate) fn good_form(&self, store: &[u8]) -> bool {
         self.kind_is_good(store, Kind::Cue)
             && self.kind_is_good(store, Kind::Group)
             && self.kind_is_good(store, Kind::Sub)
@@ -477,19 +477,19 @@ impl<'a> Iterator for Records<'a> {
     }
 }
 
-fn is_delimiter(b: u8) -> bool {
+pub(crate) fn is_delimiter(b: u8) -> bool {
     matches!(b, b'\t' | b' ' | b',' | b'/' | b';' | b'<' | b'=' | b'>' | b'@')
 }
 
-fn is_control(b: u8) -> bool {
+pub(crate) fn is_control(b: u8) -> bool {
     b < 0x20 && b != b'\t' || b == 0x7f
 }
 
 /// A record's fields, then empty words without end: every reader of a value calls an empty word malformed.
-struct Fields<'a>(&'a [u8]);
+pub(crate) struct Fields<'a>(pub(crate) &'a [u8]);
 
 impl<'a> Fields<'a> {
-    fn next(&mut self) -> &'a [u8] {
+    pub(crate) fn next(&mut self) -> &'a [u8] {
         let from = self.0.iter().position(|&b| !is_delimiter(b)).unwrap_or(self.0.len());
         let rest = &self.0[from..];
         let (field, rest) = rest.split_at(rest.iter().position(|&b| is_delimiter(b)).unwrap_or(rest.len()));
@@ -595,7 +595,7 @@ fn tenths_of(field: &[u8]) -> Option<u32> {
 // The load.
 
 #[derive(Clone, Copy, PartialEq, Eq)]
-enum Condition {
+pub(crate) enum Condition {
     CueRoom = 21,
     GroupRoom = 22,
     BadNumber = 41,
@@ -620,16 +620,16 @@ enum Condition {
     NonPrinting = 702,
 }
 
-struct Log<'a> {
-    list: &'a mut [u32],
-    count: u32,
-    record: u32,
-    error: u32,
-    warning: u32,
+pub(crate) struct Log<'a> {
+    pub(crate) list: &'a mut [u32],
+    pub(crate) count: u32,
+    pub(crate) record: u32,
+    pub(crate) error: u32,
+    pub(crate) warning: u32,
 }
 
 impl Log<'_> {
-    fn report(&mut self, condition: Condition) {
+    pub(crate) fn report(&mut self, condition: Condition) {
         if let Some(entry) = self.list.get_mut(self.count as usize) {
             *entry = self.record << 14 | condition as u32;
         }
@@ -641,7 +641,7 @@ impl Log<'_> {
     }
 }
 
-enum Outcome {
+pub(crate) enum Outcome {
     Blank,
     Obeyed,
     Passed,
@@ -650,18 +650,18 @@ enum Outcome {
 }
 
 #[derive(Clone, Copy)]
-enum Open {
+pub(crate) enum Open {
     Nothing,
     Skipping,
     /// With the number of its slot.
     Memory(Kind, usize),
 }
 
-struct Load<'a> {
-    desk: Desk,
-    store: &'a mut [u8],
-    open: Open,
-    log: Log<'a>,
+pub(crate) struct Load<'a> {
+    pub(crate) desk: Desk,
+    pub(crate) store: &'a mut [u8],
+    pub(crate) open: Open,
+    pub(crate) log: Log<'a>,
 }
 
 /// The first ten characters in capitals.
@@ -709,7 +709,7 @@ impl Load<'_> {
         self.obey(first, fields).unwrap_or_else(Outcome::Dropped)
     }
 
-    fn obey(&mut self, first: &[u8], mut fields: Fields) -> Result<Outcome, Condition> {
+    pub(crate) fn obey(&mut self, first: &[u8], mut fields: Fields) -> Result<Outcome, Condition> {
         let mut room = [0; 10];
         match keyword(first, &mut room) {
             b"CHAN" => self.secondary(|_| true, |load, slot| load.chan(slot, fields)),
@@ -798,7 +798,7 @@ impl Load<'_> {
         self.slot(slot).first_chunk_mut().expect("a slot begins with its head")
     }
 
-    fn secondary(
+    pub(crate) fn secondary(
         &mut self,
         applies: impl FnOnce(Kind) -> bool,
         act: impl FnOnce(&mut Self, usize) -> Result<(), Condition>,

@@ -163,12 +163,15 @@ pub fn repeated(first: &[u8], again: &[u8], size: usize) -> Vec<u8> {
 
 const LEAST: Limits = [1, 1, 1, 0, 0, 1, 1, 1, 1];
 
-/// Small most of the time, with limits at the ends of their ranges or just past them at times.
+/// Small most of the time; some with many memories of few channels, or few of many; at times the house small desk, seldom the largest. Limits
+/// are at the ends of their ranges or just past them at times.
 pub fn desk(dice: &mut Dice) -> Limits {
-    let mut limits = match dice.below(4_000) {
-        0 => LARGE,
-        1 => LARGE.map(|most| dice.range(1, most)),
-        2..=40 => HOUSE,
+    let mut limits = match dice.below(1_600) {
+        0..=11 => LARGE,
+        12..=31 => LARGE.map(|most| dice.range(1, most)),
+        32..=80 => HOUSE,
+        81..=180 => [6, 9, 600, 200, 9, 63, 63, 3, 3].map(|most| dice.range(1, most)),
+        181..=280 => [512, 512, 6, 5, 4, 3, 3, 3, 4].map(|most| dice.range(1, most)),
         _ => [12, 9, 6, 5, 4, 3, 3, 3, 3].map(|most| dice.range(1, most)),
     };
     if dice.one_in(6) {
@@ -192,9 +195,14 @@ pub fn desk(dice: &mut Dice) -> Limits {
 /// A stream in the grammar with faults of every sort in it, or one that is hardly in the grammar at all.
 pub fn stream(limits: &Limits, dice: &mut Dice) -> Vec<u8> {
     let mut out = Vec::new();
-    if dice.one_in(30) {
-        out.extend((0..dice.below(200)).map(|_| dice.word() as u8));
-        return out;
+    match dice.below(30) {
+        0 => {
+            out.extend((0..dice.below(200)).map(|_| dice.word() as u8));
+            return out;
+        }
+        1..=3 => return lined(dice),
+        4..=6 => return crowd(limits, dice),
+        _ => (),
     }
     let faults = dice.pick(&[4, 12, 40, 1_000_000]);
     let mut talk = Talk { limits, dice, faults, out };
@@ -225,6 +233,103 @@ pub fn stream(limits: &Limits, dice: &mut Dice) -> Vec<u8> {
         }
         out.resize(length, b'\n');
     }
+    out
+}
+
+/// What may be ignored, end a record or its text, or stand next to what may.
+pub const SPECIALS: [&[u8]; 20] = [
+    b"!", b"\t", b"\x00", b"\x08", b"\x01", b"\x1f", b"\x7f", b"\x80", b"\xff", b"\r", b"\n", b"\r\n", b"\n\r", b"\t\x02", b"\x7e", b"\"", b" ",
+    b"\x80\x1f", b"!\x80", b"!\x7f",
+];
+
+/// A record of so many characters in which every character counts: few of its fields have more than two.
+pub fn long_record(length: usize, dice: &mut Dice) -> Vec<u8> {
+    let mut out = Vec::new();
+    let body = dice.below(8);
+    out.extend_from_slice(match body {
+        0 => b"PATCH 1",
+        1 => b"! ",
+        2 => b"chan",
+        _ => b"CHAN",
+    });
+    for n in dice.range(1, 9).. {
+        if out.len() >= length {
+            break;
+        }
+        match body {
+            0 => put(&mut out, format_args!(" {n}<{n}@H{n}")),
+            _ => put(&mut out, format_args!(" {n}@{n}")),
+        }
+    }
+    out.truncate(length);
+    out
+}
+
+/// A few records of lengths around multiples of eight and around 80, with special characters in them, the last without a terminator at times.
+fn lined(dice: &mut Dice) -> Vec<u8> {
+    let mut out = Vec::new();
+    for _ in 0..=dice.below(6) {
+        let name: &[u8] = dice.pick(&[&b"CUE 1\n"[..], b"CUE 2\r\n", b"GROUP 1\r", b""]);
+        out.extend_from_slice(name);
+        let length = (8 * dice.range(1, 10) + dice.range(0, 2) - 1) as usize;
+        let mut record = long_record(length, dice);
+        for _ in 0..dice.below(4) {
+            let at = dice.below(length);
+            let special = dice.pick(&SPECIALS);
+            record.splice(at..at + 1, special.iter().copied());
+            record.truncate(length.max(1));
+        }
+        out.extend_from_slice(&record);
+        let end: &[u8] = dice.pick(&[&b"\n"[..], b"\r\n", b"\n\r", b"\r", b"\n\n", b"\r\nX\n", b""]);
+        out.extend_from_slice(end);
+    }
+    out
+}
+
+/// Cues and groups in some order or none, some given again, with CLEARs between them at times; up to more than the desk has room for.
+pub fn crowd(limits: &Limits, dice: &mut Dice) -> Vec<u8> {
+    let [channels, _, cues, groups, subs, cue_pages, group_pages, sub_pages, _] = limits.map(|limit| limit.clamp(1, 600));
+    let most = dice.pick(&[20, cues, cues + groups + 9]) as usize;
+    let widest = dice.pick(&[9, 99, 999]);
+    let mut names: Vec<(u32, u32, u32, u32)> = Vec::new();
+    for _ in 0..dice.below(most + 1) {
+        let kind = dice.below(8) as u32;
+        let pages = if kind < 5 { cue_pages } else { group_pages };
+        let tenths = if dice.one_in(2) { 0 } else { dice.range(0, 9) };
+        names.push((kind, dice.range(1, pages), dice.range(1, widest), tenths));
+    }
+    match dice.below(5) {
+        0 => names.sort_unstable(),
+        1 => names.sort_unstable_by(|a, b| b.cmp(a)),
+        2 => {
+            names.sort_unstable();
+            for _ in 0..=dice.below(4) {
+                let (i, j) = (dice.below(names.len().max(1)), dice.below(names.len().max(1)));
+                if i.max(j) < names.len() {
+                    names.swap(i, j);
+                }
+            }
+        }
+        _ => (),
+    }
+    let mut out = Vec::new();
+    for i in 0..names.len() {
+        let again = dice.one_in(12);
+        let (kind, page, whole, tenths) = if again { names[dice.below(i + 1)] } else { names[i] };
+        let name = if kind < 5 { "CUE" } else { "GROUP" };
+        put(&mut out, format_args!("{name} {whole}.{tenths} {page}\n"));
+        match dice.below(12) {
+            0 => put(&mut out, format_args!("CHAN {}@{} {}@HFF\n", dice.range(1, channels), dice.range(0, 100), dice.range(1, channels))),
+            1 => put(&mut out, format_args!("UP {}\nLINK {whole}\nFOLLOWON {}:1\n", dice.range(0, 999), dice.range(0, 99))),
+            2 => put(&mut out, format_args!("SUB {} {}\nDOWN 1 {}\n", dice.range(1, subs), dice.range(1, sub_pages), dice.range(0, 99))),
+            3 if dice.one_in(30) => put(&mut out, format_args!("CLEAR {} {page}\n", dice.pick(&["ALL", "CUES", "GROUPS"]))),
+            _ => (),
+        }
+    }
+    if !dice.one_in(4) {
+        out.extend_from_slice(b"ENDDATA");
+    }
+    out.truncate(LONGEST);
     out
 }
 

@@ -1,6 +1,7 @@
-//! Puts the same random and damaged inputs through the proved library and plain Rust and compares every answer and every lent byte.
+//! Puts the same random and damaged inputs through the proved library, plain Rust and the better plain Rust, and compares every answer and
+//! every lent byte.
 //!
-//!   differ SEED COUNT      at least COUNT calls on each side, drawn from SEED
+//!   differ SEED COUNT      the swept edges, then random cases: at least COUNT calls on each side, drawn from SEED
 //!   differ case SEED CASE  one case again
 //!   differ prefixes DIR    every prefix of each file of DIR, read into an empty house small desk. Of a file above 20,000 bytes the first
 //!                          and last 2,000 prefixes and every 97th between
@@ -9,8 +10,8 @@
 
 use std::fmt::Debug;
 use std::process::exit;
-use trials::streams::{desk, full, show_of, stream, Dice, HOUSE, LARGE};
-use trials::{ours, plain, Limits, Refused, Totals, LONGEST};
+use trials::streams::{crowd, desk, full, long_record, show_of, stream, Dice, HOUSE, LARGE, SPECIALS};
+use trials::{better, ours, plain, Limits, Refused, Totals, LONGEST};
 
 /// Bytes or words with a strip on either side that nobody may touch.
 struct Lent<T> {
@@ -33,54 +34,60 @@ impl<T: Copy + PartialEq> Lent<T> {
     }
 }
 
-fn first_difference<T: PartialEq + Debug>(a: &Lent<T>, b: &Lent<T>) -> Option<String> {
-    let at = a.room.iter().zip(&b.room).position(|(a, b)| a != b)?;
-    let i = at as isize - STRIP as isize;
-    Some(format!("at {i} of {}: ours {:?}, plain {:?}", a.room.len() - 2 * STRIP, a.room[at], b.room[at]))
-}
-
-/// What came of the same call on both sides, where it differs.
+/// What came of the same call on two sides, where it differs.
 type Verdict = Result<(), String>;
 
-fn compare<A: PartialEq + Debug>(ours: &A, plain: &A) -> Verdict {
-    if ours == plain {
+/// `who` is compared with the plain one.
+fn compare<A: PartialEq + Debug>(who: &str, one: &A, plain: &A) -> Verdict {
+    if one == plain {
         Ok(())
     } else {
-        Err(format!("ours answers {ours:?}, plain {plain:?}"))
+        Err(format!("{who} answers {one:?}, plain {plain:?}"))
     }
 }
 
-fn same<T: PartialEq + Debug>(what: &str, ours: &Lent<T>, plain: &Lent<T>) -> Verdict {
-    first_difference(ours, plain).map_or(Ok(()), |text| Err(format!("{what} {text}")))
+fn same<T: PartialEq + Debug>(who: &str, what: &str, one: &Lent<T>, plain: &Lent<T>) -> Verdict {
+    if one.room == plain.room {
+        return Ok(());
+    }
+    let at = one.room.iter().zip(&plain.room).position(|(a, b)| a != b).unwrap_or(0);
+    let (i, length) = (at as isize - STRIP as isize, one.room.len() - 2 * STRIP);
+    Err(format!("{what} at {i} of {length}: {who} {:?}, plain {:?}", one.room[at], plain.room[at]))
 }
 
 const MARK: u8 = 0xa5;
 
+type Load = fn(&Limits, &mut [u8], &[u8], &mut [u32]) -> Result<Totals, Refused>;
+
 fn load(limits: &Limits, store: &[u8], stream: &[u8], reports: &[u32]) -> (Verdict, Vec<u8>, Result<Totals, Refused>) {
-    let (mut a, mut b) = (Lent::new(store, MARK), Lent::new(store, MARK));
-    let (mut p, mut q) = (Lent::new(reports, 0xabcd_ef01), Lent::new(reports, 0xabcd_ef01));
-    let x = ours::load(limits, a.part(), stream, p.part());
-    let y = plain::load(limits, b.part(), stream, q.part());
-    let verdict = compare(&x, &y).and_then(|()| same("reports", &p, &q)).and_then(|()| same("store", &a, &b));
-    (verdict, b.part().to_vec(), y)
+    let lent = || (Lent::new(store, MARK), Lent::new(reports, 0xabcd_ef01));
+    let (mut b, mut q) = lent();
+    let plain = plain::load(limits, b.part(), stream, q.part());
+    let sides: [(&str, Load); 2] = [("ours", ours::load), ("better", better::load)];
+    let verdict = sides.into_iter().try_for_each(|(who, call)| {
+        let (mut a, mut p) = lent();
+        let answer = call(limits, a.part(), stream, p.part());
+        compare(who, &answer, &plain).and_then(|()| same(who, "reports", &p, &q)).and_then(|()| same(who, "store", &a, &b))
+    });
+    (verdict, b.part().to_vec(), plain)
 }
 
 fn write(limits: &Limits, store: &[u8], out: &[u8]) -> (Verdict, Vec<u8>, Result<usize, Refused>) {
     let (mut a, mut b) = (Lent::new(out, MARK), Lent::new(out, MARK));
     let x = ours::write(limits, store, a.part());
     let y = plain::write(limits, store, b.part());
-    (compare(&x, &y).and_then(|()| same("output", &a, &b)), b.part().to_vec(), y)
+    (compare("ours", &x, &y).and_then(|()| same("ours", "output", &a, &b)), b.part().to_vec(), y)
 }
 
 fn find(limits: &Limits, store: &[u8], page: u32, whole: u32, tenths: u32) -> Verdict {
-    compare(&ours::find(limits, store, page, whole, tenths), &plain::find(limits, store, page, whole, tenths))
+    compare("ours", &ours::find(limits, store, page, whole, tenths), &plain::find(limits, store, page, whole, tenths))
 }
 
 fn empty(limits: &Limits, store: &[u8]) -> Verdict {
     let (mut a, mut b) = (Lent::new(store, MARK), Lent::new(store, MARK));
     let x = ours::empty(limits, a.part());
     let y = plain::empty(limits, b.part());
-    compare(&x, &y).and_then(|()| same("store", &a, &b))
+    compare("ours", &x, &y).and_then(|()| same("ours", "store", &a, &b))
 }
 
 fn shown(bytes: &[u8]) -> String {
@@ -90,6 +97,9 @@ fn shown(bytes: &[u8]) -> String {
 fn hex(bytes: &[u8]) -> String {
     if bytes.iter().all(|&b| b == 0) {
         return format!("{} zero bytes", bytes.len());
+    }
+    if bytes.len() > 9_999 {
+        return format!("{} bytes", bytes.len());
     }
     bytes.iter().map(|b| format!("{b:02x}")).collect()
 }
@@ -120,7 +130,8 @@ fn shortened(limits: &Limits, store: &[u8], stream: &[u8], reports: &[u32]) -> V
 
 struct Case<'a> {
     seed: u64,
-    number: u64,
+    /// None: the swept edges.
+    number: Option<u64>,
     calls: u64,
     tally: &'a mut Tally,
 }
@@ -128,15 +139,19 @@ struct Case<'a> {
 /// What the run was made of, so that one can see that it reached every sort of answer.
 #[derive(Default)]
 struct Tally {
+    calls: u64,
     done: u64,
     refused: [u64; 7],
     records: u64,
     reports: u64,
     kept: u64,
+    /// Calls with a store of more than 100,000 bytes.
+    large: u64,
 }
 
 impl Tally {
-    fn note<T>(&mut self, answer: &Result<T, Refused>) {
+    fn note<T>(&mut self, store: &[u8], answer: &Result<T, Refused>) {
+        self.large += (store.len() > 100_000) as u64;
         match answer {
             Ok(_) => self.done += 1,
             Err(Refused::R1) => self.refused[1] += 1,
@@ -151,15 +166,16 @@ impl Tally {
 
 impl Case<'_> {
     fn differs(&self, limits: &Limits, store: &[u8], call: &str, why: &str) -> ! {
-        println!("DIFFERENCE: seed {} case {} ({call})\n  {why}\n  desk {limits:?}\n  store {}", self.seed, self.number, hex(store));
-        println!("  again: differ case {} {}", self.seed, self.number);
+        let seed = self.seed;
+        println!("DIFFERENCE after {} calls: {call}\n  {why}\n  desk {limits:?}\n  store {}", self.tally.calls + self.calls, hex(store));
+        println!("  again: {}", self.number.map_or(format!("differ {seed} 1"), |number| format!("differ case {seed} {number}")));
         exit(1)
     }
 
     fn load(&mut self, limits: &Limits, store: &[u8], stream: &[u8], reports: &[u32]) -> (Vec<u8>, Result<Totals, Refused>) {
         let (verdict, after, answer) = load(limits, store, stream, reports);
         self.calls += 1;
-        self.tally.note(&answer);
+        self.tally.note(store, &answer);
         if let Ok(t) = &answer {
             self.tally.records += (t.blank + t.obeyed + t.passed + t.dropped) as u64;
             self.tally.reports += t.reports as u64;
@@ -175,7 +191,7 @@ impl Case<'_> {
     fn write(&mut self, limits: &Limits, store: &[u8], out: &[u8]) -> (Vec<u8>, Result<usize, Refused>) {
         let (verdict, after, answer) = write(limits, store, out);
         self.calls += 1;
-        self.tally.note(&answer);
+        self.tally.note(store, &answer);
         if let Err(why) = verdict {
             self.differs(limits, store, &format!("write, output of {}", out.len()), &why);
         }
@@ -185,7 +201,7 @@ impl Case<'_> {
     fn find(&mut self, limits: &Limits, store: &[u8], page: u32, whole: u32, tenths: u32) {
         self.calls += 1;
         let answer = plain::find(limits, store, page, whole, tenths);
-        self.tally.note(&answer);
+        self.tally.note(store, &answer);
         self.tally.kept += matches!(answer, Ok(Some(_))) as u64;
         if let Err(why) = find(limits, store, page, whole, tenths) {
             self.differs(limits, store, &format!("find {whole}.{tenths} page {page}"), &why);
@@ -193,10 +209,11 @@ impl Case<'_> {
     }
 
     fn run(&mut self) {
-        let dice = &mut Dice(self.seed.wrapping_mul(0x2545_f491_4f6c_dd1d) ^ self.number.wrapping_mul(0x9e6c_63d0_876a_3f35));
+        let number = self.number.unwrap_or(0);
+        let dice = &mut Dice(self.seed.wrapping_mul(0x2545_f491_4f6c_dd1d) ^ number.wrapping_mul(0x9e6c_63d0_876a_3f35));
         let limits = desk(dice);
         self.calls += 1;
-        if let Err(why) = compare(&ours::needed(&limits), &plain::needed(&limits)) {
+        if let Err(why) = compare("ours", &ours::needed(&limits), &plain::needed(&limits)) {
             self.differs(&limits, &[], "needed", &why);
         }
         let needed = plain::needed(&limits).unwrap_or(dice.below(2_000));
@@ -213,7 +230,7 @@ impl Case<'_> {
                 slot[24..].iter_mut().for_each(|b| *b = dice.word() as u8);
             }
         } else if sort > 5 {
-            let before = stream(&limits, dice);
+            let before = if dice.one_in(3) { crowd(&limits, dice) } else { stream(&limits, dice) };
             store = self.load(&limits, &store, &before, &[]).0;
             if sort > 16 {
                 damage(&limits, &mut store, dice);
@@ -234,6 +251,9 @@ impl Case<'_> {
         for _ in 0..dice.below(3) {
             let (page, whole, tenths) = self.name(&limits, &store, dice);
             self.find(&limits, &store, page, whole, tenths);
+        }
+        if dice.one_in(4) {
+            self.spoil(&limits, &mut store, dice);
         }
         if dice.one_in(2) {
             let mut out = vec![0; 0];
@@ -259,6 +279,139 @@ impl Case<'_> {
             self.calls += 1;
             if let Err(why) = empty(&limits, &store) {
                 self.differs(&limits, &store, "empty", &why);
+            }
+        }
+    }
+
+    /// A store in good form has one thing put wrong in it, or only changed, and put back again, a few times over.
+    fn spoil(&mut self, limits: &Limits, store: &mut [u8], dice: &mut Dice) {
+        if plain::find(limits, store, 0, 0, 0).is_err() {
+            return;
+        }
+        let slot = 24 + limits[0] as usize;
+        let [cues, groups, subs] = [limits[2], limits[3], limits[4] * limits[7]].map(|n| n as usize);
+        let entries = (limits[8] * limits[1]) as usize;
+        let (used, unused): (Vec<usize>, Vec<usize>) = (0..cues + groups + subs).partition(|i| store[i * slot] >= 0x80);
+        for _ in 0..=dice.below(8) {
+            let sort = dice.below(8);
+            let place = match sort {
+                0..=2 if !used.is_empty() => dice.pick(&used),
+                3..=5 if !unused.is_empty() => dice.pick(&unused),
+                _ => dice.below(cues + groups + subs),
+            };
+            let (from, to) = if sort == 7 {
+                let any = dice.below(entries);
+                let entry = dice.pick(&[0, entries - 1, any]);
+                let from = (cues + groups + subs) * slot + entry * 3;
+                (from, from + 3)
+            } else {
+                (place * slot, (place + 1) * slot)
+            };
+            let kept = store[from..to].to_vec();
+            match sort {
+                // Another of its kind, or only the name of another; a name is 21 bits.
+                0..=2 => {
+                    let other = if place < cues { dice.below(cues) } else { cues + dice.below(groups + subs) };
+                    let (other, length) = (other * slot, if dice.one_in(3) { slot } else { 2 });
+                    store.copy_within(other..other + length, from);
+                    if dice.one_in(2) {
+                        store[from + 2] = store[from + 2] & 7 | store[other + 2] & 0xf8;
+                    }
+                }
+                3..=5 => store[from + dice.below(slot)] ^= 1 << dice.below(8),
+                6 => {
+                    let (field, edges) = dice.pick(&EDGES);
+                    set_bits(&mut store[from..from + 24], field, dice.pick(edges));
+                    if dice.one_in(2) {
+                        // A bit that has to be 0.
+                        set_bits(&mut store[from..from + 24], (dice.range(169, 191) as usize, 1), 1);
+                    }
+                }
+                _ => {
+                    let field = dice.pick(&[(0, 10), (10, 8), (18, 6)]);
+                    set_bits(&mut store[from..to], field, dice.pick(&[0, 1, limits[0], limits[0] + 1, 32, 255, 1_023]));
+                }
+            }
+            let (page, whole, tenths) = self.name(limits, store, dice);
+            self.find(limits, store, page, whole, tenths);
+            match dice.below(8) {
+                0 => drop(self.load(limits, store, b"CUE 1\nCHAN 1@50\nCLEAR PATCH\n", &[9; 4])),
+                1 => drop(self.write(limits, store, &[9; 99])),
+                _ => (),
+            }
+            store[from..to].copy_from_slice(&kept);
+        }
+    }
+
+    /// A special character at every place of records around multiples of eight and around 80 characters, with little or much behind them.
+    fn sweep_records(&mut self, dice: &mut Dice) {
+        const DESK: Limits = [99, 9, 3, 2, 2, 2, 2, 2, 2];
+        let empty = vec![0; plain::needed(&DESK).expect("a desk in range")];
+        for length in (1..=10).flat_map(|n| 8 * n - 1..=8 * n + 1) {
+            for place in 0..length {
+                for special in SPECIALS {
+                    let first: &[u8] = dice.pick(&[&b"CUE 1\n"[..], b"CUE 1\r\n", b"CUE 1\r\n\r\n"]);
+                    let mut record = long_record(length, dice);
+                    record.splice(place..place + 1, special.iter().copied());
+                    let mut behind = dice.pick(&[&b"\n"[..], b"\r\n", b"\n\r"]).to_vec();
+                    behind.extend_from_slice(&long_record(79, dice));
+                    behind.extend_from_slice(b"\nENDDATA\nCHAN 1 1");
+                    behind.truncate(dice.below(behind.len() + 1));
+                    drop(self.load(&DESK, &empty, &[first, &record, &behind].concat(), &[7; 30]));
+                }
+            }
+        }
+    }
+
+    /// A byte of an unused slot or patch entry, a level, and a patched dimmer at every place, on desks of many sizes.
+    fn sweep_slots(&mut self, dice: &mut Dice) {
+        for channels in (1..=70).chain([96, 127, 128, 129, 255, 256, 511, 512]) {
+            let limits = [channels, channels, 1, 0, 0, 1, 1, 1, 1];
+            let mut store = vec![0; plain::needed(&limits).expect("a desk in range")];
+            for at in 0..store.len() {
+                store[at] = 1 << dice.below(8);
+                self.find(&limits, &store, 1, 1, 0);
+                store[at] = 0;
+            }
+            let (mut store, _) = self.load(&limits, &store, b"CUE 1\nENDDATA", &[]);
+            let (levels, patch) = (24, 24 + channels as usize);
+            for at in 0..channels as usize {
+                let other = levels + dice.below(channels as usize);
+                store[other] = dice.word() as u8;
+                store[levels + at] = dice.range(1, 255) as u8;
+                set_bits(&mut store[patch + 3 * at..patch + 3 * at + 3], (0, 18), dice.range(1, channels) << 8);
+                drop(self.write(&limits, &store, &[9; 99]));
+                store[levels + at] = 0;
+                store[other] = 0;
+                store[patch + 3 * at..patch + 3 * at + 3].fill(0);
+            }
+        }
+    }
+
+    /// A full table in order, in the opposite order and in none is written, and every slot of it gets the name of another.
+    fn sweep_names(&mut self, dice: &mut Dice) {
+        const DESK: Limits = [1, 1, 600, 200, 0, 63, 63, 1, 1];
+        const SLOT: usize = 25;
+        let empty = vec![0; plain::needed(&DESK).expect("a desk in range")];
+        for order in 0..3 {
+            let mut names: Vec<u32> = (1..=600).collect();
+            match order {
+                0 => (),
+                1 => names.reverse(),
+                _ => (1..600).rev().for_each(|i| names.swap(i, dice.below(i + 1))),
+            }
+            let cues = names.iter().map(|n| format!("CUE {n}\n"));
+            let groups = names.iter().filter(|n| **n <= 200).map(|n| format!("GROUP {n}\n"));
+            let stream: String = cues.chain(groups).collect();
+            let (mut store, _) = self.load(&DESK, &empty, stream.as_bytes(), &[]);
+            drop(self.write(&DESK, &store, &[9; 20_000]));
+            for place in 0..800 {
+                let other = if place < 600 { dice.below(600) } else { 600 + dice.below(200) };
+                let (at, other) = (place * SLOT, other * SLOT);
+                let kept = [store[at], store[at + 1], store[at + 2]];
+                store.copy_within(other..other + 3, at);
+                self.find(&DESK, &store, 1, 1, 0);
+                store[at..at + 3].copy_from_slice(&kept);
             }
         }
     }
@@ -379,9 +532,14 @@ fn damage(limits: &Limits, store: &mut [u8], dice: &mut Dice) {
     }
 }
 
-/// The longest stream that may be written, and one byte more: ten bytes come from a submaster that a second load adds.
+/// What is gone through place by place, the same for every seed but for what stands around it.
 fn edges(seed: u64, tally: &mut Tally) -> u64 {
-    let mut case = Case { seed, number: 0, calls: 0, tally };
+    let mut case = Case { seed, number: None, calls: 0, tally };
+    let dice = &mut Dice(seed);
+    case.sweep_records(dice);
+    case.sweep_slots(dice);
+    case.sweep_names(dice);
+    // The longest stream that may be written, and one byte more: ten bytes come from a submaster that a second load adds.
     let empty = vec![0; plain::needed(&LARGE).expect("the largest desk is in range")];
     for length in LONGEST - 1..=LONGEST + 1 {
         let (store, _) = case.load(&LARGE, &empty, &show_of(length - 10), &[1; 9]);
@@ -404,17 +562,22 @@ fn edges(seed: u64, tally: &mut Tally) -> u64 {
 fn random(seed: u64, count: u64) {
     let mut tally = Tally::default();
     let begun = std::time::Instant::now();
-    let (mut calls, mut number) = (edges(seed, &mut tally), 0);
-    while calls < count {
-        let mut case = Case { seed, number, calls: 0, tally: &mut tally };
+    tally.calls = edges(seed, &mut tally);
+    let mut number = 0;
+    while tally.calls < count {
+        let mut case = Case { seed, number: Some(number), calls: 0, tally: &mut tally };
         case.run();
-        calls += case.calls;
+        let calls = case.calls;
+        tally.calls += calls;
         number += 1;
     }
     let refused: Vec<String> = (1..7).map(|i| format!("R{i} {}", tally.refused[i])).collect();
     println!(
-        "{calls} calls in {number} cases from seed {seed}: no difference ({:.0} s); answered {}, refused {}; {} records, {} reports, {} cues found",
+        "{} calls, edges and {number} cases from seed {seed}: no difference ({:.0} s); {} on large stores; answered {}, refused {}; {} records, \
+         {} reports, {} cues found",
+        tally.calls,
         begun.elapsed().as_secs_f64(),
+        tally.large,
         tally.done,
         refused.join(" "),
         tally.records,
@@ -457,7 +620,7 @@ fn main() {
         }
         ["case", seed, case] if number(seed).is_some() && number(case).is_some() => {
             let mut tally = Tally::default();
-            Case { seed: number(seed).unwrap_or(0), number: number(case).unwrap_or(0), calls: 0, tally: &mut tally }.run();
+            Case { seed: number(seed).unwrap_or(0), number: number(case), calls: 0, tally: &mut tally }.run();
             println!("no difference");
         }
         [seed, count] if number(seed).is_some() && number(count).is_some() => random(number(seed).unwrap_or(0), number(count).unwrap_or(0)),

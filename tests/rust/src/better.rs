@@ -1,0 +1,249 @@
+//! The plain reader made faster with what was learnt on the proved one, and still plain: a record's end and whether it has rare characters
+//! are found in one pass over chunks, an empty record is out at once, CHAN and PATCH are told by their letters, and a number or level is read
+//! in the scan that finds its field's end. Desk, store, form, the other keywords and the writer are those of `plain`.
+
+use crate::{Limits, Refused, Totals, LONGEST};
+use shared::{is_control, is_delimiter, Condition, Desk, Fields, Load, Log, Open, Outcome, ENTRY, HEAD, LONGEST_RECORD};
+
+/// `plain` once more: the two are compiled apart, so that what is shared here makes the first neither faster nor slower.
+#[allow(dead_code)]
+#[path = "plain.rs"]
+mod shared;
+
+/// As `plain::load`.
+pub fn load(limits: &Limits, store: &mut [u8], stream: &[u8], reports: &mut [u32]) -> Result<Totals, Refused> {
+    if stream.len() > LONGEST {
+        return Err(Refused::R1);
+    }
+    let desk = Desk::new(limits)?;
+    let store = store.get_mut(..desk.needed()).ok_or(Refused::R3)?;
+    if !desk.good_form(store) {
+        return Err(Refused::R4);
+    }
+    let log = Log { list: reports, count: 0, record: 0, error: 0, warning: 0 };
+    let mut load = Load { desk, store, open: Open::Nothing, log };
+    let mut totals = Totals::default();
+    let mut ended = false;
+    let mut rest = stream;
+    while !rest.is_empty() && !ended {
+        load.log.record += 1;
+        if is_end(rest[0]) {
+            totals.blank += 1;
+            rest = next(rest);
+            continue;
+        }
+        let outcome;
+        (outcome, rest) = record(&mut load, rest);
+        match outcome {
+            Outcome::Blank => totals.blank += 1,
+            Outcome::Obeyed => totals.obeyed += 1,
+            Outcome::Passed => totals.passed += 1,
+            Outcome::Dropped(condition) => {
+                totals.dropped += 1;
+                load.log.report(condition);
+                ended = matches!(condition, Condition::TooLong | Condition::Ident);
+            }
+            Outcome::End => {
+                totals.obeyed += 1;
+                ended = true;
+            }
+        }
+    }
+    if !ended {
+        load.log.report(Condition::NoEnd);
+    }
+    totals.reports = load.log.count;
+    totals.closing = if load.log.error != 0 { load.log.error } else { load.log.warning };
+    Ok(totals)
+}
+
+const CHUNK: usize = 8;
+
+fn is_end(b: u8) -> bool {
+    b == b'\r' || b == b'\n'
+}
+
+/// May be ignored, or ends the text or the record. A tab is rare enough to count as one.
+fn is_rare(b: u8) -> bool {
+    b < b' ' || b == b'!' || b >= 0x7f
+}
+
+/// How many characters there are ahead of the first that is one of these.
+fn ahead_of(these: impl Fn(u8) -> bool, text: &[u8]) -> usize {
+    // No early exit within a chunk, so that it goes at once.
+    let chunk = text.chunks_exact(CHUNK).position(|chunk| chunk.iter().fold(false, |any, &b| any | these(b)));
+    let from = chunk.unwrap_or(text.len() / CHUNK) * CHUNK;
+    from + text[from..].iter().position(|&b| these(b)).unwrap_or(text.len() - from)
+}
+
+/// Obeys the first record of what is left of a stream, and tells what is left then.
+fn record<'a>(load: &mut Load, stream: &'a [u8]) -> (Outcome, &'a [u8]) {
+    let plain = ahead_of(is_rare, stream);
+    let end = match stream.get(plain) {
+        None | Some(b'\r' | b'\n') => plain,
+        _ => plain + ahead_of(is_end, &stream[plain..]),
+    };
+    let (record, rest) = stream.split_at(end);
+    let outcome = if end > LONGEST_RECORD {
+        Outcome::Dropped(Condition::TooLong)
+    } else if end == plain {
+        obey(load, record)
+    } else {
+        squeezed(load, record, plain)
+    };
+    (outcome, next(rest))
+}
+
+/// What is left behind a terminator, if there is one.
+fn next(stream: &[u8]) -> &[u8] {
+    match stream {
+        [b'\r', b'\n', rest @ ..] | [b'\n', b'\r', rest @ ..] | [_, rest @ ..] => rest,
+        [] => stream,
+    }
+}
+
+/// A record whose first rare character is at a place.
+fn squeezed(load: &mut Load, record: &[u8], rare: usize) -> Outcome {
+    let rest = &record[rare..];
+    let high = rest.iter().fold(false, |any, &b| any | (b >= 0x80));
+    let control = rest.iter().fold(false, |any, &b| any | is_control(b));
+    let text = &record[..rare + rest.iter().position(|&b| b == b'!').unwrap_or(rest.len())];
+    if high {
+        load.log.report(Condition::HighBit);
+    }
+    if control {
+        load.log.report(Condition::NonPrinting);
+    }
+    if !high && !control {
+        return obey(load, text);
+    }
+    let mut kept = [0; LONGEST_RECORD];
+    let mut n = 0;
+    for &b in text.iter().filter(|&&b| b < 0x80 && !is_control(b)) {
+        kept[n] = b;
+        n += 1;
+    }
+    obey(load, &kept[..n])
+}
+
+fn obey(load: &mut Load, text: &[u8]) -> Outcome {
+    let text = first_field(text);
+    let outcome = match text {
+        [] => return Outcome::Blank,
+        [b'C', b'H', b'A', b'N', rest @ ..] if ends(rest) => load.secondary(|_| true, |load, slot| Ok(chan(load, slot, rest))),
+        [b'P', b'A', b'T', b'C', b'H', rest @ ..] if ends(rest) => patch(load, rest),
+        _ => {
+            let fields = behind(text);
+            load.obey(&text[..text.len() - fields.len()], Fields(fields))
+        }
+    };
+    outcome.unwrap_or_else(Outcome::Dropped)
+}
+
+fn chan(load: &mut Load, slot: usize, text: &[u8]) {
+    let channels = load.desk.channels;
+    let from = slot * load.desk.slot() + HEAD;
+    let levels = &mut load.store[from..from + channels];
+    let mut rest = first_field(text);
+    while !rest.is_empty() {
+        let (channel, after) = place(rest, channels, Condition::Channel);
+        let (level, after) = level(first_field(after));
+        rest = first_field(after);
+        match (channel, level) {
+            (Ok(channel), Ok(level)) => levels[channel - 1] = level,
+            (Err(condition), _) | (_, Err(condition)) => load.log.report(condition),
+        }
+    }
+}
+
+fn patch(load: &mut Load, text: &[u8]) -> Result<Outcome, Condition> {
+    let desk = load.desk;
+    let (page, after) = place(first_field(text), desk.patch_pages, Condition::PatchPage);
+    let from = desk.slots() * desk.slot() + (page.map_err(|_| Condition::PatchPage)? - 1) * desk.dimmers * ENTRY;
+    let mut rest = first_field(after);
+    while !rest.is_empty() {
+        let (channel, after) = place(rest, desk.channels, Condition::Channel);
+        let (dimmer, after) = place(first_field(after), desk.dimmers, Condition::Dimmer);
+        let (level, after) = level(first_field(after));
+        rest = first_field(after);
+        match (channel, dimmer, level) {
+            (Ok(channel), Ok(dimmer), Ok(level)) => {
+                let word = (channel as u32) << 14 | (level as u32) << 6;
+                let at = from + (dimmer - 1) * ENTRY;
+                load.store[at..at + ENTRY].copy_from_slice(&word.to_be_bytes()[1..]);
+            }
+            (Err(condition), ..) | (_, Err(condition), _) | (.., Err(condition)) => load.log.report(condition),
+        }
+    }
+    Ok(Outcome::Obeyed)
+}
+
+// Fields: each reader is handed a text that begins with its field, and hands back what stands behind it.
+
+/// The text without the delimiters at its front.
+fn first_field(mut text: &[u8]) -> &[u8] {
+    while let [b, rest @ ..] = text {
+        if !is_delimiter(*b) {
+            break;
+        }
+        text = rest;
+    }
+    text
+}
+
+/// Whether a field ends here.
+fn ends(text: &[u8]) -> bool {
+    text.first().is_none_or(|&b| is_delimiter(b))
+}
+
+/// What stands behind the field that goes on here.
+fn behind(text: &[u8]) -> &[u8] {
+    &text[text.iter().position(|&b| is_delimiter(b)).unwrap_or(text.len())..]
+}
+
+/// The digits at the front, a long number cut at what is too large for every use.
+fn digits(mut text: &[u8]) -> (u32, &[u8]) {
+    let mut value = 0;
+    while let [b @ b'0'..=b'9', rest @ ..] = text {
+        value = (value * 10 + (b - b'0') as u32).min(100_000);
+        text = rest;
+    }
+    (value, text)
+}
+
+/// A channel, dimmer or page.
+fn place(text: &[u8], most: usize, out_of_range: Condition) -> (Result<usize, Condition>, &[u8]) {
+    let (n, rest) = digits(text);
+    if rest.len() == text.len() || !ends(rest) {
+        return (Err(Condition::BadInteger), behind(rest));
+    }
+    let n = n as usize;
+    (if n == 0 || n > most { Err(out_of_range) } else { Ok(n) }, rest)
+}
+
+fn level(text: &[u8]) -> (Result<u8, Condition>, &[u8]) {
+    if let [b'H' | b'h', digits @ ..] = text {
+        return hexadecimal(digits);
+    }
+    let (percent, rest) = digits(text);
+    if rest.len() == text.len() || percent > 999 || !ends(rest) {
+        return (Err(Condition::BadLevel), behind(rest));
+    }
+    (Ok(((percent.min(100) * 255 + 50) / 100) as u8), rest)
+}
+
+/// One or two digits are the level; of three or four the last two are discarded.
+fn hexadecimal(digits: &[u8]) -> (Result<u8, Condition>, &[u8]) {
+    let mut value = 0u32;
+    let mut rest = digits;
+    while let [b, after @ ..] = rest {
+        let Some(digit) = (*b as char).to_digit(16) else { break };
+        value = value << 4 | digit;
+        rest = after;
+    }
+    match digits.len() - rest.len() {
+        1 | 2 if ends(rest) => (Ok(value as u8), rest),
+        3 | 4 if ends(rest) => (Ok((value >> 8) as u8), rest),
+        _ => (Err(Condition::BadHexadecimal), behind(rest)),
+    }
+}
