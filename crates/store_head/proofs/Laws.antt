@@ -3,7 +3,7 @@
 -- Assumes nothing.
 use mathlib.Core.Path.{_≡_, refl, sym, ap, _∙_, subst}
 use mathlib.Core.List.{List, [], _∷_, _++_}
-use Prim.Native.Nat.{ℕ, _+_, _*_, _/_, _%_, _^_, _<_, _≤_}
+use Prim.Native.Nat.{ℕ, _+_, _-_, _*_, _/_, _%_, _^_, _<_, _≤_}
 use native.Mathlib.Nat.{mod-lt, div-one, div-div-eq-div-mul}
 use native.Mathlib.Omega.{arith}
 use lib.Arith.{digits-lt}
@@ -13,9 +13,9 @@ use lib.Seq.{drop-drop, getD-drop}
 use Rattle.store_head.specs.declared.Head.{Head}
 use Rattle.store_head.specs.declared.Patch.{Patch}
 use Rattle.store_head.specs.Pack.{total, packed, unpacked, FitsIn, Bytes}
-use Rattle.store_head.specs.Layout.{octets, headWidths, headValues, headFrom, encodeHead, decodeHead, patchWidths, patchValues, patchOf, encodePatch, decodePatch}
-use Rattle.store_head.specs.Fits.{HeadFits, keyWidths, usedWord, pageWord, wholeWord, wordOf, quickOf, PatchFits}
-use Rattle.store_head.specs.Words.{firstWord, secondWord, thirdWord}
+use Rattle.store_head.specs.Layout.{octets, flagBits, pageBits, wholeBits, fractionBits, timeBits, restBits, headWidths, headValues, headFrom, encodeHead, decodeHead, patchWidths, patchValues, patchOf, encodePatch, decodePatch}
+use Rattle.store_head.specs.Fits.{flagSpan, pageSpan, wholeSpan, fractionSpan, timeSpan, restSpan, channelSpan, HeadFits, keyWidths, usedWord, pageWord, wholeWord, wordOf, quickOf, PatchFits}
+use Rattle.store_head.specs.Words.{upRest, downRest, firstWord, secondWord, thirdWord}
 use Rattle.store_head.proofs.Pack.{packed-lt, unpacked-fits, unpack-pack, pack-unpack-lt, unpacked-append, packed-at, packed-append, packed-cut-in, field-high, field-below, field-across, length-unpacked, packed-front, packed-take, octets-fit, unpacked-bytes, packed-zeros}
 
 -- ---- bytes as numbers
@@ -67,54 +67,54 @@ module _ (a b c : ℕ) (hb : b < 2 ^ 64) (hc : c < 2 ^ 64) where
   in-third e w t q = subst (λ (z : ℕ). ((beside a b) * 2 ^ z + c) / 2 ^ t % 2 ^ w ≡ c / 2 ^ t % 2 ^ w) q (field-below (beside a b) c e w t)
 
   -- the two delays that a word's end cuts
-  up-cut : (beside (beside a b) c) / 2 ^ 103 % 2 ^ 26 ≡ a % 2 * 33554432 + b / 549755813888 % 33554432
-  up-cut = field-high (beside a b) c 64 39 26 hc ∙ field-across a b 39 1 25 hb
+  up-cut : (beside (beside a b) c) / 2 ^ 103 % timeSpan ≡ a % 2 ^ 1 * 2 ^ upRest + b / 2 ^ 39 % 2 ^ upRest
+  up-cut = field-high (beside a b) c 64 39 timeBits hc ∙ field-across a b 39 1 upRest hb
 
-  down-cut : (beside (beside a b) c) / 2 ^ 50 % 2 ^ 26 ≡ b % 4096 * 16384 + c / 1125899906842624 % 16384
+  down-cut : (beside (beside a b) c) / 2 ^ 50 % timeSpan ≡ b % 2 ^ 12 * 2 ^ downRest + c / 2 ^ 50 % 2 ^ downRest
   down-cut =
-      let m : (beside a b) % 2 ^ 12 ≡ b % 4096 = sym (ap (λ (z : ℕ). z % 2 ^ 12) (div-one (beside a b))) ∙ field-below a b 52 12 0 ∙ ap (λ (z : ℕ). z % 4096) (div-one b) in
-      field-across (beside a b) c 50 12 14 hc ∙ ap (λ (z : ℕ). z * 16384 + c / 1125899906842624 % 16384) m
+      let m : (beside a b) % 2 ^ 12 ≡ b % 2 ^ 12 = sym (ap (λ (z : ℕ). z % 2 ^ 12) (div-one (beside a b))) ∙ field-below a b 52 12 0 ∙ ap (λ (z : ℕ). z % 2 ^ 12) (div-one b) in
+      field-across (beside a b) c 50 12 downRest hc ∙ ap (λ (z : ℕ). z * 2 ^ downRest + c / 2 ^ 50 % 2 ^ downRest) m
 
-  zero-bits : (beside (beside a b) c) / 2 ^ 0 % 2 ^ 23 ≡ c % 8388608
-  zero-bits = in-third 41 23 0 refl ∙ ap (λ (z : ℕ). z % 8388608) (div-one c)
+  zero-bits : (beside (beside a b) c) / 2 ^ 0 % restSpan ≡ c % restSpan
+  zero-bits = in-third 41 restBits 0 refl ∙ ap (λ (z : ℕ). z % restSpan) (div-one c)
 
   pub words-decode : headFrom (unpacked headWidths (beside (beside a b) c))
       ≡ record {
-        used = a / 9223372036854775808 % 2;
-        page = a / 144115188075855872 % 64;
-        whole = a / 140737488355328 % 1024;
-        fraction = a / 8796093022208 % 16;
-        link = a / 4398046511104 % 2;
-        «link_whole» = a / 4294967296 % 1024;
-        «link_fraction» = a / 268435456 % 16;
-        up = a / 134217728 % 2;
-        «up_fade» = a / 2 % 67108864;
-        «up_delay» = a % 2 * 33554432 + b / 549755813888 % 33554432;
-        down = b / 274877906944 % 2;
-        «down_fade» = b / 4096 % 67108864;
-        «down_delay» = b % 4096 * 16384 + c / 1125899906842624 % 16384;
-        followon = c / 562949953421312 % 2;
-        «followon_time» = c / 8388608 % 67108864;
-        rest = c % 8388608;
+        used = a / 2 ^ 63 % flagSpan;
+        page = a / 2 ^ 57 % pageSpan;
+        whole = a / 2 ^ 47 % wholeSpan;
+        fraction = a / 2 ^ 43 % fractionSpan;
+        link = a / 2 ^ 42 % flagSpan;
+        «link_whole» = a / 2 ^ 32 % wholeSpan;
+        «link_fraction» = a / 2 ^ 28 % fractionSpan;
+        up = a / 2 ^ 27 % flagSpan;
+        «up_fade» = a / 2 ^ 1 % timeSpan;
+        «up_delay» = a % 2 ^ 1 * 2 ^ upRest + b / 2 ^ 39 % 2 ^ upRest;
+        down = b / 2 ^ 38 % flagSpan;
+        «down_fade» = b / 2 ^ 12 % timeSpan;
+        «down_delay» = b % 2 ^ 12 * 2 ^ downRest + c / 2 ^ 50 % 2 ^ downRest;
+        followon = c / 2 ^ 49 % flagSpan;
+        «followon_time» = c / restSpan % timeSpan;
+        rest = c % restSpan;
       }
   unfolding unpacked total
   words-decode i =
       record {
-        used = in-first 63 1 i;
-        page = in-first 57 6 i;
-        whole = in-first 47 10 i;
-        fraction = in-first 43 4 i;
-        link = in-first 42 1 i;
-        «link_whole» = in-first 32 10 i;
-        «link_fraction» = in-first 28 4 i;
-        up = in-first 27 1 i;
-        «up_fade» = in-first 1 26 i;
+        used = in-first 63 flagBits i;
+        page = in-first 57 pageBits i;
+        whole = in-first 47 wholeBits i;
+        fraction = in-first 43 fractionBits i;
+        link = in-first 42 flagBits i;
+        «link_whole» = in-first 32 wholeBits i;
+        «link_fraction» = in-first 28 fractionBits i;
+        up = in-first 27 flagBits i;
+        «up_fade» = in-first 1 timeBits i;
         «up_delay» = up-cut i;
-        down = in-second 25 1 38 refl i;
-        «down_fade» = in-second 26 26 12 refl i;
+        down = in-second 25 flagBits 38 refl i;
+        «down_fade» = in-second 26 timeBits 12 refl i;
         «down_delay» = down-cut i;
-        followon = in-third 14 1 49 refl i;
-        «followon_time» = in-third 15 26 23 refl i;
+        followon = in-third 14 flagBits 49 refl i;
+        «followon_time» = in-third 15 timeBits restBits refl i;
         rest = zero-bits i;
       }
 
@@ -165,15 +165,15 @@ module _ (h : Head) (f : HeadFits h) where
   lowest : thirdWord h < 2 ^ 64
   unfolding thirdWord total
   lowest =
-      packed-lt (14 ∷ 1 ∷ 26 ∷ 23 ∷ []) (h .«down_delay» % 2 ^ 14 ∷ h .followon ∷ h .«followon_time» ∷ h .rest ∷ [])
-      (mod-lt (h .«down_delay») (pow-pos 14), (f .followon, (f .followonTime, (f .rest, tt))))
+      packed-lt (downRest ∷ flagBits ∷ timeBits ∷ restBits ∷ []) (h .«down_delay» % 2 ^ downRest ∷ h .followon ∷ h .«followon_time» ∷ h .rest ∷ [])
+      (mod-lt (h .«down_delay») (pow-pos downRest), (f .followon, (f .followonTime, (f .rest, tt))))
 
   middle : secondWord h < 2 ^ 64
   unfolding secondWord total
   middle =
-      packed-lt (25 ∷ 1 ∷ 26 ∷ 12 ∷ []) (h .«up_delay» % 2 ^ 25 ∷ h .down ∷ h .«down_fade» ∷ h .«down_delay» / 2 ^ 14 ∷ []) (
-        mod-lt (h .«up_delay») (pow-pos 25),
-        (f .down, (f .downFade, ((let g = f .downDelay in let l : h .«down_delay» / 16384 < 4096 = omega arith in l), tt))),
+      packed-lt (upRest ∷ flagBits ∷ timeBits ∷ (timeBits - downRest) ∷ []) (h .«up_delay» % 2 ^ upRest ∷ h .down ∷ h .«down_fade» ∷ h .«down_delay» / 2 ^ downRest ∷ []) (
+        mod-lt (h .«up_delay») (pow-pos upRest),
+        (f .down, (f .downFade, ((let g = f .downDelay in let l : h .«down_delay» / 2 ^ downRest < 2 ^ (timeBits - downRest) = omega arith in l), tt))),
       )
 
 -- the table, its two delays cut, is the three words
@@ -183,36 +183,36 @@ words-head h =
     let us : List ℕ =
     h .used ∷ h .page ∷ h .whole ∷ h .fraction ∷ h .link ∷ h .«link_whole» ∷ h .«link_fraction» ∷ h .up ∷ h .«up_fade» ∷ []
     in
-    let vs : List ℕ = h .«up_delay» / 2 ^ 25 ∷ h .«up_delay» % 2 ^ 25 ∷ h .down ∷ h .«down_fade» ∷ [] in
+    let vs : List ℕ = h .«up_delay» / 2 ^ upRest ∷ h .«up_delay» % 2 ^ upRest ∷ h .down ∷ h .«down_fade» ∷ [] in
     let xs : List ℕ = h .down ∷ h .«down_fade» ∷ h .«down_delay» ∷ h .followon ∷ h .«followon_time» ∷ h .rest ∷ [] in
-    let ys : List ℕ = h .«down_delay» / 2 ^ 14 ∷ h .«down_delay» % 2 ^ 14 ∷ h .followon ∷ h .«followon_time» ∷ h .rest ∷ [] in
+    let ys : List ℕ = h .«down_delay» / 2 ^ downRest ∷ h .«down_delay» % 2 ^ downRest ∷ h .followon ∷ h .«followon_time» ∷ h .rest ∷ [] in
     packed-cut-in
-    (1 ∷ 6 ∷ 10 ∷ 4 ∷ 1 ∷ 10 ∷ 4 ∷ 1 ∷ 26 ∷ [])
+    (flagBits ∷ pageBits ∷ wholeBits ∷ fractionBits ∷ flagBits ∷ wholeBits ∷ fractionBits ∷ flagBits ∷ timeBits ∷ [])
     us
-    1
-    25
-    (1 ∷ 26 ∷ 26 ∷ 1 ∷ 26 ∷ 23 ∷ [])
+    (timeBits - upRest)
+    upRest
+    (flagBits ∷ timeBits ∷ timeBits ∷ flagBits ∷ timeBits ∷ restBits ∷ [])
     (h .«up_delay»)
     xs
     refl
     ∙ packed-cut-in
-    (1 ∷ 6 ∷ 10 ∷ 4 ∷ 1 ∷ 10 ∷ 4 ∷ 1 ∷ 26 ∷ 1 ∷ 25 ∷ 1 ∷ 26 ∷ [])
+    (flagBits ∷ pageBits ∷ wholeBits ∷ fractionBits ∷ flagBits ∷ wholeBits ∷ fractionBits ∷ flagBits ∷ timeBits ∷ (timeBits - upRest) ∷ upRest ∷ flagBits ∷ timeBits ∷ [])
     (us ++ vs)
-    12
-    14
-    (1 ∷ 26 ∷ 23 ∷ [])
+    (timeBits - downRest)
+    downRest
+    (flagBits ∷ timeBits ∷ restBits ∷ [])
     (h .«down_delay»)
     (h .followon ∷ h .«followon_time» ∷ h .rest ∷ [])
     refl
     ∙ packed-append
-    (1 ∷ 6 ∷ 10 ∷ 4 ∷ 1 ∷ 10 ∷ 4 ∷ 1 ∷ 26 ∷ 1 ∷ [])
-    (25 ∷ 1 ∷ 26 ∷ 12 ∷ 14 ∷ 1 ∷ 26 ∷ 23 ∷ [])
+    (flagBits ∷ pageBits ∷ wholeBits ∷ fractionBits ∷ flagBits ∷ wholeBits ∷ fractionBits ∷ flagBits ∷ timeBits ∷ (timeBits - upRest) ∷ [])
+    (upRest ∷ flagBits ∷ timeBits ∷ (timeBits - downRest) ∷ downRest ∷ flagBits ∷ timeBits ∷ restBits ∷ [])
     (us ++ (vs ++ ys))
     ∙ ap (λ (z : ℕ). firstWord h * 2 ^ 128 + z)
     (packed-append
-    (25 ∷ 1 ∷ 26 ∷ 12 ∷ [])
-    (14 ∷ 1 ∷ 26 ∷ 23 ∷ [])
-    (h .«up_delay» % 2 ^ 25 ∷ h .down ∷ h .«down_fade» ∷ ys))
+    (upRest ∷ flagBits ∷ timeBits ∷ (timeBits - downRest) ∷ [])
+    (downRest ∷ flagBits ∷ timeBits ∷ restBits ∷ [])
+    (h .«up_delay» % 2 ^ upRest ∷ h .down ∷ h .«down_fade» ∷ ys))
 
 pub words-encode : (h : Head) → HeadFits h → encodeHead h ≡ unpacked (octets 8) (firstWord h) ++ (unpacked (octets 8) (secondWord h) ++ unpacked (octets 8) (thirdWord h))
 unfolding encodeHead total
@@ -419,10 +419,10 @@ bytes-encode h f {a} {b} {c} ea eb ec =
     ∙ sym (words-encode h f)
 
 pub patch-fields : (s : List ℕ) {n : ℕ} → n ≡ packed (octets 3) s
-    → _≡_ {A = Patch} (record { channel = n / 16384 % 1024; level = n / 64 % 256; rest = n % 64 }) (decodePatch s)
+    → _≡_ {A = Patch} (record { channel = n / 2 ^ 14 % channelSpan; level = n / 2 ^ 6 % 2 ^ 8; rest = n % 2 ^ 6 }) (decodePatch s)
 unfolding decodePatch unpacked total
 patch-fields s {n} e =
-    sym (ap (λ (z : ℕ). record { channel = n / 16384 % 1024; level = n / 64 % 256; rest = z % 64 }) (div-one n))
+    sym (ap (λ (z : ℕ). record { channel = n / 2 ^ 14 % channelSpan; level = n / 2 ^ 6 % 2 ^ 8; rest = z % 2 ^ 6 }) (div-one n))
     ∙ ap (λ (z : ℕ). patchOf (unpacked patchWidths z)) e
 
 pub patch-octets : (p : Patch) {n : ℕ} → n ≡ p .channel * 16384 + p .level * 64 + p .rest
