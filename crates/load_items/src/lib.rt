@@ -38,7 +38,7 @@ const BAD_DIMMER: u32 = 203;
 const BAD_PERCENT: u32 = 221;
 
 // A fault in one word of the lent list: its place above the condition's 14 bits.
-pub const CONDITION_SPAN: u32 = 16384;
+const CONDITION_SPAN: u32 = 16384;
 
 // ---- a field, read in the scan that finds its end
 

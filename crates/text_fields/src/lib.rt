@@ -61,7 +61,7 @@ const LAST_DELIMITER: u8 = b'@';
 // The delimiters lie between tab and `@`: bit n is set where character 9 + n is one, so that one test stands for nine.
 const DELIMITERS: u64 = 52917604867637249;
 
-pub fn is_delimiter(c: u8) -> bool
+fn is_delimiter(c: u8) -> bool
     ensures { λ r. ⌜ r ≡ isDelimiter c ⌝ }
 {
     if c < FIRST_DELIMITER {

@@ -80,7 +80,7 @@ fn grown(value: u32, radix: u32, d: u32) -> u32
     CAP
 }
 
-// The one reader of digits: every number of a stream comes through here.
+// A whole field of digits: numbers with parts, pages and submasters come through here.
 pub fn run(s: &[u8], radix: u32) -> Integer
     requires { ⌜ 0 < radix ⌝ }
     requires { ⌜ radix ≤ 16 ⌝ }

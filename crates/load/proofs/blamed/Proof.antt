@@ -1,10 +1,8 @@
+-- `blamed` meets its contract: a missing field has no place, any other the one behind its start.
+-- Assumes nothing.
 use borrow.Author.Needs.{needs}
 use Rattle.load.proofs.blamed.Statement.{statement}
 use Rattle.load.proofs.blamed.Tie as tie
-use Rattle.load.proofs.blamed.Reads as reads
-use Rattle.load.proofs.blamed.Lts as lts
-use Rattle.load.proofs.blameless.Reads as blameless-reads
-use Rattle.text_fields.proofs.is_missing.Reads as is-missing-reads
 use Rattle.load.proofs.Blames.{blamed-none, blamed-some}
 
 is-missing-requires : tie.Need-is-missing-requires

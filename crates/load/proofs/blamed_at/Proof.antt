@@ -1,10 +1,8 @@
+-- `blamed_at` meets its contract: the field that is blamed is the first word from there on.
+-- Assumes nothing.
 use borrow.Author.Needs.{needs}
 use Rattle.load.proofs.blamed_at.Statement.{statement}
 use Rattle.load.proofs.blamed_at.Tie as tie
-use Rattle.load.proofs.blamed_at.Reads as reads
-use Rattle.load.proofs.blamed_at.Lts as lts
-use Rattle.load.proofs.blamed.Reads as blamed-reads
-use Rattle.text_fields.proofs.field_at.Reads as field-at-reads
 use Rattle.load.proofs.Blames.{start-short, blamed-word}
 
 field-at-requires : tie.Need-field-at-requires
