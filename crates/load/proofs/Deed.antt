@@ -1,4 +1,4 @@
--- What a record asks for, with what holds of it: keyword by keyword, once; every law of a step is then by these seven cases.
+-- What a record asks for, with what holds of it: by what its keyword begins, once; every law of a step is then by these seven cases.
 -- Assumes nothing.
 use mathlib.Core.Path.{_≡_, refl, sym, subst}
 use mathlib.Core.Bool.{true, false}
@@ -15,8 +15,6 @@ use Rattle.store_desk.specs.declared.Kind.{Kind}
 use Rattle.store_desk.specs.declared.Kind.the-variants.{Cue, Group, Sub}
 use Rattle.store_desk.specs.Size.{Within, InRange}
 use Rattle.store_desk.specs.Name.{pagesOf, supported, okName}
-use Rattle.text_fields.specs.declared.Keyword.{Keyword}
-use Rattle.text_fields.specs.declared.Keyword.the-variants as key
 use Rattle.text_fields.specs.declared.Item.{Item}
 use Rattle.text_fields.specs.declared.Item.the-variants.{All, Cues, Groups, Patch as Patches, Subs, Local as LocalItem, Other}
 use Rattle.text_fields.specs.Words.{Word, fieldsOf, headOf, tailOf}
@@ -37,6 +35,10 @@ use Rattle.load.specs.declared.Outcome.{Outcome}
 use Rattle.load.specs.declared.Outcome.the-variants.{Blank, Passed, Obeyed, Dropped, Stopped}
 use Rattle.load.specs.declared.Secondary.{Secondary}
 use Rattle.load.specs.declared.Secondary.the-variants.{Chan, Up, Down, Followon, Link}
+use Rattle.load.specs.declared.Family.{Family}
+use Rattle.load.specs.declared.Family.the-variants.{Primary, Augments, Basic as Basically}
+use Rattle.load.specs.declared.Basic.{Basic}
+use Rattle.load.specs.declared.Basic.the-variants.{Ident, Clear, Patch, Enddata, Passed as PassedOver, Local, Unknown}
 use Rattle.load.specs.declared.Named.{Named}
 use Rattle.load.specs.declared.Named.the-variants.{Refused, Name as Accepted}
 use Rattle.load.specs.declared.Reading.{Reading}
@@ -46,7 +48,7 @@ use Rattle.load.specs.Item.{blame, blameNone, memory, page, pairsOf, tri
 use Rattle.load.specs.Ask.{Wipe, table, dimmers, Ask, rests, skips, opens, edits, items, clears, name}
 use Rattle.load.specs.Ask.{namedOf, namedAsk, primaryAsk, augments, timesOf, changeAsk, obeyedAsk, secondaryAsk, pageAt, pagedAsk, kindAsk, dimmersAsk, allAsk}
 use Rattle.load.specs.Ask.{tablePages, kindWipes, dimmerWipes, allWipes, itemAsk, triplesAsk, isThree, identOutcome}
-use Rattle.load.specs.Ask.{keywordAsk, fieldsAsk, isOverLong, askOf}
+use Rattle.load.specs.Ask.{familyOf, basicAsk, familyAsk, fieldsAsk, isOverLong, askOf}
 use Rattle.load.specs.Fits.{AllFit, highestPage}
 use Rattle.load.specs.Run.{conditionSpan, stops}
 use Rattle.load.proofs.Entries.{pairs-fit, triples-fit, pairs-few, triples-few}
@@ -231,41 +233,34 @@ module _ (d : Desk) (s : State) (ws : List Word) where
       (λ a. obeyed-deed k h e a)
       (λ a. resting (Dropped (blame w wrongSecondary)) (lit< tt))
 
--- ---- the keywords
+-- ---- the families
 pub tail-few : (ws : List Word) → length (tailOf ws) ≤ length ws
 tail-few [] = omega arith
 tail-few (w ∷ ws) = omega arith
 
 module _ (d : Desk) (s : State) where
-  keyword-deed : (k : Keyword) (w : Word) (ws : List Word) → Deed d s (length ws) (keywordAsk d s k w ws)
-  unfolding keywordAsk
-  keyword-deed key.Ident w ws = ident-deed d s (length ws) (headOf ws) (versionOf (headOf ws .chars))
-  keyword-deed key.Clear w ws = item-deed d s (length ws) (itemOf (headOf ws .chars)) w (tailOf ws)
-  keyword-deed key.Patch w ws =
+  basic-deed : (b : Basic) (w : Word) (ws : List Word) → Deed d s (length ws) (basicAsk d b w ws)
+  unfolding basicAsk
+  basic-deed Ident w ws = ident-deed d s (length ws) (headOf ws) (versionOf (headOf ws .chars))
+  basic-deed Clear w ws = item-deed d s (length ws) (itemOf (headOf ws .chars)) w (tailOf ws)
+  basic-deed Patch w ws =
       patch-deed d s (length ws) (headOf ws) (pageOf (d .«patch_pages») (headOf ws .chars)) (page-in 1 (d .«patch_pages») (omega arith) (headOf ws .chars)) (tailOf ws)
       (tail-few ws)
-  keyword-deed key.Cue w ws = primary-deed d s (length ws) Cue w ws
-  keyword-deed key.Group w ws = primary-deed d s (length ws) Group w ws
-  keyword-deed key.Sub w ws = primary-deed d s (length ws) Sub w ws
-  keyword-deed key.Chan w ws = secondary-deed d s ws (s .«open») refl Chan w
-  keyword-deed key.Up w ws = secondary-deed d s ws (s .«open») refl Up w
-  keyword-deed key.Down w ws = secondary-deed d s ws (s .«open») refl Down w
-  keyword-deed key.Followon w ws = secondary-deed d s ws (s .«open») refl Followon w
-  keyword-deed key.Link w ws = secondary-deed d s ws (s .«open») refl Link w
-  keyword-deed key.Enddata w ws = resting (Stopped _) (lit< tt)
-  keyword-deed key.Manufacturer w ws = resting Passed tt
-  keyword-deed key.Console w ws = resting Passed tt
-  keyword-deed key.Set w ws = resting Passed tt
-  keyword-deed key.Text w ws = resting Passed tt
-  keyword-deed key.Part w ws = resting Passed tt
-  keyword-deed key.Local w ws = skipping Passed tt passed-idles
-  keyword-deed key.Comment w ws = resting Passed tt
-  keyword-deed key.Unknown w ws = resting (Dropped _) (lit< tt)
+  basic-deed Enddata w ws = resting (Stopped _) (lit< tt)
+  basic-deed PassedOver w ws = resting Passed tt
+  basic-deed Local w ws = skipping Passed tt passed-idles
+  basic-deed Unknown w ws = resting (Dropped _) (lit< tt)
+
+  family-deed : (f : Family) (w : Word) (ws : List Word) → Deed d s (length ws) (familyAsk d s f w ws)
+  unfolding familyAsk
+  family-deed (Primary k) w ws = primary-deed d s (length ws) k w ws
+  family-deed (Augments e) w ws = secondary-deed d s ws (s .«open») refl e w
+  family-deed (Basically b) w ws = basic-deed b w ws
 
   pub fields-deed : (ws : List Word) → Deed d s (length (tailOf ws)) (fieldsAsk d s ws)
   unfolding fieldsAsk
   fields-deed [] = resting Blank tt
-  fields-deed (w ∷ ws) = keyword-deed (keywordOf (w .chars)) w ws
+  fields-deed (w ∷ ws) = family-deed (familyOf (keywordOf (w .chars))) w ws
 
   pub record-deed : (r : List ℕ) → Deed d s (length (tailOf (fieldsOf r))) (askOf d s r)
   unfolding askOf

@@ -47,6 +47,10 @@ use Rattle.load.specs.declared.Outcome.{Outcome}
 use Rattle.load.specs.declared.Outcome.the-variants.{Blank, Passed, Dropped, Obeyed, Stopped}
 use Rattle.load.specs.declared.Secondary.{Secondary}
 use Rattle.load.specs.declared.Secondary.the-variants.{Chan, Up, Down, Followon, Link}
+use Rattle.load.specs.declared.Family.{Family}
+use Rattle.load.specs.declared.Family.the-variants.{Primary, Augments, Basic as Basically}
+use Rattle.load.specs.declared.Basic.{Basic}
+use Rattle.load.specs.declared.Basic.the-variants.{Ident, Clear, Patch, Enddata, Passed as PassedOver, Local, Unknown}
 use Rattle.load.specs.declared.Numeral.{Numeral}
 use Rattle.load.specs.declared.Numeral.the-variants.{Wrong, Number}
 use Rattle.load.specs.declared.Named.{Named}
@@ -249,32 +253,48 @@ identOutcome w (IsVersion major minor) = cond (isThree major minor) Obeyed (Stop
 
 -- ---- the keywords
 
-unfoldable pub keywordAsk : Desk → State → Keyword → Word → List Word → Ask
-keywordAsk d s key.Ident w ws = rests (identOutcome (headOf ws) (versionOf (headOf ws .chars)))
-keywordAsk d s key.Clear w ws = clearAsk d w ws
-keywordAsk d s key.Patch w ws = patchAsk d ws
-keywordAsk d s key.Cue w ws = primaryAsk d Cue w ws
-keywordAsk d s key.Group w ws = primaryAsk d Group w ws
-keywordAsk d s key.Sub w ws = primaryAsk d Sub w ws
-keywordAsk d s key.Chan w ws = secondaryAsk d (s .key) (s .«open») Chan w ws
-keywordAsk d s key.Up w ws = secondaryAsk d (s .key) (s .«open») Up w ws
-keywordAsk d s key.Down w ws = secondaryAsk d (s .key) (s .«open») Down w ws
-keywordAsk d s key.Followon w ws = secondaryAsk d (s .key) (s .«open») Followon w ws
-keywordAsk d s key.Link w ws = secondaryAsk d (s .key) (s .«open») Link w ws
-keywordAsk d s key.Enddata w ws = rests (Stopped (blameNone 0))
-keywordAsk d s key.Manufacturer w ws = rests Passed
-keywordAsk d s key.Console w ws = rests Passed
-keywordAsk d s key.Set w ws = rests Passed
-keywordAsk d s key.Text w ws = rests Passed
-keywordAsk d s key.Part w ws = rests Passed
-keywordAsk d s key.Local w ws = skips Passed
-keywordAsk d s key.Comment w ws = rests Passed
-keywordAsk d s key.Unknown w ws = rests (Dropped (blame w unknownKeyword))
+-- what each begins: a primary record, a secondary one, or a basic one
+unfoldable pub familyOf : Keyword → Family
+familyOf key.Ident = Basically Ident
+familyOf key.Clear = Basically Clear
+familyOf key.Patch = Basically Patch
+familyOf key.Cue = Primary Cue
+familyOf key.Group = Primary Group
+familyOf key.Sub = Primary Sub
+familyOf key.Chan = Augments Chan
+familyOf key.Up = Augments Up
+familyOf key.Down = Augments Down
+familyOf key.Followon = Augments Followon
+familyOf key.Link = Augments Link
+familyOf key.Enddata = Basically Enddata
+familyOf key.Manufacturer = Basically PassedOver
+familyOf key.Console = Basically PassedOver
+familyOf key.Set = Basically PassedOver
+familyOf key.Text = Basically PassedOver
+familyOf key.Part = Basically PassedOver
+familyOf key.Local = Basically Local
+familyOf key.Comment = Basically PassedOver
+familyOf key.Unknown = Basically Unknown
+
+-- $ keywords are passed over, and what follows with them
+unfoldable pub basicAsk : Desk → Basic → Word → List Word → Ask
+basicAsk d Ident w ws = rests (identOutcome (headOf ws) (versionOf (headOf ws .chars)))
+basicAsk d Clear w ws = clearAsk d w ws
+basicAsk d Patch w ws = patchAsk d ws
+basicAsk d Enddata w ws = rests (Stopped (blameNone 0))
+basicAsk d PassedOver w ws = rests Passed
+basicAsk d Local w ws = skips Passed
+basicAsk d Unknown w ws = rests (Dropped (blame w unknownKeyword))
+
+unfoldable pub familyAsk : Desk → State → Family → Word → List Word → Ask
+familyAsk d s (Primary k) w ws = primaryAsk d k w ws
+familyAsk d s (Augments e) w ws = secondaryAsk d (s .key) (s .«open») e w ws
+familyAsk d s (Basically b) w ws = basicAsk d b w ws
 
 -- a record with no field is blank
 unfoldable pub fieldsAsk : Desk → State → List Word → Ask
 fieldsAsk d s [] = rests Blank
-fieldsAsk d s (w ∷ ws) = keywordAsk d s (keywordOf (w .chars)) w ws
+fieldsAsk d s (w ∷ ws) = familyAsk d s (familyOf (keywordOf (w .chars))) w ws
 
 -- ---- a record as received
 

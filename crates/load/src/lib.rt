@@ -83,6 +83,24 @@ pub enum Secondary {
     Link,
 }
 
+// What a keyword begins: a primary's record, a secondary's, or a basic one.
+pub enum Family {
+    Primary(Kind),
+    Augments(Secondary),
+    Basic(Basic),
+}
+
+// A basic record: one that is read, passed over, skipped with what follows, or unknown.
+pub enum Basic {
+    Ident,
+    Clear,
+    Patch,
+    Enddata,
+    Passed,
+    Local,
+    Unknown,
+}
+
 // A primary's number: its whole number and fraction, or what is wrong with it.
 pub enum Numeral {
     Wrong(Fault),

@@ -15,7 +15,6 @@ use Rattle.store_desk.specs.Size.{Within}
 use Rattle.text_records.specs.Received.{longest}
 use Rattle.text_fields.specs.declared.Field.{Field}
 use Rattle.text_fields.specs.declared.Keyword.{Keyword}
-use Rattle.text_fields.specs.declared.Keyword.the-variants as key
 use Rattle.text_fields.specs.declared.Said.{Said}
 use Rattle.text_fields.specs.Words.{Word, wordsOf, headOf, tailOf}
 use Rattle.text_fields.specs.Places.{wordsFrom, startAt, endAt, isMore, fieldAt, wordIn, wordAt}
@@ -38,7 +37,7 @@ use Rattle.load.specs.declared.Outcome.the-variants.{Blank, Dropped, Obeyed, St
 use Rattle.load.specs.Condition.{badPatchPage, identMismatch, unknownKeyword}
 use Rattle.load.specs.Item.{blame, blameNone, triplesOf, page, allDone}
 use Rattle.load.specs.Fits.{blameField}
-use Rattle.load.specs.Ask.{rests, items, triplesAsk, clearAsk, patchAsk, isThree, identOutcome, primaryAsk, secondaryAsk, keywordAsk, fieldsAsk}
+use Rattle.load.specs.Ask.{rests, items, triplesAsk, clearAsk, patchAsk, isThree, identOutcome, primaryAsk, secondaryAsk, familyOf, basicAsk, familyAsk, fieldsAsk}
 use Rattle.load.specs.Step.{nothingOpen, acted, stepOf}
 use Rattle.load.proofs.Entries.{triples-fit}
 use Rattle.load.proofs.Read.{PageIn, page-in}
@@ -49,15 +48,15 @@ use Rattle.load_naming.proofs.Fields.{head-at, tail-at}
 use Rattle.load_items.specs.Done.{mostFaults}
 use Rattle.load_items.specs.Take.{Taken, takenAs, takenOf}
 use Rattle.load_items.proofs.Done.{done-page, page-find}
-use Rattle.load_step.specs.declared.Basic.{Basic}
-use Rattle.load_step.specs.declared.Basic.the-variants.{Ident, Clear, Patch, Enddata, Unknown}
+use Rattle.load.specs.declared.Basic.{Basic}
+use Rattle.load.specs.declared.Basic.the-variants.{Ident, Clear, Patch, Enddata, Unknown}
 use Rattle.load_step.specs.declared.Did.{Did}
-use Rattle.load_step.specs.declared.Family.{Family}
-use Rattle.load_step.specs.declared.Family.the-variants.{Primary, Augments, Basic as BasicOf}
+use Rattle.load.specs.declared.Family.{Family}
+use Rattle.load.specs.declared.Family.the-variants.{Primary, Augments, Basic as BasicOf}
 use Rattle.load_step.specs.declared.Held.{Held}
 use Rattle.load_step.specs.declared.Stepped.{Stepped}
 use Rattle.load_step.specs.Held.{heldOf, HeldReady, stepping, steppedOf, ResAll, steppingAll, steppedAll}
-use Rattle.load_step.specs.Parts.{keywordIn, withHeld, didOf, DeedsAll, doingAll, didAll, familyIn, basicAsk, familyAsk}
+use Rattle.load_step.specs.Parts.{keywordIn, withHeld, didOf, DeedsAll, doingAll, didAll}
 use Rattle.load_step.proofs.Holding.{held-stays}
 use Rattle.load_step.proofs.Answers.{step-all, asked-all, held-with}
 
@@ -172,42 +171,19 @@ module _ (d : Desk) (w : Word) (ws : List Word) where
   basic-as s t fs e z = asked-all d s t fs (sym (ap (λ (x : Basic). basicAsk d x w ws) e)) z
 
 -- ---- what a keyword begins
-family-is : (d : Desk) (s : State) (k : Keyword) (w : Word) (ws : List Word) → keywordAsk d s k w ws ≡ familyAsk d s (familyIn k) w ws
-unfolding keywordAsk familyIn familyAsk basicAsk
-family-is d s key.Ident w ws = refl
-family-is d s key.Clear w ws = refl
-family-is d s key.Patch w ws = refl
-family-is d s key.Cue w ws = refl
-family-is d s key.Group w ws = refl
-family-is d s key.Sub w ws = refl
-family-is d s key.Chan w ws = refl
-family-is d s key.Up w ws = refl
-family-is d s key.Down w ws = refl
-family-is d s key.Followon w ws = refl
-family-is d s key.Link w ws = refl
-family-is d s key.Enddata w ws = refl
-family-is d s key.Manufacturer w ws = refl
-family-is d s key.Console w ws = refl
-family-is d s key.Set w ws = refl
-family-is d s key.Text w ws = refl
-family-is d s key.Part w ws = refl
-family-is d s key.Local w ws = refl
-family-is d s key.Comment w ws = refl
-family-is d s key.Unknown w ws = refl
+module _ (d : Desk) (s : State) (k : Keyword) (w : Word) (ws : List Word) {x : Family} (e : x ≡ familyOf k) where
+  family-as : {y : Family} → x ≡ y → familyAsk d s y w ws ≡ familyAsk d s (familyOf k) w ws
+  family-as h = ap (λ (z : Family). familyAsk d s z w ws) (sym h ∙ e)
 
-module _ (d : Desk) (s : State) (k : Keyword) (w : Word) (ws : List Word) {x : Family} (e : x ≡ familyIn k) where
-  family-as : {y : Family} → x ≡ y → familyAsk d s y w ws ≡ keywordAsk d s k w ws
-  family-as h = ap (λ (z : Family). familyAsk d s z w ws) (sym h ∙ e) ∙ sym (family-is d s k w ws)
-
-  pub family-primary : {kind : Kind} → x ≡ Primary kind → primaryAsk d kind w ws ≡ keywordAsk d s k w ws
+  pub family-primary : {kind : Kind} → x ≡ Primary kind → primaryAsk d kind w ws ≡ familyAsk d s (familyOf k) w ws
   unfolding familyAsk
   family-primary h = family-as h
 
-  pub family-secondary : {y : Secondary} → x ≡ Augments y → secondaryAsk d (s .key) (s .«open») y w ws ≡ keywordAsk d s k w ws
+  pub family-secondary : {y : Secondary} → x ≡ Augments y → secondaryAsk d (s .key) (s .«open») y w ws ≡ familyAsk d s (familyOf k) w ws
   unfolding familyAsk
   family-secondary h = family-as h
 
-  pub family-basic : {b : Basic} → x ≡ BasicOf b → basicAsk d b w ws ≡ keywordAsk d s k w ws
+  pub family-basic : {b : Basic} → x ≡ BasicOf b → basicAsk d b w ws ≡ familyAsk d s (familyOf k) w ws
   unfolding familyAsk
   family-basic h = family-as h
 
@@ -231,13 +207,13 @@ module _ (text : List ℕ) {start : ℕ} (e : start ≡ startAt text 0) {said : 
       }
 
   pub step-as : (d : Desk) (s : State) → start < length text
-      → keywordAsk d s (said .keyword) (keywordIn text) (wordsFrom text (said .end)) ≡ fieldsAsk d s (wordsOf 0 text)
+      → familyAsk d s (familyOf (said .keyword)) (keywordIn text) (wordsFrom text (said .end)) ≡ fieldsAsk d s (wordsOf 0 text)
   unfolding fieldsAsk
   step-as d s h =
       let m : isMore text 0 ≡ true = lt-ltb (startAt text 0) (length text) (subst (λ (n : ℕ). n < length text) e h) in
       let w : keywordIn text ≡ wordAt text 0 = words-head text 0 in
-      ap (λ (y : Said). keywordAsk d s (y .keyword) (keywordIn text) (wordsFrom text (y .end))) keyword-said
-      ∙ (λ i. keywordAsk d s (keywordOf (w i .chars)) (w i) (wordsFrom text (endAt text 0)))
+      ap (λ (y : Said). familyAsk d s (familyOf (y .keyword)) (keywordIn text) (wordsFrom text (y .end))) keyword-said
+      ∙ (λ i. familyAsk d s (familyOf (keywordOf (w i .chars))) (w i) (wordsFrom text (endAt text 0)))
       ∙ sym (ap (λ (ws : List Word). fieldsAsk d s ws) (words-some text 0 m))
 
 -- and at most forty faults

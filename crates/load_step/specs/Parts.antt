@@ -1,5 +1,5 @@
 -- What the private functions speak of: the keyword's word, the name of the open memory, answers with no faults, answers that leave open what was
--- open, and what a keyword begins. No promise above this crate names these.
+-- open. No promise above this crate names these.
 -- Assumes nothing.
 use mathlib.Core.Bool.{Bool, true, false}
 use mathlib.Core.List.{List}
@@ -9,31 +9,21 @@ use Rattle.store_desk.specs.declared.Desk.{Desk}
 use Rattle.store_desk.specs.declared.Kind.{Kind}
 use Rattle.store_desk.specs.declared.Kind.the-variants.{Cue, Group, Sub}
 use Rattle.store_desk.specs.Name.{Name}
-use Rattle.text_fields.specs.declared.Keyword.{Keyword}
-use Rattle.text_fields.specs.declared.Keyword.the-variants as key
 use Rattle.text_fields.specs.Words.{Word, headOf}
 use Rattle.text_fields.specs.Places.{wordsFrom}
-use Rattle.value.specs.Field.{versionOf}
 use Rattle.store_code.specs.Fits.{Editing}
 use Rattle.load.specs.declared.State.{State}
 use Rattle.load.specs.declared.Open.{Open}
 use Rattle.load.specs.declared.Open.the-variants.{Nothing, Skipping, Memory}
 use Rattle.load.specs.declared.Outcome.{Outcome}
-use Rattle.load.specs.declared.Outcome.the-variants.{Passed as PassedOver, Dropped, Stopped}
 use Rattle.load.specs.declared.Reading.{Reading}
 use Rattle.load.specs.declared.Reading.the-variants.{Wrong as Misread, Change}
 use Rattle.load.specs.declared.Secondary.{Secondary}
 use Rattle.load.specs.declared.Secondary.the-variants.{Chan, Up, Down, Followon, Link}
-use Rattle.load.specs.Condition.{unknownKeyword}
-use Rattle.load.specs.Item.{blame, blameNone}
-use Rattle.load.specs.Ask.{Ask, rests, skips, name, primaryAsk, secondaryAsk, clearAsk, patchAsk, identOutcome}
+use Rattle.load.specs.Ask.{name}
 use Rattle.load.specs.Step.{Step, noKey}
 use Rattle.load_items.specs.Done.{faultsIn}
-use Rattle.load_step.specs.declared.Basic.{Basic}
-use Rattle.load_step.specs.declared.Basic.the-variants.{Ident, Clear, Patch, Enddata, Passed, Local, Unknown}
 use Rattle.load_step.specs.declared.Did.{Did}
-use Rattle.load_step.specs.declared.Family.{Family}
-use Rattle.load_step.specs.declared.Family.the-variants.{Primary, Augments, Basic as BasicOf}
 use Rattle.load_step.specs.declared.Held.{Held}
 use Rattle.load_step.specs.declared.Stepped.{Stepped}
 
@@ -103,42 +93,3 @@ doingAll r t fs = record { deeds = doing r t; faults = fs }
 
 unfoldable pub didAll : Step → List ℕ → DeedsAll
 didAll x fs = record { deeds = didOf x; faults = faultsIn fs (x .faults) }
-
--- ---- what a keyword begins
-
-unfoldable pub familyIn : Keyword → Family
-familyIn key.Ident = BasicOf Ident
-familyIn key.Clear = BasicOf Clear
-familyIn key.Patch = BasicOf Patch
-familyIn key.Cue = Primary Cue
-familyIn key.Group = Primary Group
-familyIn key.Sub = Primary Sub
-familyIn key.Chan = Augments Chan
-familyIn key.Up = Augments Up
-familyIn key.Down = Augments Down
-familyIn key.Followon = Augments Followon
-familyIn key.Link = Augments Link
-familyIn key.Enddata = BasicOf Enddata
-familyIn key.Manufacturer = BasicOf Passed
-familyIn key.Console = BasicOf Passed
-familyIn key.Set = BasicOf Passed
-familyIn key.Text = BasicOf Passed
-familyIn key.Part = BasicOf Passed
-familyIn key.Local = BasicOf Local
-familyIn key.Comment = BasicOf Passed
-familyIn key.Unknown = BasicOf Unknown
-
-unfoldable pub basicAsk : Desk → Basic → Word → List Word → Ask
-basicAsk d Ident w ws = rests (identOutcome (headOf ws) (versionOf (headOf ws .chars)))
-basicAsk d Clear w ws = clearAsk d w ws
-basicAsk d Patch w ws = patchAsk d ws
-basicAsk d Enddata w ws = rests (Stopped (blameNone 0))
-basicAsk d Passed w ws = rests PassedOver
-basicAsk d Local w ws = skips PassedOver
-basicAsk d Unknown w ws = rests (Dropped (blame w unknownKeyword))
-
--- as `keywordAsk` has it, by what a keyword begins
-unfoldable pub familyAsk : Desk → State → Family → Word → List Word → Ask
-familyAsk d s (Primary k) w ws = primaryAsk d k w ws
-familyAsk d s (Augments e) w ws = secondaryAsk d (s .key) (s .«open») e w ws
-familyAsk d s (BasicOf b) w ws = basicAsk d b w ws

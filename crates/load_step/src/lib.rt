@@ -7,14 +7,16 @@ ghost use Rattle.text_fields.specs.Words.{wordsOf, headOf};
 ghost use Rattle.text_fields.specs.Places.{wordsFrom};
 ghost use Rattle.value.specs.Field.{versionOf};
 ghost use Rattle.store_code.specs.Fits.{Fitting};
-ghost use Rattle.load.specs.Ask.{name, opens, primaryAsk, changeAsk, obeyedAsk, secondaryAsk, kindAsk, dimmersAsk, kindWipes, dimmerWipes, allWipes, allAsk, clearAsk, patchAsk, identOutcome, keywordAsk};
+ghost use Rattle.load.specs.Ask.{name, opens, primaryAsk, changeAsk, obeyedAsk, secondaryAsk, kindAsk, dimmersAsk, kindWipes, dimmerWipes, allWipes, allAsk, clearAsk, patchAsk, identOutcome, familyOf, basicAsk, familyAsk};
 ghost use Rattle.load.specs.Condition.{identMismatch};
 ghost use Rattle.load.specs.Item.{blame};
 ghost use Rattle.load.specs.Step.{ended as endedStep, nothingOpen, settle, wiped, acted, stepOf};
 ghost use Rattle.load_naming.specs.Line.{Line};
 ghost use Rattle.load_items.specs.Done.{mostFaults};
 ghost use Rattle.load_step.specs.Held.{heldOf, HeldReady, Stepping, Room, stepping, steppedOf, steppingAll, steppedAll};
-ghost use Rattle.load_step.specs.Parts.{openName, IsOpen, keywordIn, resting as restingAs, endedAs, didAs, withHeld, hasItems, ReadingFits, doing, doingAll, didOf, didAll, familyIn, basicAsk};
+ghost use Rattle.load_step.specs.Parts.{openName, IsOpen, keywordIn, resting as restingAs, endedAs, didAs, withHeld, hasItems, ReadingFits, doing, doingAll, didOf, didAll};
+use load::Basic;
+use load::Family;
 use load::Fault;
 use load::Named;
 use load::Open;
@@ -431,26 +433,9 @@ fn ident(text: &[u8], at: usize) -> Outcome
 
 // ---- the step
 
-// What a keyword begins: a primary's record, a secondary's, or a basic one. Each has one place that calls it.
-enum Family {
-    Primary(Kind),
-    Augments(Secondary),
-    Basic(Basic),
-}
-
-// A basic record: one that is read, passed over, skipped with what follows, or unknown.
-enum Basic {
-    Ident,
-    Clear,
-    Patch,
-    Enddata,
-    Passed,
-    Local,
-    Unknown,
-}
-
+// What a keyword begins; each family has one place that calls it.
 fn family_of(k: Keyword) -> Family
-    ensures { λ r. ⌜ r ≡ familyIn k ⌝ }
+    ensures { λ r. ⌜ r ≡ familyOf k ⌝ }
 {
     match k {
         Keyword::Ident => Family::Basic(Basic::Ident),
@@ -516,7 +501,7 @@ fn obey(
     requires { ⌜ Line (now text) at ⌝ }
     requires { ⌜ HeldReady desk (now store) held ⌝ }
     requires { ⌜ Room (now faults) ⌝ }
-    ensures { λ r. ⌜ steppingAll r (now (store .exit)) (now (faults .exit)) ≡ steppedAll desk (acted desk (held .state) (now (store .entry)) (keywordAsk desk (held .state) k (keywordIn (now (text .entry))) (wordsFrom (now (text .entry)) at))) (now (faults .entry)) ⌝ }
+    ensures { λ r. ⌜ steppingAll r (now (store .exit)) (now (faults .exit)) ≡ steppedAll desk (acted desk (held .state) (now (store .entry)) (familyAsk desk (held .state) (familyOf k) (keywordIn (now (text .entry))) (wordsFrom (now (text .entry)) at))) (now (faults .entry)) ⌝ }
 {
     match family_of(k) {
         Family::Primary(kind) => primary(desk, kind, text, at, store),

@@ -1,5 +1,5 @@
--- One record on two desks, a smaller and a larger one: what it asks of the one has to do with what it asks of the other. Keyword by keyword,
--- once; the views, the dimmers and the end of the load are then by these cases.
+-- One record on two desks, a smaller and a larger one: what it asks of the one has to do with what it asks of the other. By what its
+-- keyword begins, once; the views, the dimmers and the end of the load are then by these cases.
 -- Assumes nothing.
 use mathlib.Core.Path.{_≡_, refl, sym, subst}
 use mathlib.Core.Bool.{Bool, true, false, cond}
@@ -11,8 +11,6 @@ use Rattle.store_desk.specs.declared.Key.{Key}
 use Rattle.store_desk.specs.declared.Kind.{Kind}
 use Rattle.store_desk.specs.declared.Kind.the-variants.{Cue, Group, Sub}
 use Rattle.store_desk.specs.Name.{Name, pagesOf, supported, okName}
-use Rattle.text_fields.specs.declared.Keyword.{Keyword}
-use Rattle.text_fields.specs.declared.Keyword.the-variants as key
 use Rattle.text_fields.specs.declared.Item.{Item}
 use Rattle.text_fields.specs.declared.Item.the-variants.{All, Cues, Groups, Patch as Patches, Subs, Local as LocalItem, Other}
 use Rattle.text_fields.specs.Words.{Word, fieldsOf, headOf, tailOf}
@@ -30,6 +28,10 @@ use Rattle.load.specs.declared.Outcome.{Outcome}
 use Rattle.load.specs.declared.Outcome.the-variants.{Passed, Dropped, Obeyed, Stopped}
 use Rattle.load.specs.declared.Secondary.{Secondary}
 use Rattle.load.specs.declared.Secondary.the-variants.{Chan, Up, Down, Followon, Link}
+use Rattle.load.specs.declared.Family.{Family}
+use Rattle.load.specs.declared.Family.the-variants.{Primary, Augments, Basic as Basically}
+use Rattle.load.specs.declared.Basic.{Basic}
+use Rattle.load.specs.declared.Basic.the-variants.{Ident, Clear, Patch, Enddata, Passed as PassedOver, Local, Unknown}
 use Rattle.load.specs.declared.Numeral.{Numeral}
 use Rattle.load.specs.declared.Named.{Named}
 use Rattle.load.specs.declared.Named.the-variants.{Refused, Name as Accepted}
@@ -39,7 +41,7 @@ use Rattle.load.specs.Condition.{badPage, unsupportedOf, wrongSecondary, badPat
 use Rattle.load.specs.Item.{blame, blameNone, memory, page, pairsOf, triplesOf}
 use Rattle.load.specs.Ask.{Wipe, table, dimmers, Ask, rests, skips, opens, edits, items, clears, name}
 use Rattle.load.specs.Ask.{namedBy, namedOf, namedAsk, primaryAsk, augments, timesOf, changeAsk, obeyedAsk, secondaryAsk, pageAt, pagedAsk}
-use Rattle.load.specs.Ask.{kindAsk, dimmersAsk, allWipes, itemAsk, triplesAsk, keywordAsk, fieldsAsk, isOverLong, askOf}
+use Rattle.load.specs.Ask.{kindAsk, dimmersAsk, allWipes, itemAsk, triplesAsk, familyOf, basicAsk, familyAsk, fieldsAsk, isOverLong, askOf}
 use Rattle.load.specs.Fits.{highestPage}
 use Rattle.load.specs.Run.{stops}
 use Rattle.theorem_rehearse.specs.Rehearse.{Larger}
@@ -221,33 +223,26 @@ module _ (d D : Desk) (l : Larger d D) (b : Name → Bool) where
     patch-both w (beyond-page p h) ws = patching-beyond (Dropped (blame w badPatchPage)) refl p h (triplesOf D ws)
     patch-both w (same-page p) ws = patching p (triples d D l ws)
 
-    keyword-both : (k : Keyword) (w : Word) (ws : List Word) → Related (keywordAsk d s k w ws) (keywordAsk D S k w ws)
-    unfolding keywordAsk
-    keyword-both key.Ident w ws = resting _ _ refl
-    keyword-both key.Clear w ws = clear-both (itemOf (headOf ws .chars)) w (tailOf ws)
-    keyword-both key.Patch w ws = patch-both (headOf ws) (pages (d .«patch_pages») (D .«patch_pages») (l .patchPages) (headOf ws .chars)) (tailOf ws)
-    keyword-both key.Cue w ws = primary-both Cue w ws
-    keyword-both key.Group w ws = primary-both Group w ws
-    keyword-both key.Sub w ws = primary-both Sub w ws
-    keyword-both key.Chan w ws = secondary-both Chan w ws
-    keyword-both key.Up w ws = secondary-both Up w ws
-    keyword-both key.Down w ws = secondary-both Down w ws
-    keyword-both key.Followon w ws = secondary-both Followon w ws
-    keyword-both key.Link w ws = secondary-both Link w ws
-    keyword-both key.Enddata w ws = resting _ _ refl
-    keyword-both key.Manufacturer w ws = resting _ _ refl
-    keyword-both key.Console w ws = resting _ _ refl
-    keyword-both key.Set w ws = resting _ _ refl
-    keyword-both key.Text w ws = resting _ _ refl
-    keyword-both key.Part w ws = resting _ _ refl
-    keyword-both key.Local w ws = skipping _ _ refl
-    keyword-both key.Comment w ws = resting _ _ refl
-    keyword-both key.Unknown w ws = resting _ _ refl
+    basic-both : (b : Basic) (w : Word) (ws : List Word) → Related (basicAsk d b w ws) (basicAsk D b w ws)
+    unfolding basicAsk
+    basic-both Ident w ws = resting _ _ refl
+    basic-both Clear w ws = clear-both (itemOf (headOf ws .chars)) w (tailOf ws)
+    basic-both Patch w ws = patch-both (headOf ws) (pages (d .«patch_pages») (D .«patch_pages») (l .patchPages) (headOf ws .chars)) (tailOf ws)
+    basic-both Enddata w ws = resting _ _ refl
+    basic-both PassedOver w ws = resting _ _ refl
+    basic-both Local w ws = skipping _ _ refl
+    basic-both Unknown w ws = resting _ _ refl
+
+    family-both : (f : Family) (w : Word) (ws : List Word) → Related (familyAsk d s f w ws) (familyAsk D S f w ws)
+    unfolding familyAsk
+    family-both (Primary k) w ws = primary-both k w ws
+    family-both (Augments e) w ws = secondary-both e w ws
+    family-both (Basically b) w ws = basic-both b w ws
 
     fields-both : (ws : List Word) → Related (fieldsAsk d s ws) (fieldsAsk D S ws)
     unfolding fieldsAsk
     fields-both [] = resting _ _ refl
-    fields-both (w ∷ ws) = keyword-both (keywordOf (w .chars)) w ws
+    fields-both (w ∷ ws) = family-both (familyOf (keywordOf (w .chars))) w ws
 
     pub record-both : (r : List ℕ) → Related (askOf d s r) (askOf D S r)
     unfolding askOf

@@ -31,7 +31,7 @@ use Rattle.load.specs.Condition.{fullOf}
 use Rattle.load.specs.Item.{rangedOf, onRanged, onLevel, pairOf, tripleOf, pairsOf, triplesOf, faultsOf, done, allDone}
 use Rattle.load.specs.Run.{stops, runFrom, loadOf, allReports}
 use Rattle.load.specs.Ask.{numberedBy, numeralOf, pageAt, namedBy, namedOf, namedAsk, primaryAsk}
-use Rattle.load.specs.Ask.{augments, obeyedAsk, secondaryAsk, triplesAsk, keywordAsk, fieldsAsk, askOf}
+use Rattle.load.specs.Ask.{augments, obeyedAsk, secondaryAsk, triplesAsk, familyOf, basicAsk, familyAsk, fieldsAsk, askOf}
 use Rattle.load.specs.Step.{openedBy, acted, recordStep, ignoredIn, outcomeReports, faultReports, conditionsOf}
 use Rattle.theorem_rehearse.specs.Rehearse.{Rehearsal, hasFull, isKept}
 use Rattle.theorem_rehearse.specs.Needs.{sized, lent, seenBy, bothSee, Fair, seen, largerFull, smallerFull, moreChannels, allHold}
@@ -42,7 +42,7 @@ pub needs : map bothSee (largerFull ∷ smallerFull ∷ moreChannels ∷ allHold
     ∷ (seen false false 1 ∷ seen false false 5 ∷ [])
     ∷ (seen false true 3 ∷ seen false true 3 ∷ [])
     ∷ []
-unfolding put span firstFrom firstSlot slotCount pagesOf supported eqKey entryOf allOf levelWidth levelsLength slotLength subSlots slotsOf patchStart entriesOf storeLength encodeHead decodeHead encodePatch decodePatch total packed unpacked lowestUnused newSeat seat blankHead blankSlot started editSlot editAt edited patched emptied slotAt putSlot entryAt putEntry headAt levelsAt levelPlace holdsAt find onFound memoryAt memoryOf patchedTo isHigh isControl isMark keptOf has isEnd terminated piecesIn piecesOf bare recordsOf upper sameText sameWord meaningOf keywordRows keywordOf isDelimiter wordsIn wordsOf fieldsOf pagedOf pageOf digitOf digitsFrom runOf integerOf numberedOf numberOf cutAt decimalsOf percentByte percentOf hexByteOf hexOf levelOf fullOf rangedOf onRanged onLevel pairOf tripleOf pairsOf triplesOf faultsOf done allDone stops runFrom loadOf allReports numberedBy numeralOf pageAt namedBy namedOf namedAsk primaryAsk augments obeyedAsk secondaryAsk triplesAsk keywordAsk fieldsAsk askOf openedBy acted recordStep ignoredIn outcomeReports faultReports conditionsOf hasFull isKept seenBy bothSee
+unfolding put span firstFrom firstSlot slotCount pagesOf supported eqKey entryOf allOf levelWidth levelsLength slotLength subSlots slotsOf patchStart entriesOf storeLength encodeHead decodeHead encodePatch decodePatch total packed unpacked lowestUnused newSeat seat blankHead blankSlot started editSlot editAt edited patched emptied slotAt putSlot entryAt putEntry headAt levelsAt levelPlace holdsAt find onFound memoryAt memoryOf patchedTo isHigh isControl isMark keptOf has isEnd terminated piecesIn piecesOf bare recordsOf upper sameText sameWord meaningOf keywordRows keywordOf isDelimiter wordsIn wordsOf fieldsOf pagedOf pageOf digitOf digitsFrom runOf integerOf numberedOf numberOf cutAt decimalsOf percentByte percentOf hexByteOf hexOf levelOf fullOf rangedOf onRanged onLevel pairOf tripleOf pairsOf triplesOf faultsOf done allDone stops runFrom loadOf allReports numberedBy numeralOf pageAt namedBy namedOf namedAsk primaryAsk augments obeyedAsk secondaryAsk triplesAsk familyAsk familyOf basicAsk fieldsAsk askOf openedBy acted recordStep ignoredIn outcomeReports faultReports conditionsOf hasFull isKept seenBy bothSee
 needs = refl
 
 -- ---- the desks are those of a rehearsal

@@ -49,7 +49,7 @@ use Rattle.load.specs.declared.Numeral.the-variants.{Number}
 use Rattle.load.specs.declared.Reading.the-variants.{Change}
 use Rattle.load.specs.Condition.{badChannel, badDimmer}
 use Rattle.load.specs.Item.{rangedOf, dimmerOf, onRanged, onLevel, pairOf, tripleOf, pairsOf, triplesOf, faultsOf, memory, page, done, allDone}
-use Rattle.load.specs.Ask.{items, name, isOverLong, askOf, fieldsAsk, keywordAsk, namedAsk, primaryAsk, changeAsk, obeyedAsk, secondaryAsk, triplesAsk}
+use Rattle.load.specs.Ask.{items, name, isOverLong, askOf, fieldsAsk, familyOf, basicAsk, familyAsk, namedAsk, primaryAsk, changeAsk, obeyedAsk, secondaryAsk, triplesAsk}
 use Rattle.load.specs.Step.{ended, opened, acted, recordStep, stepOf, ignoredIn}
 use Rattle.load.specs.Ask.{numberedBy, subBy, numeralOf, pageAt, namedBy, namedOf}
 use Rattle.load.specs.Step.{openedBy}
@@ -85,9 +85,9 @@ module _ {l : List ℕ} {xs : List (List ℕ)} (w : Line l xs) where
 
 -- ---- keywords
 keyed : (d : Desk) (s : State) (t x : List ℕ) (xs : List (List ℕ)) (qs : List ℕ) {k : Keyword} → keywordOf x ≡ k
-    → stepOf d s (spelled (x ∷ xs) qs) t ≡ acted d s t (keywordAsk d s k (word x (getD qs 0 0)) (spelled xs (drop 1 qs)))
+    → stepOf d s (spelled (x ∷ xs) qs) t ≡ acted d s t (familyAsk d s (familyOf k) (word x (getD qs 0 0)) (spelled xs (drop 1 qs)))
 unfolding fieldsAsk spelled
-keyed d s t x xs qs e = ap (λ (k : Keyword). acted d s t (keywordAsk d s k (word x (getD qs 0 0)) (spelled xs (drop 1 qs)))) e
+keyed d s t x xs qs e = ap (λ (k : Keyword). acted d s t (familyAsk d s (familyOf k) (word x (getD qs 0 0)) (spelled xs (drop 1 qs)))) e
 
 kindKeyword : Kind → Keyword
 kindKeyword Cue = key.Cue
@@ -100,8 +100,8 @@ kind-keyword Cue = refl
 kind-keyword Group = refl
 kind-keyword Sub = refl
 
-kind-ask : (d : Desk) (s : State) (k : Kind) (w : Word) (ws : List Word) → keywordAsk d s (kindKeyword k) w ws ≡ primaryAsk d k w ws
-unfolding kindKeyword keywordAsk
+kind-ask : (d : Desk) (s : State) (k : Kind) (w : Word) (ws : List Word) → familyAsk d s (familyOf (kindKeyword k)) w ws ≡ primaryAsk d k w ws
+unfolding kindKeyword familyAsk familyOf basicAsk
 kind-ask d s Cue w ws = refl
 kind-ask d s Group w ws = refl
 kind-ask d s Sub w ws = refl
@@ -275,7 +275,7 @@ module _ (d : Desk) (r : InRange d) where
           → stepOf d s (spelled (bytes "PATCH" ∷ integerText p ∷ integerText (x .channel) ∷ integerText m ∷ levelText (x .level) ∷ []) qs) t
           ≡ ended s Obeyed (patched d t p m (x .channel) (x .level))
       patch-step qs =
-          unfold keywordAsk spelled triplesOf triplesAsk faultsOf allDone done acted in
+          unfold familyAsk familyOf basicAsk spelled triplesOf triplesAsk faultsOf allDone done acted in
           (let l : p ≤ cap = omega (arith, r .patchPages .1) in
           let xs : List (List ℕ) = integerText (x .channel) ∷ integerText m ∷ levelText (x .level) ∷ [] in
           let ws : List Word = spelled xs (drop 1 (drop 1 qs)) in
@@ -302,7 +302,7 @@ module _ (d : Desk) (k : Kind) (y : Key) (t : List ℕ) where
 
   module _ (fade delay : ℕ) (hf : fade ≤ timeMax) (hd : delay ≤ timeMax) (h : hasTimes k ≡ true) where
     up-step : (qs : List ℕ) → stepOf d now (spelled (bytes "UP" ∷ timeText fade ∷ delayWords delay) qs) t ≡ ended now Obeyed (edited d t (name k y) (Up fade delay))
-    unfolding keywordAsk secondaryAsk obeyedAsk augments timesOf changeAsk acted
+    unfolding familyAsk familyOf basicAsk secondaryAsk obeyedAsk augments timesOf changeAsk acted
     up-step qs =
         keyed d now t (bytes "UP") (timeText fade ∷ delayWords delay) qs keyword-up
         ∙ ap (acted d now t)
@@ -313,7 +313,7 @@ module _ (d : Desk) (k : Kind) (y : Key) (t : List ℕ) where
     up-does = does-of (up-line fade delay hf hd) d now t now (edited d t (name k y) (Up fade delay)) up-step
 
     down-step : (qs : List ℕ) → stepOf d now (spelled (bytes "DOWN" ∷ timeText fade ∷ delayWords delay) qs) t ≡ ended now Obeyed (edited d t (name k y) (Down fade delay))
-    unfolding keywordAsk secondaryAsk obeyedAsk augments timesOf changeAsk acted
+    unfolding familyAsk familyOf basicAsk secondaryAsk obeyedAsk augments timesOf changeAsk acted
     down-step qs =
         keyed d now t (bytes "DOWN") (timeText fade ∷ delayWords delay) qs keyword-down
         ∙ ap (acted d now t)
@@ -326,7 +326,7 @@ module _ (d : Desk) (k : Kind) (y : Key) (t : List ℕ) where
   module _ (h : hasLink k ≡ true) where
     module _ (time : ℕ) (l : time ≤ timeMax) where
       followon-step : (qs : List ℕ) → stepOf d now (spelled (bytes "FOLLOWON" ∷ timeText time ∷ delayWords 0) qs) t ≡ ended now Obeyed (edited d t (name k y) (Followon time))
-      unfolding keywordAsk spelled secondaryAsk obeyedAsk augments timesOf changeAsk acted onTime
+      unfolding familyAsk familyOf basicAsk spelled secondaryAsk obeyedAsk augments timesOf changeAsk acted onTime
       followon-step qs =
           let w : Word = word (timeText time) (getD (drop 1 qs) 0 0) in
           keyed d now t (bytes "FOLLOWON") (timeText time ∷ delayWords 0) qs keyword-followon
@@ -339,7 +339,7 @@ module _ (d : Desk) (k : Kind) (y : Key) (t : List ℕ) where
 
     module _ (whole fraction : ℕ) (o : okNumber whole fraction ≡ true) where
       link-step : (qs : List ℕ) → stepOf d now (spelled (bytes "LINK" ∷ numberText whole fraction ∷ []) qs) t ≡ ended now Obeyed (edited d t (name k y) (Link whole fraction))
-      unfolding keywordAsk spelled secondaryAsk obeyedAsk augments timesOf changeAsk acted linkBy numberedBy
+      unfolding familyAsk familyOf basicAsk spelled secondaryAsk obeyedAsk augments timesOf changeAsk acted linkBy numberedBy
       link-step qs =
           let n = ok-number whole fraction o in
           let w : Word = word (numberText whole fraction) (getD (drop 1 qs) 0 0) in
@@ -353,7 +353,7 @@ module _ (d : Desk) (k : Kind) (y : Key) (t : List ℕ) where
 
   module _ (r : InRange d) (ps : List Lit) (a : AllLit d ps) where
     chan-step : (qs : List ℕ) → stepOf d now (spelled (bytes "CHAN" ∷ pairWords ps) qs) t ≡ ended now Obeyed (editedAll d t (name k y) (litEdits ps))
-    unfolding keywordAsk secondaryAsk obeyedAsk augments acted
+    unfolding familyAsk familyOf basicAsk secondaryAsk obeyedAsk augments acted
     chan-step qs =
         keyed d now t (bytes "CHAN") (pairWords ps) qs keyword-chan
         ∙ ap (acted d now t)

@@ -19,7 +19,7 @@ use Rattle.load.specs.declared.Outcome.{Outcome}
 use Rattle.load.specs.declared.Outcome.the-variants.{Obeyed, Stopped}
 use Rattle.load.specs.Item.{blameNone}
 use Rattle.store.specs.Change.{everyPage}
-use Rattle.load.specs.Ask.{pageAt, pagedAsk, allWipes, itemAsk, identOutcome, keywordAsk, fieldsAsk, askOf}
+use Rattle.load.specs.Ask.{pageAt, pagedAsk, allWipes, itemAsk, identOutcome, familyOf, basicAsk, familyAsk, fieldsAsk, askOf}
 use Rattle.load.proofs.Tables.{all-ask}
 use Rattle.load.specs.Step.{Step, ended, nothingOpen, acted, wiped, recordStep, settleBy, ignoredIn, conditionsOf, outcomeReports, faultReports}
 use Rattle.load.specs.Run.{reportsAt, stops, Run, only, andThen, runFrom, allReports, blank, passed, dropped, obeyed, classOf, eqClass, tallyOf, lastOf, closingOf, totalsOf}
@@ -28,18 +28,18 @@ use Rattle.theorem_same_show.proofs.Does.{Does}
 
 -- ---- the lines that are always the same
 pub ident-does : (d : Desk) (s : State) (t : List ℕ) → Does d s t (bytes "IDENT 3:0") s t
-unfolding recordStep askOf acted fieldsAsk keywordAsk identOutcome fieldsOf wordsOf wordsIn isDelimiter span has keptOf isHigh isControl isMark keywordOf meaningOf keywordRows sameWord sameText upper versionOf versionedOf integerOf runOf digitsFrom digitOf cutAt ignoredIn isFair
+unfolding recordStep askOf acted fieldsAsk familyAsk familyOf basicAsk identOutcome fieldsOf wordsOf wordsIn isDelimiter span has keptOf isHigh isControl isMark keywordOf meaningOf keywordRows sameWord sameText upper versionOf versionedOf integerOf runOf digitsFrom digitOf cutAt ignoredIn isFair
 ident-does d s t = record { fair = refl; quiet = refl; step = refl }
 
 pub clear-does : (d : Desk) (t : List ℕ) → Does d nothingOpen t (bytes "CLEAR ALL") nothingOpen (wiped d (allWipes d everyPage) t)
-unfolding recordStep askOf acted fieldsAsk keywordAsk itemAsk pagedAsk pageAt settleBy fieldsOf wordsOf wordsIn isDelimiter span has keptOf isHigh isControl isMark keywordOf meaningOf keywordRows sameWord sameText upper itemOf itemRows ignoredIn isFair
+unfolding recordStep askOf acted fieldsAsk familyAsk familyOf basicAsk itemAsk pagedAsk pageAt settleBy fieldsOf wordsOf wordsIn isDelimiter span has keptOf isHigh isControl isMark keywordOf meaningOf keywordRows sameWord sameText upper itemOf itemRows ignoredIn isFair
 clear-does d t = record { fair = refl; quiet = refl; step = ap (acted d nothingOpen t) (all-ask d []) }
 
 abbrev endData : Outcome
 endData = Stopped (blameNone 0)
 
 end-step : (d : Desk) (s : State) (t : List ℕ) → recordStep d s (bytes "ENDDATA") t ≡ ended s endData t
-unfolding recordStep askOf acted fieldsAsk keywordAsk fieldsOf wordsOf wordsIn isDelimiter span has keptOf isHigh isControl isMark keywordOf meaningOf keywordRows sameWord sameText upper
+unfolding recordStep askOf acted fieldsAsk familyAsk familyOf basicAsk fieldsOf wordsOf wordsIn isDelimiter span has keptOf isHigh isControl isMark keywordOf meaningOf keywordRows sameWord sameText upper
 end-step d s t = refl
 
 end-quiet : (s : State) (t : List ℕ) → conditionsOf (bytes "ENDDATA") (ended s endData t) ≡ []

@@ -26,10 +26,10 @@ use Rattle.load.specs.Condition.{isError}
 use Rattle.load.specs.Item.{rangedOf as rangedOf₂, onRanged, onLevel, pairOf, pairsOf, faultsOf, done, allDone}
 use Rattle.load.specs.Run.{stops, runFrom, loadOf, allReports, classOf, eqClass, tallyOf, lastOf, closingOf, reportWord, totalsOf}
 use Rattle.load.specs.Ask.{numberedBy, numeralOf, pageAt, namedBy, namedOf, namedAsk, primaryAsk, augments, onTime, delayOf, fadeOf, timesOf}
-use Rattle.load.specs.Ask.{changeAsk, obeyedAsk, secondaryAsk, keywordAsk, fieldsAsk, askOf}
+use Rattle.load.specs.Ask.{changeAsk, obeyedAsk, secondaryAsk, familyOf, basicAsk, familyAsk, fieldsAsk, askOf}
 use Rattle.load.specs.Step.{openedBy, acted, recordStep, ignoredIn, outcomeReports, faultReports, conditionsOf}
 use Rattle.theorem_told.specs.Edges.{edges, wantedOf, keptBy, edgeLoaded, answerOf}
 
 pub edges-hold : map answerOf edges ≡ map wantedOf edges
-unfolding put span firstFrom firstSlot slotCount pagesOf supported eqKey allOf levelWidth levelsLength slotLength subSlots slotsOf patchStart entriesOf storeLength encodeHead decodeHead total packed unpacked lowestUnused newSeat seat blankHead blankSlot started editHead withHead editSlot editAt edited hasTimes hasLink slotAt putSlot headAt levelsAt levelPlace holdsAt find onFound memoryAt memoryOf isHigh isControl isMark keptOf has isEnd terminated piecesIn piecesOf bare recordsOf upper sameText sameWord meaningOf keywordRows keywordOf isDelimiter wordsIn wordsOf fieldsOf digitOf digitsFrom runOf integerOf numberedOf numberOf cutAt decimalsOf boundedOf partOf joinOf laterOf clockOf timedOf timeOf hexByteOf hexOf levelOf isError rangedOf₂ onRanged onLevel pairOf pairsOf faultsOf done allDone stops runFrom loadOf allReports classOf eqClass tallyOf lastOf closingOf reportWord totalsOf numberedBy numeralOf pageAt namedBy namedOf namedAsk primaryAsk augments onTime delayOf fadeOf timesOf changeAsk obeyedAsk secondaryAsk keywordAsk fieldsAsk askOf openedBy acted recordStep ignoredIn outcomeReports faultReports conditionsOf keptBy edgeLoaded answerOf
+unfolding put span firstFrom firstSlot slotCount pagesOf supported eqKey allOf levelWidth levelsLength slotLength subSlots slotsOf patchStart entriesOf storeLength encodeHead decodeHead total packed unpacked lowestUnused newSeat seat blankHead blankSlot started editHead withHead editSlot editAt edited hasTimes hasLink slotAt putSlot headAt levelsAt levelPlace holdsAt find onFound memoryAt memoryOf isHigh isControl isMark keptOf has isEnd terminated piecesIn piecesOf bare recordsOf upper sameText sameWord meaningOf keywordRows keywordOf isDelimiter wordsIn wordsOf fieldsOf digitOf digitsFrom runOf integerOf numberedOf numberOf cutAt decimalsOf boundedOf partOf joinOf laterOf clockOf timedOf timeOf hexByteOf hexOf levelOf isError rangedOf₂ onRanged onLevel pairOf pairsOf faultsOf done allDone stops runFrom loadOf allReports classOf eqClass tallyOf lastOf closingOf reportWord totalsOf numberedBy numeralOf pageAt namedBy namedOf namedAsk primaryAsk augments onTime delayOf fadeOf timesOf changeAsk obeyedAsk secondaryAsk familyAsk familyOf basicAsk fieldsAsk askOf openedBy acted recordStep ignoredIn outcomeReports faultReports conditionsOf keptBy edgeLoaded answerOf
 edges-hold = refl

@@ -1,6 +1,6 @@
 -- `family_of` meets its contract, keyword by keyword.
 -- Assumes nothing.
-use Rattle.load_step.specs.Parts.{familyIn}
+use Rattle.load.specs.Ask.{familyOf}
 use borrow.Author.Needs.{needs}
 use Rattle.load_step.proofs.family_of.Statement.{statement}
 use Rattle.load_step.proofs.family_of.Tie as tie
@@ -66,83 +66,83 @@ enum-told-20 : tie.Need-enum-told-20
 enum-told-20 c = search needs
 
 returns : tie.Need-returns
-unfolding familyIn
+unfolding familyOf
 returns c = rw (c .enum-told .given .1)
 
 returns-2 : tie.Need-returns-2
-unfolding familyIn
+unfolding familyOf
 returns-2 c = rw (c .enum-told2 .given .1)
 
 returns-3 : tie.Need-returns-3
-unfolding familyIn
+unfolding familyOf
 returns-3 c = rw (c .enum-told3 .given .1)
 
 returns-4 : tie.Need-returns-4
-unfolding familyIn
+unfolding familyOf
 returns-4 c = rw (c .enum-told4 .given .1)
 
 returns-5 : tie.Need-returns-5
-unfolding familyIn
+unfolding familyOf
 returns-5 c = rw (c .enum-told5 .given .1)
 
 returns-6 : tie.Need-returns-6
-unfolding familyIn
+unfolding familyOf
 returns-6 c = rw (c .enum-told6 .given .1)
 
 returns-7 : tie.Need-returns-7
-unfolding familyIn
+unfolding familyOf
 returns-7 c = rw (c .enum-told7 .given .1)
 
 returns-8 : tie.Need-returns-8
-unfolding familyIn
+unfolding familyOf
 returns-8 c = rw (c .enum-told8 .given .1)
 
 returns-9 : tie.Need-returns-9
-unfolding familyIn
+unfolding familyOf
 returns-9 c = rw (c .enum-told9 .given .1)
 
 returns-10 : tie.Need-returns-10
-unfolding familyIn
+unfolding familyOf
 returns-10 c = rw (c .enum-told10 .given .1)
 
 returns-11 : tie.Need-returns-11
-unfolding familyIn
+unfolding familyOf
 returns-11 c = rw (c .enum-told11 .given .1)
 
 returns-12 : tie.Need-returns-12
-unfolding familyIn
+unfolding familyOf
 returns-12 c = rw (c .enum-told12 .given .1)
 
 returns-13 : tie.Need-returns-13
-unfolding familyIn
+unfolding familyOf
 returns-13 c = rw (c .enum-told13 .given .1)
 
 returns-14 : tie.Need-returns-14
-unfolding familyIn
+unfolding familyOf
 returns-14 c = rw (c .enum-told14 .given .1)
 
 returns-15 : tie.Need-returns-15
-unfolding familyIn
+unfolding familyOf
 returns-15 c = rw (c .enum-told15 .given .1)
 
 returns-16 : tie.Need-returns-16
-unfolding familyIn
+unfolding familyOf
 returns-16 c = rw (c .enum-told16 .given .1)
 
 returns-17 : tie.Need-returns-17
-unfolding familyIn
+unfolding familyOf
 returns-17 c = rw (c .enum-told17 .given .1)
 
 returns-18 : tie.Need-returns-18
-unfolding familyIn
+unfolding familyOf
 returns-18 c = rw (c .enum-told18 .given .1)
 
 returns-19 : tie.Need-returns-19
-unfolding familyIn
+unfolding familyOf
 returns-19 c = rw (c .enum-told19 .given .1)
 
 returns-20 : tie.Need-returns-20
-unfolding familyIn
+unfolding familyOf
 returns-20 c = rw (c .enum-told20 .given .1)
 
 pub family-of-spec : {M : Type 1} → statement M

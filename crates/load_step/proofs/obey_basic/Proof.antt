@@ -3,7 +3,8 @@
 use mathlib.Core.Path.{_∙_, ap}
 use Rattle.load.specs.declared.Outcome.the-variants.{Passed}
 use Rattle.load_step.specs.declared.Held.{Held}
-use Rattle.load_step.specs.Parts.{endedAs, basicAsk}
+use Rattle.load_step.specs.Parts.{endedAs}
+use Rattle.load.specs.Ask.{basicAsk}
 use Rattle.load_step.proofs.Answers.{asked-all, rests-all, skips-all}
 use Rattle.load_step.proofs.Basics.{basic-ident, basic-clear, basic-patch, basic-enddata, basic-unknown, basic-as}
 use borrow.Author.Needs.{needs}
