@@ -24,10 +24,10 @@ use Rattle.load.specs.Step.{wiped, acted, recordStep}
 use Rattle.load.specs.Fits.{AllFit}
 use Rattle.load.proofs.Deed.{WipesFit}
 use Rattle.theorem_rehearse.specs.Rehearse.{Larger}
-use Rattle.theorem_rehearse.specs.Frame.{patchesDimmer, changesDimmer, targetsDimmer}
+use Rattle.theorem_rehearse.specs.Frame.{patchesDimmer}
 use Rattle.theorem_rehearse.proofs.Items.{Triples, triple-faults, beyond-triple, same-triple, Each, none, next}
 use Rattle.theorem_rehearse.proofs.Wipes.{Wipes, dimmers-alike}
-use Rattle.theorem_rehearse.proofs.Frame.{AskFits, ask-fits, wiped-seen, ask-framed}
+use Rattle.theorem_rehearse.proofs.Frame.{changesDimmer, targetsDimmer, AskFits, ask-fits, wiped-seen, ask-framed}
 use Rattle.theorem_rehearse.proofs.Both.{Both, resting, skipping, opening, opening-beyond, patching, patching-beyond}
 use Rattle.theorem_rehearse.proofs.Both.{clearing, clearing-beyond, augmenting, record-both}
 
