@@ -1,6 +1,7 @@
 pub mod Edges
 pub mod Runs
 pub mod Tallies
+pub mod Classes
 pub mod Lent
 pub mod Untouched
 pub mod Cut
