@@ -2,6 +2,8 @@ pub mod Edges
 pub mod Runs
 pub mod Tallies
 pub mod Classes
+pub mod Closing
+pub mod Reports
 pub mod Lent
 pub mod Untouched
 pub mod Cut
