@@ -36,6 +36,7 @@ use Rattle.value.specs.Time.{timeOf}
 use Rattle.value.specs.Field.{versionOf, pageOf}
 use Rattle.store.specs.declared.Edit.{Edit}
 use Rattle.store.specs.Change.{everyPage, seat}
+use Rattle.load.specs.declared.Fault.{Fault}
 use Rattle.load.specs.declared.Entry.{Entry}
 use Rattle.load.specs.declared.Entry.the-variants.{Level, Patch as Patched, Faulty}
 use Rattle.load.specs.declared.Open.{Open}
@@ -264,6 +265,21 @@ module _ (d : Desk) (s : State) (t : List ℕ) where
   acted-told (items target es) h = tt
   acted-told (clears ws) h = tt
 
+  -- only an obeyed record has items, and so faults of its items
+  opened-faults : (k : Kind) (y : Key) (a : Found) → openedBy d k y a t .faults ≡ []
+  unfolding openedBy
+  opened-faults k y (at i) = refl
+  opened-faults k y nowhere = refl
+
+  pub acted-faults : (a : Ask) → (acted d s t a .outcome ≡ Obeyed → ⊥) → acted d s t a .faults ≡ []
+  unfolding acted
+  acted-faults (rests o) h = refl
+  acted-faults (skips o) h = refl
+  acted-faults (opens k y) h = opened-faults k y (seat d t (name k y))
+  acted-faults (edits n e) h = refl
+  acted-faults (items target es) h = absurd (h refl)
+  acted-faults (clears ws) h = refl
+
 -- ---- each condition is above 0
 unfoldable pub Above : List ℕ → Type 0
 Above [] = Unit {0}
@@ -295,16 +311,11 @@ module _ (d : Desk) (cues : 0 < d .cues) (s : State) (t : List ℕ) where
   outcome-above Obeyed h = tt
   outcome-above (Stopped f) h = one-above (ltb 0 (f .condition)) (f .condition) (λ e. ltb-true 0 (f .condition) e)
 
-  opened-above : (k : Kind) (y : Key) (a : Found) → Above (faultReports (openedBy d k y a t .faults))
-  unfolding openedBy faultReports Above
-  opened-above k y (at i) = tt
-  opened-above k y nowhere = tt
-
   faults-above : (a : Ask) → AskTold d a → Above (faultReports (acted d s t a .faults))
   unfolding acted faultReports Above
   faults-above (rests o) h = tt
   faults-above (skips o) h = tt
-  faults-above (opens k y) h = opened-above k y (seat d t (name k y))
+  faults-above (opens k y) h = subst (λ (fs : List Fault). Above (faultReports fs)) (sym (opened-faults d s t k y (seat d t (name k y)))) tt
   faults-above (edits n e) h = tt
   faults-above (items target es) h = entries-above es h
   faults-above (clears ws) h = tt

@@ -27,7 +27,7 @@ use Rattle.load.specs.declared.Outcome.the-variants.{Blank, Passed, Dropped, Ob
 use Rattle.load.specs.Ask.{isOverLong, familyOf, familyAsk, fieldsAsk, askOf}
 use Rattle.load.specs.Step.{Step, recordStep, stepOf, acted, outcomeReports, faultReports, conditionsOf, nothingOpen}
 use Rattle.load.specs.Run.{Run, Class, blank, passed, dropped, obeyed, classNumber, classOf, stops, only, andThen, runFrom, loadOf}
-use Rattle.load.proofs.Told.{OutcomeTold, by-family, over-passed, local-passed, skipped-passed, acted-told}
+use Rattle.load.proofs.Told.{OutcomeTold, by-family, over-passed, local-passed, skipped-passed, acted-told, acted-faults}
 use Rattle.theorem_told.specs.Classes.{classesOf, begins, PassedOver, over, local, skipped, ReportedWhole, ClassSaid, OverLongSaid, CleanedAlike, firstRun, AllSaid}
 
 -- ---- a class is no other
@@ -60,10 +60,10 @@ dropped-if (Stopped f) e =
 
 only-dropped : (o : Outcome) → classOf o ≡ dropped → (c : ℕ) × (outcomeReports o ≡ c ∷ [])
 unfolding outcomeReports classOf
-only-dropped Blank e = absurd (apart blank dropped (λ n. omega arith) e)
-only-dropped Passed e = absurd (apart passed dropped (λ n. omega arith) e)
+only-dropped Blank e = absurd (apart (classOf Blank) dropped (λ n. omega arith) e)
+only-dropped Passed e = absurd (apart (classOf Passed) dropped (λ n. omega arith) e)
 only-dropped (Dropped f) e = (f .condition, refl)
-only-dropped Obeyed e = absurd (apart obeyed dropped (λ n. omega arith) e)
+only-dropped Obeyed e = absurd (apart (classOf Obeyed) dropped (λ n. omega arith) e)
 only-dropped (Stopped f) e =
     by-eq (f .condition) 0
     (λ h. absurd (apart obeyed dropped (λ n. omega arith) (sym (cond-true _ _ _ (eq-eqb (f .condition) 0 h)) ∙ e)))
@@ -82,8 +82,10 @@ told-class d (Stopped f) h =
 
 -- ---- from the three others, the rest
 module _ (s : State) (r : List ℕ) (x : Step) where
-  the-rest : ((classOf (x .outcome) ≡ blank) ↔ (fieldsOf r ≡ [])) → ((classOf (x .outcome) ≡ passed) ↔ PassedOver s r) → ClassSaid s r x
-  the-rest b p =
+  the-rest : ((classOf (x .outcome) ≡ blank) ↔ (fieldsOf r ≡ [])) → ((classOf (x .outcome) ≡ passed) ↔ PassedOver s r)
+      → ((x .outcome ≡ Obeyed → ⊥) → x .faults ≡ []) → ClassSaid s r x
+  unfolding classOf
+  the-rest b p f =
       let k : Class = classOf (x .outcome) in
       let dr : (k ≡ dropped) ↔ ReportedWhole x = (only-dropped (x .outcome), dropped-if (x .outcome)) in
       record {
@@ -98,6 +100,7 @@ module _ (s : State) (r : List ℕ) (x : Step) where
           )),
           (λ h. by-class k (λ e. absurd (h .0 (b .0 e))) (λ e. absurd (h .1 (p .0 e))) (λ e. absurd (h .2 (dr .0 e))) (λ e. e)),
         );
+        apart = λ h. f (λ e. h (ap classOf e));
       }
 
 -- ---- by the fields
@@ -125,13 +128,16 @@ module _ (d : Desk) (s : State) (r t : List ℕ) where
     some-field : fieldsOf r ≡ [] → ⊥
     some-field h = let z : _≡_ {A = ℕ} 0 (suc (length ws)) = ap length (sym h ∙ e) in omega arith
 
+    no-items : (stepOf d s (w ∷ ws) t .outcome ≡ Obeyed → ⊥) → stepOf d s (w ∷ ws) t .faults ≡ []
+    no-items = acted-faults d s t (fieldsAsk d s (w ∷ ws))
+
     passed-said : PassedOver s r → ClassSaid s r (stepOf d s (w ∷ ws) t)
     unfolding classOf
     passed-said h =
         let o : classOf (stepOf d s (w ∷ ws) t .outcome) ≡ passed = ap classOf (over-is h) in
         the-rest s r _
         ((λ b. absurd (apart passed blank (λ n. omega arith) (sym o ∙ b))), (λ b. absurd (some-field b)))
-        ((λ p. h), (λ p. o))
+        ((λ p. h), (λ p. o)) no-items
 
     told-said : OutcomeTold d (stepOf d s (w ∷ ws) t .outcome) → ClassSaid s r (stepOf d s (w ∷ ws) t)
     unfolding classOf
@@ -139,13 +145,14 @@ module _ (d : Desk) (s : State) (r t : List ℕ) where
         let n = told-class d (stepOf d s (w ∷ ws) t .outcome) h in
         the-rest s r _
         ((λ b. absurd (n .0 b)), (λ b. absurd (some-field b)))
-        ((λ p. absurd (n .1 p)), (λ p. absurd (n .1 (ap classOf (over-is p)))))
+        ((λ p. absurd (n .1 p)), (λ p. absurd (n .1 (ap classOf (over-is p))))) no-items
 
   fields-said : (ws : List Word) → fieldsOf r ≡ ws → ClassSaid s r (stepOf d s ws t)
   unfolding fieldsAsk acted classOf
   fields-said [] e =
       the-rest s r _ ((λ b. e), (λ b. refl))
       ((λ p. absurd (apart blank passed (λ n. omega arith) p)), (λ p. absurd (not-over e p)))
+      (λ h. refl)
   fields-said (w ∷ ws) e =
       let f = familyOf (keywordOf (w .chars)) in
       by-family d s w ws f

@@ -19,7 +19,8 @@ use Rattle.load.specs.Run.{Run, Report, conditionSpan, stops, reportsAt, runFro
 use Rattle.load.specs.Fits.{Small}
 use Rattle.load.proofs.Counts.{record-said, load-records}
 use Rattle.load.proofs.Told.{Above, record-above}
-use Rattle.theorem_told.specs.Reports.{reportAt, numberSpan, Fits, WordSaid, NumbersSaid, ReportsSaid}
+use Rattle.theorem_told.specs.Reports.{reportAt, numberSpan, Fits, WordSaid, Reported}
+use Rattle.theorem_told.proofs.Closing.{load-closing}
 
 -- ---- numbers that never fall, from lo to hi
 abbrev Rising : ℕ → ℕ → List Report → Type 0
@@ -88,17 +89,6 @@ load-rising d t stream =
     let e : 0 + length (x .outcomes) ≡ length (x .outcomes) = omega arith in
     all-rising x (subst (λ (k : ℕ). Rising 1 k (x .reports)) e (run-rising d 0 nothingOpen t (recordsOf stream)))
 
-pub load-numbers : (d : Desk) (t stream : List ℕ) → NumbersSaid (loadOf d t stream)
-load-numbers d t stream =
-    let x = loadOf d t stream in
-    let n = length (x .outcomes) in
-    let h = load-rising d t stream in
-    record {
-      order = λ i j l g. rising-order (min 1 n) n (allReports x) i j h l g;
-      read = λ k l. rising-at (min 1 n) n (allReports x) k h l .1;
-      none = λ k l e. let a : min 1 n ≤ reportAt (allReports x) k .number = rising-at (min 1 n) n (allReports x) k h l .0 in omega arith;
-    }
-
 -- ---- what holds of each condition
 module _ (P : ℕ → Type 0) where
   abbrev Each : List Report → Type 0
@@ -157,26 +147,39 @@ word-said r h =
 
 -- ---- of a load
 module _ (d : Desk) (t stream : List ℕ) where
-  load-fits : length stream < numberSpan → (k : ℕ) → k < length (allReports (loadOf d t stream)) → Fits (reportAt (allReports (loadOf d t stream)) k)
+  abbrev reports : List Report
+  reports = allReports (loadOf d t stream)
+
+  abbrev records : ℕ
+  records = length (loadOf d t stream .outcomes)
+
+  number-at : (k : ℕ) → k < length reports → (min 1 records ≤ reportAt reports k .number) × (reportAt reports k .number ≤ records)
+  number-at k l = rising-at (min 1 records) records reports k (load-rising d t stream) l
+
+  load-fits : length stream < numberSpan → (k : ℕ) → k < length reports → Fits (reportAt reports k)
   load-fits h k l =
-      let a : reportAt (allReports (loadOf d t stream)) k .number ≤ length (loadOf d t stream .outcomes) = load-numbers d t stream .read k l in
-      let b : length (loadOf d t stream .outcomes) ≤ length stream = load-records d t stream in
+      let a : reportAt reports k .number ≤ records = number-at k l .1 in
+      let b : records ≤ length stream = load-records d t stream in
       record {
         number = omega arith;
-        condition = each-at (λ c. c < conditionSpan) (allReports (loadOf d t stream)) k
+        condition = each-at (λ c. c < conditionSpan) reports k
             (load-each (λ c. c < conditionSpan) d (λ n s r u. small-each n _ (record-said d s r u .small)) (lit< tt) t stream) l;
       }
 
-  load-above : InRange d → (k : ℕ) → k < length (allReports (loadOf d t stream)) → 0 < reportAt (allReports (loadOf d t stream)) k .condition
+  load-above : InRange d → (k : ℕ) → k < length reports → 0 < reportAt reports k .condition
   load-above h k l =
-      each-at (λ c. 0 < c) (allReports (loadOf d t stream)) k
+      each-at (λ c. 0 < c) reports k
       (load-each (λ c. 0 < c) d (λ n s r u. above-each n _ (record-above d (h .cues .0) s u r)) (lit< tt) t stream) l
 
-  pub load-reports-said : ReportsSaid d t stream
-  load-reports-said =
-      record {
-        numbers = load-numbers d t stream;
-        condition = load-above;
-        fits = load-fits;
-        words = λ h k l. word-said (reportAt (allReports (loadOf d t stream)) k) (load-fits h k l);
-      }
+  pub load-reported : Reported d stream (loadOf d t stream)
+  load-reported = (
+    record {
+      order = λ i j l g. rising-order (min 1 records) records reports i j (load-rising d t stream) l g;
+      read = λ k l. number-at k l .1;
+      none = λ k l e. let a : min 1 records ≤ reportAt reports k .number = number-at k l .0 in omega arith;
+      condition = load-above;
+      fits = load-fits;
+      words = λ h k l. word-said (reportAt reports k) (load-fits h k l);
+    },
+    load-closing d t stream,
+  )

@@ -50,12 +50,13 @@ pub data PassedOver (s : State) (r : List ℕ) : Type 0 where
 abbrev pub ReportedWhole : Step → Type 0
 ReportedWhole x = (c : ℕ) × (outcomeReports (x .outcome) ≡ c ∷ [])
 
--- of a record r of at most 80 characters, in state s, that came to x
+-- of a record r of at most 80 characters, in state s, that came to x. Only an obeyed one has items that are dropped, and so reported, apart
 pub record ClassSaid (s : State) (r : List ℕ) (x : Step) : Type 0 where
   pub blanks : (classOf (x .outcome) ≡ blank) ↔ (fieldsOf r ≡ [])
   pub passes : (classOf (x .outcome) ≡ passed) ↔ PassedOver s r
   pub drops : (classOf (x .outcome) ≡ dropped) ↔ ReportedWhole x
   pub obeys : (classOf (x .outcome) ≡ obeyed) ↔ ((fieldsOf r ≡ [] → ⊥) × (PassedOver s r → ⊥) × (ReportedWhole x → ⊥))
+  pub apart : (classOf (x .outcome) ≡ obeyed → ⊥) → x .faults ≡ []
 
 -- of a longer one: 0091 and nothing else is reported, and the load stops
 pub record OverLongSaid (r : List ℕ) (x : Step) : Type 0 where

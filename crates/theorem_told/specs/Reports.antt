@@ -9,7 +9,7 @@ use lib.ListN.{length, getD}
 use Rattle.store_desk.specs.declared.Desk.{Desk}
 use Rattle.store_desk.specs.Size.{InRange}
 use Rattle.load.specs.Condition.{isError}
-use Rattle.load.specs.Run.{Run, Report, conditionSpan, loadOf, allReports, reportWord}
+use Rattle.load.specs.Run.{Run, Report, conditionSpan, allReports, reportWord, totalsOf}
 use Rattle.theorem_told.specs.Answer.{noReport}
 
 -- report k, counted from 0
@@ -49,16 +49,18 @@ pub record WordSaid (r : Report) : Type 0 where
   pub condition : reportWord r % conditionSpan ≡ r .condition
   pub only : (q : Report) → Fits q → reportWord q ≡ reportWord r → q ≡ r
 
--- ---- of a load: its reports come in the order of the records, each under the number of a record that was read; 0 where none was
+-- ---- of a load
 
-pub record NumbersSaid (x : Run) : Type 0 where
-  pub order : (i j : ℕ) → i ≤ j → j < length (allReports x) → reportAt (allReports x) i .number ≤ reportAt (allReports x) j .number
-  pub read : (k : ℕ) → k < length (allReports x) → reportAt (allReports x) k .number ≤ length (x .outcomes)
-  pub none : (k : ℕ) → k < length (allReports x) → reportAt (allReports x) k .number ≡ 0 → length (x .outcomes) ≡ 0
+-- the reports rs of a stream of which n records were read. They come in the order of the records, each under the number of a record that
+-- was read, or 0 where none was; on a desk in range each condition is above 0. Of a stream that is not too long each report fits, so that
+-- its word says it
+pub record ReportsSaid (d : Desk) (stream : List ℕ) (n : ℕ) (rs : List Report) : Type 0 where
+  pub order : (i j : ℕ) → i ≤ j → j < length rs → reportAt rs i .number ≤ reportAt rs j .number
+  pub read : (k : ℕ) → k < length rs → reportAt rs k .number ≤ n
+  pub none : (k : ℕ) → k < length rs → reportAt rs k .number ≡ 0 → n ≡ 0
+  pub condition : InRange d → (k : ℕ) → k < length rs → 0 < reportAt rs k .condition
+  pub fits : length stream < numberSpan → (k : ℕ) → k < length rs → Fits (reportAt rs k)
+  pub words : length stream < numberSpan → (k : ℕ) → k < length rs → WordSaid (reportAt rs k)
 
--- on a desk in range each condition is above 0; of a stream that is not too long each report fits, so that its word says it
-pub record ReportsSaid (d : Desk) (t stream : List ℕ) : Type 0 where
-  pub numbers : NumbersSaid (loadOf d t stream)
-  pub condition : InRange d → (k : ℕ) → k < length (allReports (loadOf d t stream)) → 0 < reportAt (allReports (loadOf d t stream)) k .condition
-  pub fits : length stream < numberSpan → (k : ℕ) → k < length (allReports (loadOf d t stream)) → Fits (reportAt (allReports (loadOf d t stream)) k)
-  pub words : length stream < numberSpan → (k : ℕ) → k < length (allReports (loadOf d t stream)) → WordSaid (reportAt (allReports (loadOf d t stream)) k)
+abbrev pub Reported : Desk → List ℕ → Run → Type 0
+Reported d stream x = ReportsSaid d stream (length (x .outcomes)) (allReports x) × ClosingSaid (allReports x) (totalsOf x .closing)
