@@ -6,8 +6,9 @@ use mathlib.Core.List.{List, [], _∷_}
 use Prim.Native.Nat.{ℕ, zero, suc, _<_, zero-le, suc-le-suc}
 use native.Mathlib.Nat.{not-suc-le-zero, le-of-suc-le-suc}
 use native.Mathlib.Omega.{arith}
+use lib.Dec.{eqb}
 use lib.ListN.{length}
-use borrow.Author.Tests.{eq-eqb, ne-eqb}
+use borrow.Author.Tests.{ne-eqb}
 use Rattle.cells.proofs.Split.{cond-true, cond-false, not-of-false}
 use Rattle.store_desk.specs.declared.Desk.{Desk}
 use Rattle.store_desk.proofs.Size.{within}
@@ -44,15 +45,16 @@ module _ (rs : List Report) where
   unfolding closingOf
   closing-error k h =
       let e : lastOf isError 0 rs ≡ reportAt rs k .condition = last-at isError 0 rs k (h .given) (h .error) (h .later) in
-      let z : lastOf isError 0 rs ≡ 0 → ⊥ = λ n. error-some (reportAt rs k .condition) (h .error) (omega arith) in
-      cond-false _ _ _ (ne-eqb (lastOf isError 0 rs) 0 z) ∙ e
+      let z : eqb (reportAt rs k .condition) 0 ≡ false = ne-eqb (reportAt rs k .condition) 0 (error-some (reportAt rs k .condition) (h .error)) in
+      rw (closingOf, e, z)
 
   closing-warning : (k : ℕ) → NoError rs → length rs ≡ suc k → closingOf rs ≡ reportAt rs k .condition
   unfolding closingOf
   closing-warning k h l =
       let e : lastOf isError 0 rs ≡ 0 = last-none isError 0 rs h in
-      cond-true _ _ _ (eq-eqb (lastOf isError 0 rs) 0 e)
-      ∙ last-at (λ c. not (isError c)) 0 rs k (omega arith) (not-of-false _ (h k (omega arith))) (λ j a b. absurd (omega arith))
+      let w : lastOf (λ c. not (isError c)) 0 rs ≡ reportAt rs k .condition =
+      last-at (λ c. not (isError c)) 0 rs k (omega arith) (not-of-false _ (h k (omega arith))) (λ j a b. absurd (omega arith)) in
+      rw (closingOf, e, w)
 
   closing-none : rs ≡ [] → closingOf rs ≡ 0
   unfolding closingOf lastOf
