@@ -1,4 +1,5 @@
--- Writing the house small desk's show is never refused as too long (R5), whatever bytes the store holds: its stream is short enough.
+-- Writing the house small desk's show is never refused as too long (R5), whatever bytes the store holds: its stream has at most 251,647
+-- characters.
 -- Assumes nothing.
 use mathlib.Core.Path.{_≡_, sym, ap, _∙_}
 use mathlib.Core.List.{List}
@@ -11,7 +12,7 @@ use Rattle.cells.proofs.Split.{by-test}
 use Rattle.store_desk.specs.Size.{house, inRangeOf, storeLength}
 use Rattle.store.specs.Form.{goodForm}
 use Rattle.save.specs.Lines.{streamOf}
-use Rattle.save.proofs.House.{house-short}
+use Rattle.save.proofs.House.{house-most}
 use Rattle.show.specs.declared.Admission.{Admission}
 use Rattle.show.specs.declared.Written.{Written}
 use Rattle.show.specs.Calls.{mostBytes, admissionOf, WriteCall, writeReply, putCall, writeBy, writeCall, WritePromise}
@@ -38,7 +39,7 @@ write-short s out =
     by-test By (leb (storeLength house) (length s)) _ _
     (λ f.
     by-test By (goodForm house s) _ _
-    (λ g. put-short (streamOf house s) out (house-short s))
+    (λ g. put-short (streamOf house s) out (let a = house-most s in omega arith))
     (λ g q. omega arith))
     (λ f q. omega arith))
     (λ e q. omega arith)

@@ -45,7 +45,7 @@ use Rattle.load.specs.Ask.{kindAsk, dimmersAsk, allWipes, itemAsk, triplesAsk, 
 use Rattle.load.specs.Fits.{highestPage}
 use Rattle.load.specs.Run.{stops}
 use Rattle.theorem_rehearse.specs.Rehearse.{Larger}
-use Rattle.theorem_rehearse.specs.Frame.{changesDimmer, targetsDimmer}
+use Rattle.theorem_rehearse.proofs.Frame.{changesDimmer, targetsDimmer}
 use Rattle.theorem_rehearse.proofs.Fields.{by-tests, Pages, bad-pages, beyond-page, same-page, pages, pages-at, keyed}
 use Rattle.theorem_rehearse.proofs.Fields.{Numerals, wrong-numbers, beyond-number, same-number, numerals}
 use Rattle.theorem_rehearse.proofs.Fields.{not-supported, not-within, not-page, more-pages, supports, more-most}

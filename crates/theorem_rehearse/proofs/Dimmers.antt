@@ -23,19 +23,15 @@ use Rattle.load.specs.Ask.{Wipe, Ask, rests, skips, opens, items}
 use Rattle.load.specs.Step.{wiped, acted, recordStep}
 use Rattle.load.specs.Fits.{AllFit}
 use Rattle.load.proofs.Deed.{WipesFit}
-use Rattle.theorem_rehearse.specs.Rehearse.{Larger}
-use Rattle.theorem_rehearse.specs.Frame.{patchesDimmer, changesDimmer, targetsDimmer}
+use Rattle.theorem_rehearse.specs.Rehearse.{Larger, PatchedAlike}
+use Rattle.theorem_rehearse.specs.Frame.{patchesDimmer}
 use Rattle.theorem_rehearse.proofs.Items.{Triples, triple-faults, beyond-triple, same-triple, Each, none, next}
 use Rattle.theorem_rehearse.proofs.Wipes.{Wipes, dimmers-alike}
-use Rattle.theorem_rehearse.proofs.Frame.{AskFits, ask-fits, wiped-seen, ask-framed}
+use Rattle.theorem_rehearse.proofs.Frame.{changesDimmer, targetsDimmer, AskFits, ask-fits, wiped-seen, ask-framed}
 use Rattle.theorem_rehearse.proofs.Both.{Both, resting, skipping, opening, opening-beyond, patching, patching-beyond}
 use Rattle.theorem_rehearse.proofs.Both.{clearing, clearing-beyond, augmenting, record-both}
 
 module _ (d D : Desk) (l : Larger d D) (same : d .channels ≡ D .channels) where
-  -- every dimmer of the smaller, on its patch pages, is patched as on the larger
-  abbrev pub Alike : List ℕ → List ℕ → Type 0
-  Alike t T = (p q : ℕ) → Within 1 p (d .«patch_pages») → Within 1 q (d .dimmers) → patchedTo d t p q ≡ patchedTo D T p q
-
   pub wide-page : (p : ℕ) → Within 1 p (d .«patch_pages») → Within 1 p (D .«patch_pages»)
   wide-page p w = let m = l .patchPages in omega arith
 
@@ -44,7 +40,7 @@ module _ (d D : Desk) (l : Larger d D) (same : d .channels ≡ D .channels) wher
 
   -- ---- PATCH on a page of both
   triples-alike : (p : ℕ) → Within 1 p (d .«patch_pages») → {es ES : List Entry} → Each (Triples d D) es ES → AllFit d es → AllFit D ES
-      → (t T : List ℕ) → Ready d t → Ready D T → Alike t T → Alike (allDone d (page p) t es) (allDone D (page p) T ES)
+      → (t T : List ℕ) → Ready d t → Ready D T → PatchedAlike d D t T → PatchedAlike d D (allDone d (page p) t es) (allDone D (page p) T ES)
   unfolding allDone done
   triples-alike p w none f F t T r R a = a
   triples-alike p w (next triple-faults h) f F t T r R a = triples-alike p w h (f .1) (F .1) t T r R a
@@ -70,9 +66,9 @@ module _ (d D : Desk) (l : Larger d D) (same : d .channels ≡ D .channels) wher
       ∙ ap (cond (eqb p x && eqb k y) (patchEntry n v)) (a x y wx wy)
       ∙ sym (patch-view D T (R .long) (R .range) p k n v W (G .1) (G .0) (G .2) x y (wide-page x wx) (wide-dimmer y wy)))
 
-  module _ (t T : List ℕ) (r : Ready d t) (R : Ready D T) (a : Alike t T) where
+  module _ (t T : List ℕ) (r : Ready d t) (R : Ready D T) (a : PatchedAlike d D t T) where
     -- ---- CLEAR
-    wipes-alike : {xs XS : List Wipe} → Wipes d xs XS → WipesFit d xs → WipesFit D XS → Alike (wiped d xs t) (wiped D XS T)
+    wipes-alike : {xs XS : List Wipe} → Wipes d xs XS → WipesFit d xs → WipesFit D XS → PatchedAlike d D (wiped d xs t) (wiped D XS T)
     wipes-alike {xs} {XS} w f F x y wx wy =
         wiped-seen d xs f t r .dimmers x y wx wy
         ∙ (λ i. cond (dimmers-alike d w x wx i) (patchEntry 0 0) (a x y wx wy i))
@@ -81,13 +77,13 @@ module _ (d D : Desk) (l : Larger d D) (same : d .channels ≡ D .channels) wher
     module _ (s S : State) where
       -- ---- what touches no dimmer of the smaller
       calm-alike : (b B : Ask) → AskFits d s b → AskFits D S B → ((p q : ℕ) → changesDimmer b p q ≡ false)
-          → ((p q : ℕ) → Within 1 p (d .«patch_pages») → changesDimmer B p q ≡ false) → Alike (acted d s t b .store) (acted D S T B .store)
+          → ((p q : ℕ) → Within 1 p (d .«patch_pages») → changesDimmer B p q ≡ false) → PatchedAlike d D (acted d s t b .store) (acted D S T B .store)
       calm-alike b B f F g G p q wp wq =
           ask-framed d t r s b f .dimmers p q wp wq (g p q)
           ∙ a p q wp wq
           ∙ sym (ask-framed D T R S B F .dimmers p q (wide-page p wp) (wide-dimmer q wq) (G p q wp))
 
-      alike : {b B : Ask} → Both d D (λ n. false) s S b B → AskFits d s b → AskFits D S B → Alike (acted d s t b .store) (acted D S T B .store)
+      alike : {b B : Ask} → Both d D (λ n. false) s S b B → AskFits d s b → AskFits D S B → PatchedAlike d D (acted d s t b .store) (acted D S T B .store)
       unfolding acted wiped changesDimmer targetsDimmer
       alike (resting o O e) f F = a
       alike (skipping o O e) f F = a
@@ -101,6 +97,6 @@ module _ (d D : Desk) (l : Larger d D) (same : d .channels ≡ D .channels) wher
       alike (clearing-beyond o e w) f F = wipes-alike w tt F
       alike (augmenting {a = b} {A = B} c C x) f F = calm-alike b B f F (c .0) (λ p q wp. C .0 p q)
 
-      pub record-alike : (x : List ℕ) → Alike (recordStep d s x t .store) (recordStep D S x T .store)
+      pub record-alike : (x : List ℕ) → PatchedAlike d D (recordStep d s x t .store) (recordStep D S x T .store)
       unfolding recordStep
       record-alike x = alike (record-both d D l (λ n. false) s S x) (ask-fits d s x) (ask-fits D S x)

@@ -29,15 +29,39 @@ use Rattle.store.proofs.Patches.{clear-patch-view, clear-patch-memory, clear-pa
 use Rattle.load.specs.declared.Entry.{Entry}
 use Rattle.load.specs.declared.Entry.the-variants.{Level, Patch, Faulty}
 use Rattle.load.specs.declared.State.{State}
-use Rattle.load.specs.Item.{memory, page, done, allDone}
+use Rattle.load.specs.Item.{Target, memory, page, done, allDone}
 use Rattle.load.specs.Ask.{Wipe, table, dimmers, Ask, rests, skips, opens, edits, items, clears, name, askOf}
 use Rattle.load.specs.Step.{wiped, openedBy, acted, recordStep}
 use Rattle.load.specs.Fits.{AllFit}
 use Rattle.load.proofs.Read.{ChangeOk}
 use Rattle.load.proofs.Deed.{WipesFit, Deed, resting, skipping, opening, editing, setting, patching, clearing, record-deed}
-use Rattle.load.proofs.Steps.{level-ready, untouched}
-use Rattle.theorem_rehearse.specs.Frame.{wipesMemory, targetsMemory, changesMemory, patchesDimmer, wipesDimmers, targetsDimmer, changesDimmer}
-use Rattle.theorem_rehearse.specs.Frame.{Framed, Frame, NamesOpen, Own, Quiet, Idle}
+use Rattle.load.proofs.Steps.{level-ready}
+use Rattle.theorem_rehearse.specs.Frame.{wipesMemory, wipesDimmers, patchesDimmer, Framed, OnlyMemory, OnlyDimmers, NamesOpen, Frame}
+
+-- ---- what an ask may change, for all forms at once
+unfoldable pub targetsMemory : Target → Name → Bool
+targetsMemory (memory n) m = eqName m n
+targetsMemory (page p) m = false
+
+unfoldable pub changesMemory : Ask → Name → Bool
+changesMemory (rests o) m = false
+changesMemory (skips o) m = false
+changesMemory (opens k key) m = eqName m (name k key)
+changesMemory (edits n e) m = eqName m n
+changesMemory (items target es) m = targetsMemory target m
+changesMemory (clears ws) m = wipesMemory ws m
+
+unfoldable pub targetsDimmer : Target → List Entry → ℕ → ℕ → Bool
+targetsDimmer (memory n) es p q = false
+targetsDimmer (page on) es p q = eqb on p && patchesDimmer es q
+
+unfoldable pub changesDimmer : Ask → ℕ → ℕ → Bool
+changesDimmer (rests o) p q = false
+changesDimmer (skips o) p q = false
+changesDimmer (opens k key) p q = false
+changesDimmer (edits n e) p q = false
+changesDimmer (items target es) p q = targetsDimmer target es p q
+changesDimmer (clears ws) p q = wipesDimmers ws p
 
 -- ---- what holds of an ask, by its form
 abbrev pub AskFits : Desk → State → Ask → Type 0
@@ -76,16 +100,13 @@ cond-or : {A : Type 0} (a b : Bool) (x y : A) → cond b x (cond a x y) ≡ cond
 cond-or true b x y = cond-same b x
 cond-or false b x y = refl
 
-abbrev pub noDimmer : ℕ → ℕ → Bool
-noDimmer p q = false
-
 module _ (d : Desk) where
   pub framed-same : (t : List ℕ) {f : Name → Bool} {g : ℕ → ℕ → Bool} → Framed d t t f g
   framed-same t = record { memories = λ m e. refl; dimmers = λ p q wp wq e. refl; beyond = refl }
 
   -- ---- a primary, a change, levels
   module _ (t : List ℕ) (r : Ready d t) where
-    pub start-framed : (n : Name) → okName d n ≡ true → (i : ℕ) → seat d t n ≡ at i → Framed d t (started d t n) (λ m. eqName m n) noDimmer
+    pub start-framed : (n : Name) → okName d n ≡ true → (i : ℕ) → seat d t n ≡ at i → OnlyMemory d t (started d t n) n
     start-framed n o i e =
         record {
           memories = λ m f. start-view d t r n o i e m ∙ cond-false (eqName m n) (kept (blankMemory d (n .key))) (memoryOf d t m) f;
@@ -94,12 +115,12 @@ module _ (d : Desk) where
         }
 
     opened-framed : (k : Kind) (y : Key) → okName d (name k y) ≡ true → (a : Found) → seat d t (name k y) ≡ a
-        → Framed d t (openedBy d k y a t .store) (λ m. eqName m (name k y)) noDimmer
+        → OnlyMemory d t (openedBy d k y a t .store) (name k y)
     unfolding openedBy
     opened-framed k y o (at i) e = start-framed (name k y) o i e
     opened-framed k y o nowhere e = framed-same t
 
-    pub edit-framed : (n : Name) (e : Edit) → EditFits e → Framed d t (edited d t n e) (λ m. eqName m n) noDimmer
+    pub edit-framed : (n : Name) (e : Edit) → EditFits e → OnlyMemory d t (edited d t n e) n
     edit-framed n e g =
         record {
           memories =
@@ -108,7 +129,7 @@ module _ (d : Desk) where
           beyond = edit-tail d t r n e g;
         }
 
-  levels-framed : (n : Name) (es : List Entry) (t : List ℕ) → Ready d t → Framed d t (allDone d (memory n) t es) (λ m. eqName m n) noDimmer
+  levels-framed : (n : Name) (es : List Entry) (t : List ℕ) → Ready d t → OnlyMemory d t (allDone d (memory n) t es) n
   unfolding allDone done
   levels-framed n [] t r = framed-same t
   levels-framed n (Level c v ∷ es) t r =
@@ -124,7 +145,7 @@ module _ (d : Desk) where
 
   -- ---- PATCH
   triples-framed : (p : ℕ) → Within 1 p (d .«patch_pages») → (es : List Entry) → AllFit d es → (t : List ℕ) → Ready d t
-      → Framed d t (allDone d (page p) t es) (λ m. false) (λ x y. eqb p x && patchesDimmer es y)
+      → OnlyDimmers d t (allDone d (page p) t es) p (patchesDimmer es)
   unfolding allDone done patchesDimmer
   triples-framed p w [] f t r = framed-same t
   triples-framed p w (Level n v ∷ es) f t r = triples-framed p w es (f .1) t r
@@ -196,24 +217,23 @@ module _ (d : Desk) where
   ask-framed t r s (items (page p) es) f = triples-framed p (f .0) es (f .1) t r
   ask-framed t r s (clears xs) f = wipes-framed xs t (wiped-seen xs f t r)
 
-pub framed : (d : Desk) (t : List ℕ) (s : State) (x : List ℕ) → Frame d t s x
-unfolding recordStep
-framed d t s x r = ask-framed d t r s (askOf d s x) (ask-fits d s x)
+module _ (d : Desk) (t : List ℕ) (s : State) (x : List ℕ) where
+  abbrev Given : Ask → Type 0
+  Given a = AskFits d s a × (Ready d t → Framed d t (recordStep d s x t .store) (changesMemory a) (changesDimmer a))
 
-pub own : (d : Desk) (s : State) (x : List ℕ) → Own d s x
-own d s x =
-    record {
-      change = λ n e h. subst (AskFits d s) h (ask-fits d s x) .0;
-      levels = λ n es h. subst (AskFits d s) h (ask-fits d s x) .0;
-    }
+  given : (a : Ask) → askOf d s x ≡ a → Given a
+  unfolding recordStep
+  given a h = subst Given h (ask-fits d s x, λ r. ask-framed d t r s (askOf d s x) (ask-fits d s x))
 
-pub quiet : (d : Desk) (t : List ℕ) (s : State) (x : List ℕ) → Quiet d t s x
-unfolding recordStep acted
-quiet d t s x =
-    record {
-      resting = λ o h. ap (λ (a : Ask). acted d s t a .store) h;
-      skipping = λ o h. ap (λ (a : Ask). acted d s t a .store) h;
-    }
-
-pub idle : (d : Desk) (t : List ℕ) (s : State) (x : List ℕ) → Idle d t s x
-idle d t s x = untouched d s x t
+  pub framed : Frame d t s x
+  unfolding recordStep acted changesMemory targetsMemory changesDimmer targetsDimmer
+  framed =
+      record {
+        opens = λ k y h. given (opens k y) h .1;
+        edits = λ n e h. (given (edits n e) h .0 .0, given (edits n e) h .1);
+        pairs = λ n es h. (given (items (memory n) es) h .0 .0, given (items (memory n) es) h .1);
+        triples = λ p es h. given (items (page p) es) h .1;
+        clears = λ ws h. given (clears ws) h .1;
+        rests = λ o h. ap (λ (a : Ask). acted d s t a .store) h;
+        skips = λ o h. ap (λ (a : Ask). acted d s t a .store) h;
+      }

@@ -21,9 +21,9 @@ use Rattle.load.specs.Condition.{noEnddata}
 use Rattle.load.specs.Ask.{isOverLong}
 use Rattle.load.specs.Step.{Step, noKey, nothingOpen, ignoredIn, outcomeReports, faultReports, conditionsOf, recordStep}
 use Rattle.load.specs.Run.{Report, Run, reportsAt, allReports}
-use Rattle.theorem_rehearse.specs.Rehearse.{Rehearsal, loaded, isFull, hasFull, HadRoom, Ships, Complete, SamePatch, Rehearsed}
+use Rattle.theorem_rehearse.specs.Rehearse.{Rehearsal, loaded, isFull, hasFull, HadRoom, Ships, Complete, PatchedAlike, SamePatch, Rehearsed}
 use Rattle.theorem_rehearse.proofs.Runs.{Steps, loads}
-use Rattle.theorem_rehearse.proofs.Dimmers.{Alike, wide-page, wide-dimmer, record-alike}
+use Rattle.theorem_rehearse.proofs.Dimmers.{wide-page, wide-dimmer, record-alike}
 use Rattle.theorem_rehearse.proofs.Views.{keeps, Views, Beside, beside-none, beside-same, beside-kept, beside-agrees, beside-back}
 use Rattle.theorem_rehearse.proofs.Clears.{keeps-ok}
 use Rattle.theorem_rehearse.proofs.Opens.{nothing-open}
@@ -124,7 +124,7 @@ module _ (d D : Desk) (s S : List ℕ) (h : Rehearsal d D s S) where
     -- ---- part three
     pub same-patches : SamePatch d D (loaded d s stream) (loaded D S stream)
     same-patches c =
-        loads d D (h .larger) (λ a t A T. Alike d D (h .larger) c t T) (λ xs XS. Unit {0}) (λ a b A B p. (tt, tt))
+        loads d D (h .larger) (λ a t A T. PatchedAlike d D t T) (λ xs XS. Unit {0}) (λ a b A B p. (tt, tt))
         (λ n r a t A T g G i p. record-alike d D (h .larger) c t T g G i a A r)
         (emptied d s) (emptied D S) small-ready large-ready
         (λ p q wp wq.

@@ -24,7 +24,7 @@ use Rattle.load.specs.Item.{blameNone, memory, page, allDone}
 use Rattle.load.specs.Ask.{Ask, rests, items, name}
 use Rattle.load.specs.Step.{Step, noKey, settle, wiped, openedBy, acted, recordStep}
 use Rattle.theorem_rehearse.specs.Rehearse.{Larger, isFull, isKept}
-use Rattle.theorem_rehearse.specs.Frame.{changesMemory, targetsMemory, changesDimmer, targetsDimmer}
+use Rattle.theorem_rehearse.proofs.Frame.{changesMemory, targetsMemory, changesDimmer, targetsDimmer}
 use Rattle.theorem_rehearse.proofs.Frame.{AskFits, ask-fits, edit-framed, ask-framed}
 use Rattle.theorem_rehearse.proofs.Views.{keeps, Views, beside-same}
 use Rattle.theorem_rehearse.proofs.Views.{start-both, start-right, start-keeps, change-agrees}

@@ -33,9 +33,9 @@ use Rattle.load.specs.Fits.{AllFit}
 use Rattle.load.proofs.Read.{NoLevel}
 use Rattle.load.proofs.Steps.{level-ready}
 use Rattle.theorem_rehearse.specs.Rehearse.{Larger, isKept, Agrees}
-use Rattle.theorem_rehearse.specs.Frame.{Framed}
+use Rattle.theorem_rehearse.specs.Frame.{OnlyMemory}
 use Rattle.theorem_rehearse.proofs.Items.{Pairs, pair-faults, beyond-channel, same-level, Each, none, next}
-use Rattle.theorem_rehearse.proofs.Frame.{noDimmer, framed-same, start-framed, edit-framed}
+use Rattle.theorem_rehearse.proofs.Frame.{framed-same, start-framed, edit-framed}
 
 abbrev pub keeps : Desk → List ℕ → Name → Bool
 keeps d t n = isKept (memoryOf d t n)
@@ -189,7 +189,7 @@ module _ (d D : Desk) (l : Larger d D) (Lost : Name → Type 0) where
 
   module _ (t T : List ℕ) (r : Ready d t) (R : Ready D T) (v : Views t T) (n : Name) where
     -- where only the memory of one name changes
-    views-at : (u U : List ℕ) → Framed d t u (λ m. eqName m n) noDimmer → Framed D T U (λ m. eqName m n) noDimmer
+    views-at : (u U : List ℕ) → OnlyMemory d t u n → OnlyMemory D T U n
         → Beside d (Lost n) (memoryOf d u n) (memoryOf D U n) → Views u U
     views-at u U f F h m =
         by-bool (eqName m n)
@@ -223,7 +223,7 @@ module _ (d D : Desk) (l : Larger d D) (Lost : Name → Type 0) where
         (beside-right d (Lost n) (editMemory D (Level channel w)) (beyond-agrees d D l channel w h) (memoryOf d t n) (memoryOf D T n) (v n)))
 
     -- or a memory that the smaller does not keep
-    pub skipped : (U : List ℕ) → Framed D T U (λ m. eqName m n) noDimmer → keeps D U n ≡ keeps D T n → keeps d t n ≡ false → Views t U
+    pub skipped : (U : List ℕ) → OnlyMemory D T U n → keeps D U n ≡ keeps D T n → keeps d t n ≡ false → Views t U
     skipped U F e k = views-at t U (framed-same d t) F (beside-alone d (Lost n) (memoryOf d t n) (memoryOf D T n) (memoryOf D U n) k e (v n))
 
   pub levels-both : (n : Name) {es ES : List Entry} → Each (Pairs d D) es ES → AllFit d es → (t T : List ℕ) → Ready d t → Ready D T → Views t T

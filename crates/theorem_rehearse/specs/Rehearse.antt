@@ -79,24 +79,28 @@ Agrees d m M = (M .head ≡ m .head) × (take (levelsLength d) (M .levels) ≡ m
 abbrev pub Carries : Desk → Desk → List ℕ → List ℕ → Type 0
 Carries d D t T = (n : Name) (m : Memory) → memoryOf d t n ≡ kept m → (M : Memory) × (memoryOf D T n ≡ kept M) × Agrees d m M
 
+-- the smaller keeps exactly those of the larger's memories that lie within its limits: its kind supported, its page and number in range
+abbrev pub KeepsWithin : Desk → Desk → List ℕ → List ℕ → Type 0
+KeepsWithin d D t T = (n : Name) → isKept (memoryOf d t n) ≡ (okName d n && isKept (memoryOf D T n))
+
+-- every dimmer of the smaller, on the smaller's patch pages, is patched as on the larger
+abbrev pub PatchedAlike : Desk → Desk → List ℕ → List ℕ → Type 0
+PatchedAlike d D t T =
+    (page dimmer : ℕ) → Within 1 page (d .«patch_pages») → Within 1 dimmer (d .dimmers) → patchedTo d t page dimmer ≡ patchedTo D T page dimmer
+
 -- ---- the three parts, of the loads x on the smaller desk d and X on the larger desk D
 
 -- if the larger had room, it carries all that the smaller keeps
 abbrev pub Ships : Desk → Desk → Run → Run → Type 0
 Ships d D x X = HadRoom X → Carries d D (x .store) (X .store)
 
--- if both had room, the smaller keeps exactly those of the larger's memories that lie within its limits: its kind supported, its page
--- and number in range
+-- if both had room, the smaller keeps what lies within its limits
 abbrev pub Complete : Desk → Desk → Run → Run → Type 0
-Complete d D x X =
-    HadRoom X → HadRoom x → (n : Name) → isKept (memoryOf d (x .store) n) ≡ (okName d n && isKept (memoryOf D (X .store) n))
+Complete d D x X = HadRoom X → HadRoom x → KeepsWithin d D (x .store) (X .store)
 
--- if both have equally many channels, every dimmer of the smaller, on the smaller's patch pages, is patched as on the larger
+-- if both have equally many channels, they are patched alike
 abbrev pub SamePatch : Desk → Desk → Run → Run → Type 0
-SamePatch d D x X =
-    d .channels ≡ D .channels
-    → (page dimmer : ℕ) → Within 1 page (d .«patch_pages») → Within 1 dimmer (d .dimmers)
-    → patchedTo d (x .store) page dimmer ≡ patchedTo D (X .store) page dimmer
+SamePatch d D x X = d .channels ≡ D .channels → PatchedAlike d D (x .store) (X .store)
 
 -- demand 3
 abbrev pub Rehearsed : Desk → Desk → List ℕ → List ℕ → Type 0
