@@ -14,7 +14,7 @@ use Rattle.store_head.specs.Pack.{Bytes}
 use Rattle.store.specs.Good.{Ready}
 use Rattle.store.specs.Slots.{find}
 use Rattle.load.specs.declared.Totals.{Totals}
-use Rattle.load.specs.Run.{Run, loadOf, totalsOf, storedIn, allReports}
+use Rattle.load.specs.Run.{loadOf, totalsOf, storedIn, allReports}
 use Rattle.save.specs.Lines.{streamOf}
 use Rattle.show.specs.declared.Admission.the-variants.{Admitted}
 use Rattle.show.specs.declared.Loaded.{Loaded}

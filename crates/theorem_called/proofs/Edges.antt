@@ -2,7 +2,7 @@
 -- of just the length of the reports holds them all.
 -- Assumes nothing.
 use mathlib.Core.Path.{_≡_, refl, sym, ap, _∙_}
-use mathlib.Core.Bool.{true}
+use mathlib.Core.Bool.{Bool, true, _&&_}
 use mathlib.Core.List.{List, [], _∷_, map}
 use Prim.Native.Nat.{ℕ, zero, _≤_}
 use native.Mathlib.Omega.{arith}
@@ -11,6 +11,7 @@ use lib.ListN.{length, drop, replicate, getD, length-map, length-replicate}
 use lib.Seq.{take-all}
 use borrow.Author.Tests.{leb-true}
 use Rattle.cells.specs.Put.{put}
+use Rattle.cells.proofs.Split.{and-left, and-right}
 use Rattle.store_desk.specs.Size.{InRange, allOf, inRangeOf, storeLength}
 use Rattle.store_desk.proofs.Size.{in-range}
 use Rattle.store.specs.View.{memoryOf}
@@ -65,48 +66,27 @@ module _ (e : Edge) (r : InRange (e .desk)) (short : length (e .stream) ≤ most
 -- ---- the rows
 
 -- of each row the desk is in range and the stream is short
-Short : List Edge → Type 0
-Short [] = Unit {0}
-Short (e ∷ es) = ((inRangeOf (e .desk) ≡ true) × (leb (length (e .stream)) mostBytes ≡ true)) × Short es
+inReach : Edge → Bool
+inReach e = inRangeOf (e .desk) && leb (length (e .stream)) mostBytes
 
-rows-called : (es : List Edge) → Short es → map answerOf es ≡ map wantedOf es → map edgeCalled es ≡ map edgeWanted es
-unfolding Short
+allReach : List Edge → Bool
+allReach [] = true
+allReach (e ∷ es) = inReach e && allReach es
+
+rows-called : (es : List Edge) → allReach es ≡ true → map answerOf es ≡ map wantedOf es → map edgeCalled es ≡ map edgeWanted es
+unfolding inReach allReach
 rows-called [] s h = refl
 rows-called (e ∷ es) s h =
-    let f = row-called e (in-range (e .desk) (s .0 .0)) (leb-true _ _ (s .0 .1)) (ap (λ (l : List (List (List ℕ))). getD l 0 []) h) in
-    let g = rows-called es (s .1) (ap (λ (l : List (List (List ℕ))). drop 1 l) h) in
-    ap (λ (l : List (List ℕ)). l ∷ map edgeCalled es) f ∙ ap (λ (l : List (List (List ℕ))). edgeWanted e ∷ l) g
+    let a = and-left (inReach e) (allReach es) s in
+    let r = and-left (inRangeOf (e .desk)) (leb (length (e .stream)) mostBytes) a in
+    let l = and-right (inRangeOf (e .desk)) (leb (length (e .stream)) mostBytes) a in
+    let f = row-called e (in-range (e .desk) r) (leb-true _ _ l) (ap (λ (z : List (List (List ℕ))). getD z 0 []) h) in
+    let g = rows-called es (and-right (inReach e) (allReach es) s) (ap (λ (z : List (List (List ℕ))). drop 1 z) h) in
+    (λ i. f i ∷ g i)
 
-edges-short : Short edges
-unfolding Short inRangeOf allOf
-edges-short = (
-  (refl, refl),
-  (
-    (refl, refl),
-    (
-      (refl, refl),
-      (
-        (refl, refl),
-        (
-          (refl, refl),
-          (
-            (refl, refl),
-            (
-              (refl, refl),
-              (
-                (refl, refl),
-                (
-                  (refl, refl),
-                  ((refl, refl), ((refl, refl), ((refl, refl), tt))),
-                ),
-              ),
-            ),
-          ),
-        ),
-      ),
-    ),
-  ),
-)
+edges-reach : allReach edges ≡ true
+unfolding inReach allReach inRangeOf allOf
+edges-reach = refl
 
 pub edges-called : EdgesCalled
-edges-called = rows-called edges edges-short edges-hold
+edges-called = rows-called edges edges-reach edges-hold
