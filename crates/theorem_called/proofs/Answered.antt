@@ -195,7 +195,7 @@ load-ready d t stream h = run-ready d 0 nothingOpen t (recordsOf stream) h
 pub put-whole : (t xs : List ℕ) → length t ≤ length xs → put t 0 xs ≡ xs
 put-whole t xs h = put-zero t xs ∙ ap (λ (z : List ℕ). xs ++ z) (drop-of-length-le t h) ∙ append-nil xs
 
--- of just the length that the desk needs
+-- zeros of just the length that the desk needs are in good form
 pub zeros-ready : (d : Desk) → InRange d → Ready d (replicate (storeLength d) 0)
 unfolding emptied
 zeros-ready d r =

@@ -60,7 +60,8 @@ module _ (e : Edge) (r : InRange (e .desk)) (short : length (e .stream) ≤ most
   row-called : edgeCalled e ≡ edgeWanted e
   unfolding edgeCalled edgeLoaded totalsOf
   row-called =
-      ap shown (load-answers (e .desk) (replicate (storeLength (e .desk)) 0) (replicate (length (e .reports)) 0) (e .stream) (zeros-ready (e .desk) r) short)
+      ap shown
+      (load-answers (e .desk) (replicate (storeLength (e .desk)) 0) (replicate (length (e .reports)) 0) (e .stream) (zeros-ready (e .desk) r) short)
       ∙ (λ i. (0 ∷ row-count i ∷ row-told i) ∷ row-list i ∷ row-kept i ∷ [])
 
 -- ---- the rows

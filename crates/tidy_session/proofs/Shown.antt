@@ -67,7 +67,8 @@ module _ (s o : List ℕ) (at : ℕ) (r : Ready house s) (room : at + mostShown 
   done f = write-answered house s (part o at) (subst (λ (x : Written). WritePromise house s (part o at) x ys) f e)
 
   -- the refusal is that of a stream that finds no room
-  no-room : {q : Refusal} → a ≡ Away q → mostShown < length (streamOf house s) → writtenAs (refused q) ys ≡ writtenAs (refused (R6 (length (streamOf house s)))) (part o at)
+  no-room : {q : Refusal} → a ≡ Away q → mostShown < length (streamOf house s)
+      → writtenAs (refused q) ys ≡ writtenAs (refused (R6 (length (streamOf house s)))) (part o at)
   unfolding writeBy
   no-room f h =
       let l : length (part o at) ≡ mostShown = part-length o at room in
