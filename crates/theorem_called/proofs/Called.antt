@@ -1,16 +1,18 @@
 -- The theorems of the public calls, from what each answered call says: the round trip, good form afterwards, and demand 3.
 -- Assumes nothing.
 use mathlib.Core.Path.{_≡_, refl, sym, ap, _∙_, subst}
-use mathlib.Core.List.{List}
+use mathlib.Core.List.{List, []}
 use Prim.Native.Nat.{ℕ, _≤_, _<_}
 use native.Mathlib.Omega.{arith}
+use denote.Ref.{RefT, now}
 use lib.ListN.{length, take, drop}
 use Rattle.cells.specs.Search.{Found, at, nowhere}
 use Rattle.cells.proofs.Split.{by-le}
 use Rattle.store_desk.specs.declared.Desk.{Desk}
-use Rattle.store_desk.specs.Refusal.{Reply}
+use Rattle.store_desk.specs.Refusal.{Reply, replied}
 use Rattle.store_desk.specs.Size.{storeLength}
 use Rattle.store_head.specs.Pack.{Bytes}
+use Rattle.store.specs.Change.{emptied}
 use Rattle.store.specs.Good.{Ready}
 use Rattle.store.specs.Slots.{find}
 use Rattle.load.specs.declared.Totals.{Totals}
@@ -19,10 +21,12 @@ use Rattle.save.specs.Lines.{streamOf}
 use Rattle.show.specs.declared.Admission.the-variants.{Admitted}
 use Rattle.show.specs.declared.Loaded.{Loaded}
 use Rattle.show.specs.declared.Written.{Written}
+use Rattle.show.specs.declared.Emptied.{Emptied}
 use Rattle.show.specs.declared.Placed.{Placed}
 use Rattle.show.specs.Calls.{mostBytes, LoadCall, loadReply, LoadPromise, WriteCall, writeReply, writeBy, WritePromise}
+use Rattle.show.specs.Calls.{EmptyCall, emptyReply, emptiedAs, emptyCall, EmptyPromise, Look, lookAt, lookBy, lookCall, LookPromise}
 use Rattle.show.specs.Calls.{cueName, cueKey, findReply, placedAt, findBy, FindPromise}
-use Rattle.show.proofs.Laws.{load-long, put-long, put-short, write-by, find-by}
+use Rattle.show.proofs.Laws.{load-long, put-long, put-short, write-by, empty-done, look-by, find-by}
 use Rattle.theorem_told.proofs.Lent.{stored-length}
 use Rattle.theorem_same_show.specs.Show.{SameShow, ReadBack}
 use Rattle.theorem_same_show.proofs.Theorem.{written-reads-back}
@@ -74,6 +78,11 @@ unfolding placedAt
 placed-number d (at i) = omega arith
 placed-number d nowhere = omega arith
 
+look-word : (d : Desk) (s : List ℕ) (f : Found) → lookAt d s f .word < 2
+unfolding lookAt
+look-word d s (at i) = omega arith
+look-word d s nowhere = omega arith
+
 -- a store in good form is let in
 module _ (d : Desk) (s : List ℕ) (r : Ready d s) where
   load-let : (reps stream : List ℕ) (a : Loaded) (t q : List ℕ) → LoadPromise d s reps stream a t q → NotTurnedAway (loadReply a .number)
@@ -103,6 +112,24 @@ module _ (d : Desk) (s : List ℕ) (r : Ready d s) where
       let z : writeReply a .number ≡ 5 = ap (λ (y : WriteCall). y .reply .number) (f ∙ sym (put-long (streamOf d s) out refl h)) in
       after-away (writeReply a .number) (omega arith))
 
+  empty-let : (a : Emptied) (t : List ℕ) → EmptyPromise d s a t → NotTurnedAway (emptyReply a .number)
+  empty-let a t e =
+      let f : emptiedAs (replied []) (emptied d s) ≡ emptyCall d s = empty-done d s (record { range = r .range; long = r .long }) refl in
+      let z : emptyReply a .number ≡ 0 = ap (λ (y : EmptyCall). y .reply .number) (e ∙ sym f) in
+      before-away (emptyReply a .number) (omega arith)
+
+  look-let : (v q : RefT (List ℕ)) (page whole tenths answer : ℕ) → now v ≡ s → LookPromise d v page whole tenths q answer → NotTurnedAway answer
+  unfolding lookBy
+  look-let v q page whole tenths answer p e =
+      let f : Found = find d s (cueName (cueKey page whole tenths)) in
+      let z : answer ≡ lookAt d s f .word =
+      e .says
+      ∙ ap (λ (k : List ℕ). lookCall d k page whole tenths .word) p
+      ∙ ap (λ (y : Look). y .word) (sym (look-by d s page whole tenths Admitted (not-away d s r)))
+      in
+      let l = look-word d s f in
+      before-away answer (omega arith)
+
   find-let : (page whole tenths : ℕ) (a : Placed) → FindPromise d s page whole tenths a → NotTurnedAway (findReply a .number)
   unfolding findBy
   find-let page whole tenths a e =
@@ -114,7 +141,7 @@ module _ (d : Desk) (s : List ℕ) (r : Ready d s) where
       before-away (findReply a .number) (omega arith)
 
   ready-let : LetIn d s
-  ready-let = record { load = load-let; write = write-let; find = find-let }
+  ready-let = record { load = load-let; write = write-let; empty = empty-let; look = look-let; find = find-let }
 
 pub good-after : (d : Desk) → GoodAfter d
 good-after d =

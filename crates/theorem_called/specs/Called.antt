@@ -5,6 +5,7 @@ use mathlib.Core.Path.{_≡_}
 use mathlib.Core.Bool.{false}
 use mathlib.Core.List.{List, _∷_, [], map}
 use Prim.Native.Nat.{ℕ, _≤_}
+use denote.Ref.{RefT, now}
 use lib.ListN.{length, take, drop, replicate}
 use Rattle.store_desk.specs.declared.Desk.{Desk}
 use Rattle.store_desk.specs.Size.{storeLength}
@@ -17,9 +18,10 @@ use Rattle.show.specs.declared.Loaded.{Loaded}
 use Rattle.show.specs.declared.Loaded.the-variants.{Done as LoadDone}
 use Rattle.show.specs.declared.Written.{Written}
 use Rattle.show.specs.declared.Written.the-variants.{Done as WriteDone}
+use Rattle.show.specs.declared.Emptied.{Emptied}
 use Rattle.show.specs.declared.Emptied.the-variants.{Done as EmptyDone}
 use Rattle.show.specs.declared.Placed.{Placed}
-use Rattle.show.specs.Calls.{loadReply, LoadPromise, writeReply, WritePromise, EmptyPromise, findReply, FindPromise, loadCall}
+use Rattle.show.specs.Calls.{loadReply, LoadPromise, writeReply, WritePromise, emptyReply, EmptyPromise, LookPromise, findReply, FindPromise, loadCall}
 use Rattle.theorem_told.specs.Edges.{Edge, edges, cueOf, keptBy}
 use Rattle.theorem_same_show.specs.Show.{SameShow, allObeyed}
 use Rattle.theorem_rehearse.specs.Rehearse.{Larger, HadRoom, storedFull, Carries, KeepsWithin, PatchedAlike}
@@ -57,6 +59,8 @@ NotTurnedAway n = (n ≡ 2 → ⊥) × (n ≡ 3 → ⊥) × (n ≡ 4 → ⊥)
 pub record LetIn (d : Desk) (s : List ℕ) : Type 0 where
   pub load : (reps stream : List ℕ) (a : Loaded) (t q : List ℕ) → LoadPromise d s reps stream a t q → NotTurnedAway (loadReply a .number)
   pub write : (out : List ℕ) (a : Written) (o : List ℕ) → WritePromise d s out a o → NotTurnedAway (writeReply a .number)
+  pub empty : (a : Emptied) (t : List ℕ) → EmptyPromise d s a t → NotTurnedAway (emptyReply a .number)
+  pub look : (v r : RefT (List ℕ)) (page whole tenths answer : ℕ) → now v ≡ s → LookPromise d v page whole tenths r answer → NotTurnedAway answer
   pub find : (page whole tenths : ℕ) (a : Placed) → FindPromise d s page whole tenths a → NotTurnedAway (findReply a .number)
 
 pub record GoodAfter (d : Desk) : Type 0 where
