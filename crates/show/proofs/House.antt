@@ -9,18 +9,16 @@ use lib.Dec.{ltb, leb}
 use lib.ListN.{length}
 use borrow.Author.Tests.{ltb-true}
 use Rattle.cells.proofs.Split.{by-test}
-use Rattle.store_desk.specs.declared.Refusal.the-variants.{R5}
 use Rattle.store_desk.specs.Size.{house, inRangeOf, storeLength}
 use Rattle.store.specs.Form.{goodForm}
 use Rattle.save.specs.Lines.{streamOf}
 use Rattle.save.proofs.House.{house-most}
 use Rattle.show.specs.declared.Admission.{Admission}
 use Rattle.show.specs.declared.Written.{Written}
-use Rattle.show.specs.declared.Written.the-variants.{Away}
-use Rattle.show.specs.Calls.{mostBytes, admissionOf, WriteCall, writtenAs, putCall, writeBy, writeCall}
+use Rattle.show.specs.Calls.{mostBytes, admissionOf, WriteCall, writeReply, putCall, writeBy, writeCall, WritePromise}
 
 abbrev NotR5 : WriteCall → Type 0
-NotR5 x = x .answer ≡ Away R5 → ⊥
+NotR5 x = x .reply .number ≡ 5 → ⊥
 
 put-short : (stream out : List ℕ) → length stream ≤ mostBytes → NotR5 (putCall stream out)
 unfolding putCall
@@ -29,8 +27,8 @@ put-short stream out h =
     (λ e q. let l = ltb-true mostBytes (length stream) e in omega arith)
     (λ e.
     by-test NotR5 (ltb (length out) (length stream)) _ _
-    (λ f q. let z : _≡_ {A = ℕ} 0 1 = cc in omega arith)
-    (λ f q. let z : _≡_ {A = ℕ} 0 1 = cc in omega arith))
+    (λ f q. omega arith)
+    (λ f q. omega arith))
 
 -- what is tested ahead of the writing is R2, R3 and R4
 write-short : (s out : List ℕ) → NotR5 (writeCall house s out)
@@ -42,12 +40,12 @@ write-short s out =
     (λ f.
     by-test By (goodForm house s) _ _
     (λ g. put-short (streamOf house s) out (let a = house-most s in omega arith))
-    (λ g q. let z : _≡_ {A = ℕ} 0 1 = cc in omega arith))
-    (λ f q. let z : _≡_ {A = ℕ} 0 1 = cc in omega arith))
-    (λ e q. let z : _≡_ {A = ℕ} 0 1 = cc in omega arith)
+    (λ g q. omega arith))
+    (λ f q. omega arith))
+    (λ e q. omega arith)
   where
     By : Admission → Type 0
     By a = NotR5 (writeBy a house s out)
 
-pub house-no-r5 : (s out : List ℕ) {a : Written} {o : List ℕ} → writtenAs a o ≡ writeCall house s out → a ≡ Away R5 → ⊥
-house-no-r5 s out e f = write-short s out (ap (λ (x : WriteCall). x .answer) (sym e) ∙ f)
+pub house-no-r5 : (s out : List ℕ) (a : Written) {o : List ℕ} → WritePromise house s out a o → writeReply a .number ≡ 5 → ⊥
+house-no-r5 s out a e f = write-short s out (ap (λ (x : WriteCall). x .reply .number) (sym e) ∙ f)

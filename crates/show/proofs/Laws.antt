@@ -2,7 +2,7 @@
 -- Assumes nothing.
 use mathlib.Core.Path.{_≡_, refl, sym, ap, _∙_, subst}
 use mathlib.Core.Bool.{Bool, true, false, not}
-use mathlib.Core.List.{List, []}
+use mathlib.Core.List.{List, [], _∷_}
 use Prim.Native.Nat.{ℕ, _+_, _*_, _≤_, _<_}
 use native.Mathlib.Nat.{zero-add}
 use native.Mathlib.Omega.{arith}
@@ -11,7 +11,7 @@ use lib.ListN.{length}
 use borrow.Author.Tests.{lt-ltb, le-ltb, le-leb, lt-leb, leb-true, leb-false, not-true, not-false}
 use Rattle.cells.specs.Put.{put}
 use Rattle.cells.specs.Search.{Found, at, nowhere}
-use Rattle.cells.proofs.Split.{by-bool, clash, not-of-false}
+use Rattle.cells.proofs.Split.{by-test, by-bool, clash, not-of-false}
 use Rattle.store_desk.specs.declared.Desk.{Desk}
 use Rattle.store_desk.specs.declared.Key.{Key}
 use Rattle.store_desk.specs.Size.{InRange, inRangeOf, storeLength, headLength, slotLength, slotsOf}
@@ -31,16 +31,15 @@ use Rattle.load.specs.Run.{loadOf}
 use Rattle.load_run.specs.Loaded.{Loaded as Ran, loadedOf, runLoaded as ran}
 use Rattle.text_room.specs.Wrote.{Wrote, wrote, wroteAt}
 use Rattle.store_desk.specs.declared.Refusal.{Refusal}
+use Rattle.store_desk.specs.Refusal.{refusalNumber, Reply, replied, refused}
 use Rattle.store_desk.specs.declared.Refusal.the-variants.{R1, R2, R3, R4, R5, R6}
 use Rattle.show.specs.declared.Admission.{Admission}
 use Rattle.show.specs.declared.Admission.the-variants.{Admitted, Away}
-use Rattle.show.specs.declared.Loaded.the-variants.{Away as LoadAway, Done as LoadDone}
-use Rattle.show.specs.declared.Written.the-variants.{Away as WriteAway, Done as WriteDone}
-use Rattle.show.specs.declared.Emptied.the-variants.{Away as EmptyAway, Done as EmptyDone}
-use Rattle.show.specs.Calls.{mostBytes, admissionOf, loadedAs, loadBy, loadCall, writtenAs, putCall, writeBy, writeCall, emptiedAs, emptyCall}
+use Rattle.show.specs.Calls.{mostBytes, admissionOf, totalsTold, loadedAs, loadBy, loadCall, writtenAs, putCall, writeBy, writeCall, emptiedAs, emptyCall}
 use Rattle.show.specs.Calls.{keptWord, notKeptWord, Look, look, cueName, cueKey, lookAt, lookBy, lookCall, LookedUp}
-use Rattle.show.specs.Calls.{placedAt, findBy, findCall}
-use Rattle.show.specs.declared.Placed.the-variants.{NotKept, At as PlacedAt}
+use Rattle.show.specs.Calls.{findReply, placedAt, PlacedAs, findBy, findCall}
+use Rattle.show.specs.declared.Placed.{Placed}
+use Rattle.show.specs.declared.Placed.the-variants.{Away as FindAway, NotKept, At as PlacedAt}
 use denote.Ref.{RefT, ptr, now}
 
 -- ---- R2, R3, R4
@@ -93,10 +92,27 @@ module _ (d : Desk) (s : List ℕ) where
       away-clash : {r : Refusal} → Away r ≡ admissionOf d s → ⊥
       away-clash q = let z : _≡_ {A = ℕ} 0 1 = cc in omega arith
 
+-- R1 is of a stream, which is not among what is tested here
+abbrev awayNumber : Admission → ℕ
+awayNumber Admitted = 0
+awayNumber (Away r) = refusalNumber r
+
+not-first : (d : Desk) (s : List ℕ) → awayNumber (admissionOf d s) ≡ 1 → ⊥
+unfolding admissionOf
+not-first d s =
+    by-test Not (inRangeOf d) _ _
+    (λ e.
+    by-test Not (leb (storeLength d) (length s)) _ _
+    (λ f. by-test Not (goodForm d s) _ _ (λ g q. omega arith) (λ g q. omega arith)) (λ f q. omega arith))
+    (λ e q. omega arith)
+  where
+    Not : Admission → Type 0
+    Not a = awayNumber a ≡ 1 → ⊥
+
 -- ---- load
 
 module _ (d : Desk) (s reps stream : List ℕ) where
-  pub load-long : mostBytes < length stream → loadedAs (LoadAway R1) s reps ≡ loadCall d s reps stream
+  pub load-long : mostBytes < length stream → loadedAs (refused R1) s reps ≡ loadCall d s reps stream
   unfolding loadCall
   load-long h = let f : ltb mostBytes (length stream) ≡ true = lt-ltb _ _ h in rw f
 
@@ -107,35 +123,35 @@ module _ (d : Desk) (s reps stream : List ℕ) where
       rw f (ap (λ (b : Admission). loadBy b d s reps stream) e)
 
   pub load-done : {r : Totals} {t q : List ℕ} → Admitted ≡ admissionOf d s → length stream ≤ mostBytes
-      → ran r t q ≡ loadedOf (loadOf d s stream) reps → loadedAs (LoadDone r) t q ≡ loadCall d s reps stream
+      → ran r t q ≡ loadedOf (loadOf d s stream) reps → loadedAs (replied (totalsTold r)) t q ≡ loadCall d s reps stream
   unfolding loadBy loadedOf
-  load-done e h g = ap (λ (l : Ran). loadedAs (LoadDone (l .totals)) (l .store) (l .reports)) g ∙ load-by Admitted e h
+  load-done e h g = ap (λ (l : Ran). loadedAs (replied (totalsTold (l .totals))) (l .store) (l .reports)) g ∙ load-by Admitted e h
 
 -- ---- write
 
 module _ (stream out : List ℕ) where
-  pub put-long : {n : ℕ} → n ≡ length stream → mostBytes < n → writtenAs (WriteAway R5) out ≡ putCall stream out
+  pub put-long : {n : ℕ} → n ≡ length stream → mostBytes < n → writtenAs (refused R5) out ≡ putCall stream out
   unfolding putCall
   put-long {n} e h =
       let f : ltb mostBytes (length stream) ≡ true = lt-ltb _ _ (subst (λ (k : ℕ). mostBytes < k) e h) in
       rw f
 
-  pub put-short : {n : ℕ} → n ≡ length stream → n ≤ mostBytes → length out < n → writtenAs (WriteAway (R6 n)) out ≡ putCall stream out
+  pub put-short : {n : ℕ} → n ≡ length stream → n ≤ mostBytes → length out < n → writtenAs (refused (R6 n)) out ≡ putCall stream out
   unfolding putCall
   put-short {n} e h g =
       let f : ltb mostBytes (length stream) ≡ false = le-ltb _ _ (subst (λ (k : ℕ). k ≤ mostBytes) e h) in
       let k : ltb (length out) (length stream) ≡ true = lt-ltb _ _ (subst (λ (k : ℕ). length out < k) e g) in
-      rw (f, k) (ap (λ (k : ℕ). writtenAs (WriteAway (R6 k)) out) e)
+      rw (f, k) (ap (λ (k : ℕ). writtenAs (refused (R6 k)) out) e)
 
   pub put-done : {n r : ℕ} {o : List ℕ} → n ≡ length stream → n ≤ mostBytes → n ≤ length out
-      → wrote r o ≡ wroteAt out 0 stream → writtenAs (WriteDone r) o ≡ putCall stream out
+      → wrote r o ≡ wroteAt out 0 stream → writtenAs (replied (r ∷ [])) o ≡ putCall stream out
   unfolding putCall wroteAt
   put-done {n} {r} {o} e h g w =
       let f : ltb mostBytes (length stream) ≡ false = le-ltb _ _ (subst (λ (k : ℕ). k ≤ mostBytes) e h) in
       let k : ltb (length out) (length stream) ≡ false = le-ltb _ _ (subst (λ (k : ℕ). k ≤ length out) e g) in
       rw (f, k)
-      (ap (λ (x : Wrote). writtenAs (WriteDone (x .next)) (x .out)) w
-      ∙ ap (λ (k : ℕ). writtenAs (WriteDone k) (put out 0 stream)) (zero-add (length stream)))
+      (ap (λ (x : Wrote). writtenAs (replied (x .next ∷ [])) (x .out)) w
+      ∙ ap (λ (k : ℕ). writtenAs (replied (k ∷ [])) (put out 0 stream)) (zero-add (length stream)))
 
 pub write-by : (d : Desk) (s out : List ℕ) (a : Admission) → a ≡ admissionOf d s → writeBy a d s out ≡ writeCall d s out
 unfolding writeCall
@@ -144,23 +160,23 @@ write-by d s out a e = ap (λ (b : Admission). writeBy b d s out) e
 -- ---- empty
 
 module _ (d : Desk) (s : List ℕ) where
-  pub empty-range : {b : Bool} → b ≡ inRangeOf d → not b ≡ true → emptiedAs (EmptyAway R2) s ≡ emptyCall d s
+  pub empty-range : {b : Bool} → b ≡ inRangeOf d → not b ≡ true → emptiedAs (refused R2) s ≡ emptyCall d s
   unfolding emptyCall
   empty-range {b} e t = let f : inRangeOf d ≡ false = sym e ∙ not-true b t in rw f
 
-  pub empty-short : {n : ℕ} → InRange d → n ≡ storeLength d → length s < n → emptiedAs (EmptyAway R3) s ≡ emptyCall d s
+  pub empty-short : {n : ℕ} → InRange d → n ≡ storeLength d → length s < n → emptiedAs (refused R3) s ≡ emptyCall d s
   unfolding emptyCall
   empty-short {n} h e l =
       let a : inRangeOf d ≡ true = in-range-true d h in
       let f : leb (storeLength d) (length s) ≡ false = lt-leb _ _ (subst (λ (k : ℕ). length s < k) e l) in
       rw (a, f)
 
-  pub empty-done : {t : List ℕ} → Fitting d s → t ≡ emptiedStore d s → emptiedAs EmptyDone t ≡ emptyCall d s
+  pub empty-done : {t : List ℕ} → Fitting d s → t ≡ emptiedStore d s → emptiedAs (replied []) t ≡ emptyCall d s
   unfolding emptyCall
   empty-done {t} h e =
       let a : inRangeOf d ≡ true = in-range-true d (h .range) in
       let f : leb (storeLength d) (length s) ≡ true = le-leb _ _ (h .long) in
-      rw (a, f) (ap (λ (x : List ℕ). emptiedAs EmptyDone x) e)
+      rw (a, f) (ap (λ (x : List ℕ). emptiedAs (replied []) x) e)
 
 -- ---- look-up
 
@@ -183,6 +199,13 @@ pub find-by : (d : Desk) (s : List ℕ) (page whole tenths : ℕ) (a : Admission
 unfolding findCall
 find-by d s page whole tenths a e = ap (λ (b : Admission). findBy b d s (cueKey page whole tenths)) e
 
+-- no stream is read: a call that is turned away before it begins is not R1
+pub find-away : (d : Desk) (s : List ℕ) (page whole tenths : ℕ) {r : Refusal} → Away r ≡ admissionOf d s
+    → PlacedAs (findCall d s page whole tenths) (FindAway r)
+unfolding findBy
+find-away d s page whole tenths {r} e =
+    (find-by d s page whole tenths (Away r) e, λ q. not-first d s (ap awayNumber (sym e) ∙ ap (λ (x : Placed). findReply x .number) q))
+
 pub place-small : (d : Desk) {i n : ℕ} → i < slotsOf d → InRange d → n ≡ slotLength d → i * n + headLength ≤ 1643264
 place-small d {i} {n} h r e =
     let a : i * slotLength d + slotLength d ≤ 1643264 = slot-small d i h r in
@@ -190,13 +213,17 @@ place-small d {i} {n} h r e =
     let c : i * slotLength d + headLength ≤ 1643264 = omega arith in
     subst (λ (k : ℕ). i * k + headLength ≤ 1643264) (sym e) c
 
-pub placed-at : (d : Desk) {f : Found} {i n : ℕ} → f ≡ at i → n ≡ slotLength d → PlacedAt (i * n + headLength) ≡ placedAt d f
+pub placed-at : (d : Desk) {f : Found} {i n : ℕ} → f ≡ at i → n ≡ slotLength d → PlacedAs (placedAt d f) (PlacedAt (i * n + headLength))
 unfolding placedAt
-placed-at d {f} {i} {n} e h = ap (λ (k : ℕ). PlacedAt (i * k + headLength)) h ∙ sym (ap (placedAt d) e)
+placed-at d {f} {i} {n} e h =
+    (ap (λ (k : ℕ). findReply (PlacedAt (i * k + headLength))) h ∙ sym (ap (placedAt d) e), λ q. let z : _≡_ {A = ℕ} 0 1 = cc in omega arith)
 
-pub placed-none : (d : Desk) {f : Found} → f ≡ nowhere → NotKept ≡ placedAt d f
+pub placed-none : (d : Desk) {f : Found} → f ≡ nowhere → PlacedAs (placedAt d f) NotKept
 unfolding placedAt
-placed-none d e = sym (ap (placedAt d) e)
+placed-none d e = (sym (ap (placedAt d) e), λ q. let z : _≡_ {A = ℕ} 0 1 = cc in omega arith)
+
+pub placed-as : {x y : Reply} {a : Placed} → PlacedAs x a → x ≡ y → PlacedAs y a
+placed-as p e = (p .0 ∙ e, p .1)
 
 look-kept : (d : Desk) (s : List ℕ) (key : Key) (i : ℕ) → find d s (cueName key) ≡ at i
     → look keptWord (i * slotLength d + headLength) (levelsAt d s i) ≡ lookAt d s (find d s (cueName key))

@@ -1,51 +1,121 @@
 -- No second answer fits a public call's promise, of the answer itself and of each lent list; and a refused call leaves every lent list
--- as it was. The record that a promise speaks of gives back what it was built from; a refusal's record is built from the lists at entry.
+-- as it was. The record that a promise speaks of gives back what it was built from, and an answer is told by its number and by what is
+-- told beside it; a refusal's record is built from the lists at entry.
 -- Assumes nothing.
 use mathlib.Core.Path.{_≡_, refl, sym, ap, _∙_}
 use mathlib.Core.List.{List}
 use Prim.Native.Nat.{ℕ}
 use denote.Ref.{RefT, ptr, now}
 use lib.Dec.{ltb, leb}
-use lib.ListN.{length}
+use lib.ListN.{length, getD}
 use Rattle.cells.proofs.Split.{by-test}
 use Rattle.store_desk.specs.declared.Desk.{Desk}
+use Rattle.store_desk.specs.declared.Refusal.{Refusal}
+use Rattle.store_desk.specs.declared.Refusal.the-variants.{R1}
 use Rattle.store_desk.specs.Size.{inRangeOf, storeLength}
+use Rattle.store_desk.specs.Refusal.{Reply}
+use Rattle.store_desk.proofs.Reply.{refused-apart, refused-no-reply}
+use Rattle.load.specs.declared.Totals.{Totals}
 use Rattle.save.specs.Lines.{streamOf}
 use Rattle.show.specs.declared.Admission.{Admission}
 use Rattle.show.specs.declared.Admission.the-variants.{Admitted, Away}
 use Rattle.show.specs.declared.Loaded.{Loaded}
+use Rattle.show.specs.declared.Loaded.the-variants.{Away as LoadAway, Done as LoadDone}
 use Rattle.show.specs.declared.Written.{Written}
+use Rattle.show.specs.declared.Written.the-variants.{Away as WriteAway, Done as WriteDone}
 use Rattle.show.specs.declared.Emptied.{Emptied}
-use Rattle.show.specs.Calls.{mostBytes, admissionOf, LoadCall, loadedAs, loadBy, loadCall, WriteCall, writtenAs, putCall, writeBy, writeCall}
-use Rattle.show.specs.Calls.{EmptyCall, emptiedAs, emptyCall, Look, LookedUp, loadNumber, writeNumber, emptyNumber}
+use Rattle.show.specs.declared.Emptied.the-variants.{Away as EmptyAway, Done as EmptyDone}
+use Rattle.show.specs.declared.Placed.{Placed}
+use Rattle.show.specs.declared.Placed.the-variants.{Away as FindAway, NotKept, At as PlacedAt}
+use Rattle.show.specs.Calls.{mostBytes, admissionOf, LoadCall, loadReply, loadBy, loadCall, LoadPromise}
+use Rattle.show.specs.Calls.{WriteCall, writeReply, putCall, writeBy, writeCall, WritePromise}
+use Rattle.show.specs.Calls.{EmptyCall, emptyReply, emptyCall, EmptyPromise, LookPromise, findReply, FindPromise}
+
+-- ---- answers that tell the same are the same
+
+-- the totals of what is told of them
+toldTotals : List ℕ → Totals
+toldTotals l =
+    record {
+      reports = getD l 0 0;
+      blank = getD l 1 0;
+      obeyed = getD l 2 0;
+      passed = getD l 3 0;
+      dropped = getD l 4 0;
+      closing = getD l 5 0;
+    }
+
+load-apart : (a b : Loaded) → loadReply a ≡ loadReply b → a ≡ b
+unfolding toldTotals
+load-apart (LoadAway r) (LoadAway q) e = ap (λ (x : Refusal). LoadAway x) (refused-apart e)
+load-apart (LoadAway r) (LoadDone u) e = refused-no-reply r e
+load-apart (LoadDone t) (LoadAway q) e = refused-no-reply q (sym e)
+load-apart (LoadDone t) (LoadDone u) e = ap (λ (x : Reply). LoadDone (toldTotals (x .told))) e
+
+write-apart : (a b : Written) → writeReply a ≡ writeReply b → a ≡ b
+write-apart (WriteAway r) (WriteAway q) e = ap (λ (x : Refusal). WriteAway x) (refused-apart e)
+write-apart (WriteAway r) (WriteDone m) e = refused-no-reply r e
+write-apart (WriteDone n) (WriteAway q) e = refused-no-reply q (sym e)
+write-apart (WriteDone n) (WriteDone m) e = ap (λ (x : Reply). WriteDone (getD (x .told) 0 0)) e
+
+empty-apart : (a b : Emptied) → emptyReply a ≡ emptyReply b → a ≡ b
+empty-apart (EmptyAway r) (EmptyAway q) e = ap (λ (x : Refusal). EmptyAway x) (refused-apart e)
+empty-apart (EmptyAway r) EmptyDone e = refused-no-reply r e
+empty-apart EmptyDone (EmptyAway q) e = refused-no-reply q (sym e)
+empty-apart EmptyDone EmptyDone e = refl
+
+-- a refusal that is told as "not kept" is R1
+not-kept : {X : Type 0} (r : Refusal) → findReply (FindAway r) ≡ findReply NotKept → (FindAway r ≡ FindAway R1 → ⊥) → X
+not-kept r e h = absurd (h (ap (λ (x : Refusal). FindAway x) (refused-apart e)))
+
+find-apart : (a b : Placed) → findReply a ≡ findReply b → (a ≡ FindAway R1 → ⊥) → (b ≡ FindAway R1 → ⊥) → a ≡ b
+find-apart (FindAway r) (FindAway q) e h k = ap (λ (x : Refusal). FindAway x) (refused-apart e)
+find-apart (FindAway r) NotKept e h k = not-kept r e h
+find-apart (FindAway r) (PlacedAt m) e h k = refused-no-reply r e
+find-apart NotKept (FindAway q) e h k = not-kept q (sym e) k
+find-apart NotKept NotKept e h k = refl
+find-apart NotKept (PlacedAt m) e h k = refused-no-reply R1 e
+find-apart (PlacedAt n) (FindAway q) e h k = refused-no-reply q (sym e)
+find-apart (PlacedAt n) NotKept e h k = refused-no-reply R1 (sym e)
+find-apart (PlacedAt n) (PlacedAt m) e h k = ap (λ (x : Reply). PlacedAt (getD (x .told) 0 0)) e
 
 -- ---- one answer
 
-pub one-load : {x : LoadCall} {a b : Loaded} {s t p q : List ℕ} → loadedAs a s p ≡ x → loadedAs b t q ≡ x → (a ≡ b) × (s ≡ t) × (p ≡ q)
-one-load e f =
+pub one-load : (d : Desk) (s reps stream : List ℕ) {a b : Loaded} {t u q p : List ℕ}
+    → LoadPromise d s reps stream a t q → LoadPromise d s reps stream b u p → (a ≡ b) × (t ≡ u) × (q ≡ p)
+one-load d s reps stream {a} {b} e f =
     let g = e ∙ sym f in
-    (ap (λ (y : LoadCall). y .answer) g, ap (λ (y : LoadCall). y .store) g, ap (λ (y : LoadCall). y .reports) g)
+    (load-apart a b (ap (λ (y : LoadCall). y .reply) g), ap (λ (y : LoadCall). y .store) g, ap (λ (y : LoadCall). y .reports) g)
 
-pub one-write : {x : WriteCall} {a b : Written} {o p : List ℕ} → writtenAs a o ≡ x → writtenAs b p ≡ x → (a ≡ b) × (o ≡ p)
-one-write e f = let g = e ∙ sym f in (ap (λ (y : WriteCall). y .answer) g, ap (λ (y : WriteCall). y .out) g)
+pub one-write : (d : Desk) (s out : List ℕ) {a b : Written} {o p : List ℕ} → WritePromise d s out a o → WritePromise d s out b p → (a ≡ b) × (o ≡ p)
+one-write d s out {a} {b} e f =
+    let g = e ∙ sym f in
+    (write-apart a b (ap (λ (y : WriteCall). y .reply) g), ap (λ (y : WriteCall). y .out) g)
 
-pub one-empty : {x : EmptyCall} {a b : Emptied} {s t : List ℕ} → emptiedAs a s ≡ x → emptiedAs b t ≡ x → (a ≡ b) × (s ≡ t)
-one-empty e f = let g = e ∙ sym f in (ap (λ (y : EmptyCall). y .answer) g, ap (λ (y : EmptyCall). y .store) g)
+pub one-empty : (d : Desk) (s : List ℕ) {a b : Emptied} {t u : List ℕ} → EmptyPromise d s a t → EmptyPromise d s b u → (a ≡ b) × (t ≡ u)
+one-empty d s {a} {b} e f =
+    let g = e ∙ sym f in
+    (empty-apart a b (ap (λ (y : EmptyCall). y .reply) g), ap (λ (y : EmptyCall). y .store) g)
 
 -- of a look-up: the word, the bytes, and where they lie
-pub one-look : {s r q : RefT (List ℕ)} {v w : ℕ} {x : Look} → LookedUp s r v x → LookedUp s q w x
+pub one-look : (d : Desk) (s : RefT (List ℕ)) (page whole tenths : ℕ) {r q : RefT (List ℕ)} {v w : ℕ}
+    → LookPromise d s page whole tenths r v → LookPromise d s page whole tenths q w
     → (v ≡ w) × (now r ≡ now q) × (ptr r .0 ≡ ptr q .0) × (ptr r .1 ≡ ptr q .1)
-one-look e f =
+one-look d s page whole tenths e f =
     (e .says ∙ sym (f .says), e .bytes ∙ sym (f .bytes), e .block ∙ sym (f .block), e .offset ∙ sym (f .offset))
+
+pub one-find : (d : Desk) (s : List ℕ) (page whole tenths : ℕ) {a b : Placed}
+    → FindPromise d s page whole tenths a → FindPromise d s page whole tenths b → a ≡ b
+one-find d s page whole tenths {a} {b} e f = find-apart a b (e .0 ∙ sym (f .0)) (e .1) (f .1)
 
 -- ---- refused, untouched
 
 -- a call's record either has the number 0 or has the lists of entry
 LoadKept : List ℕ → List ℕ → LoadCall → Type 0
-LoadKept s reps x = (loadNumber (x .answer) ≡ 0 → ⊥) → (x .store ≡ s) × (x .reports ≡ reps)
+LoadKept s reps x = (x .reply .number ≡ 0 → ⊥) → (x .store ≡ s) × (x .reports ≡ reps)
 
 load-by-kept : (a : Admission) (d : Desk) (s reps stream : List ℕ) → LoadKept s reps (loadBy a d s reps stream)
-unfolding LoadKept loadBy loadNumber
+unfolding LoadKept loadBy
 load-by-kept Admitted d s reps stream h = absurd (h refl)
 load-by-kept (Away r) d s reps stream h = (refl, refl)
 
@@ -55,18 +125,18 @@ load-kept d s reps stream =
     by-test (LoadKept s reps) (ltb mostBytes (length stream)) _ (loadBy (admissionOf d s) d s reps stream) (λ e h. (refl, refl))
     (λ e. load-by-kept (admissionOf d s) d s reps stream)
 
-pub untouched-load : (d : Desk) (s reps stream : List ℕ) {a : Loaded} {t q : List ℕ}
-    → loadedAs a t q ≡ loadCall d s reps stream → (loadNumber a ≡ 0 → ⊥) → (t ≡ s) × (q ≡ reps)
+pub untouched-load : (d : Desk) (s reps stream : List ℕ) (a : Loaded) {t q : List ℕ}
+    → LoadPromise d s reps stream a t q → (loadReply a .number ≡ 0 → ⊥) → (t ≡ s) × (q ≡ reps)
 unfolding LoadKept
-untouched-load d s reps stream e h =
-    let k = load-kept d s reps stream (λ z. h (ap (λ (y : LoadCall). loadNumber (y .answer)) e ∙ z)) in
+untouched-load d s reps stream a e h =
+    let k = load-kept d s reps stream (λ z. h (ap (λ (y : LoadCall). y .reply .number) e ∙ z)) in
     (ap (λ (y : LoadCall). y .store) e ∙ k .0, ap (λ (y : LoadCall). y .reports) e ∙ k .1)
 
 WriteKept : List ℕ → WriteCall → Type 0
-WriteKept out x = (writeNumber (x .answer) ≡ 0 → ⊥) → x .out ≡ out
+WriteKept out x = (x .reply .number ≡ 0 → ⊥) → x .out ≡ out
 
 put-kept : (stream out : List ℕ) → WriteKept out (putCall stream out)
-unfolding WriteKept putCall writeNumber
+unfolding WriteKept putCall
 put-kept stream out =
     by-test (WriteKept out) (ltb mostBytes (length stream)) _ _ (λ e h. refl)
     (λ e. by-test (WriteKept out) (ltb (length out) (length stream)) _ _ (λ f h. refl) (λ f h. absurd (h refl)))
@@ -76,23 +146,23 @@ unfolding WriteKept writeBy
 write-by-kept Admitted d s out h = put-kept (streamOf d s) out h
 write-by-kept (Away r) d s out h = refl
 
-pub untouched-write : (d : Desk) (s out : List ℕ) {a : Written} {o : List ℕ}
-    → writtenAs a o ≡ writeCall d s out → (writeNumber a ≡ 0 → ⊥) → o ≡ out
+pub untouched-write : (d : Desk) (s out : List ℕ) (a : Written) {o : List ℕ}
+    → WritePromise d s out a o → (writeReply a .number ≡ 0 → ⊥) → o ≡ out
 unfolding WriteKept writeCall
-untouched-write d s out e h =
+untouched-write d s out a e h =
     ap (λ (y : WriteCall). y .out) e
-    ∙ write-by-kept (admissionOf d s) d s out (λ z. h (ap (λ (y : WriteCall). writeNumber (y .answer)) e ∙ z))
+    ∙ write-by-kept (admissionOf d s) d s out (λ z. h (ap (λ (y : WriteCall). y .reply .number) e ∙ z))
 
 EmptyKept : List ℕ → EmptyCall → Type 0
-EmptyKept s x = (emptyNumber (x .answer) ≡ 0 → ⊥) → x .store ≡ s
+EmptyKept s x = (x .reply .number ≡ 0 → ⊥) → x .store ≡ s
 
 empty-kept : (d : Desk) (s : List ℕ) → EmptyKept s (emptyCall d s)
-unfolding EmptyKept emptyCall emptyNumber
+unfolding EmptyKept emptyCall
 empty-kept d s =
     by-test (EmptyKept s) (inRangeOf d) _ _
     (λ e. by-test (EmptyKept s) (leb (storeLength d) (length s)) _ _ (λ f h. absurd (h refl)) (λ f h. refl)) (λ e h. refl)
 
-pub untouched-empty : (d : Desk) (s : List ℕ) {a : Emptied} {t : List ℕ} → emptiedAs a t ≡ emptyCall d s → (emptyNumber a ≡ 0 → ⊥) → t ≡ s
+pub untouched-empty : (d : Desk) (s : List ℕ) (a : Emptied) {t : List ℕ} → EmptyPromise d s a t → (emptyReply a .number ≡ 0 → ⊥) → t ≡ s
 unfolding EmptyKept
-untouched-empty d s e h =
-    ap (λ (y : EmptyCall). y .store) e ∙ empty-kept d s (λ z. h (ap (λ (y : EmptyCall). emptyNumber (y .answer)) e ∙ z))
+untouched-empty d s a e h =
+    ap (λ (y : EmptyCall). y .store) e ∙ empty-kept d s (λ z. h (ap (λ (y : EmptyCall). y .reply .number) e ∙ z))

@@ -1,26 +1,27 @@
--- What each public call answers and what it leaves in every lent list (paper 01, "Calls turned away"). The refusals are tested in the
--- paper's order, and each leaves all lent memory as it was.
+-- What each public call answers and what it leaves in every lent list, and its promise by name (paper 01, "Calls turned away"). The
+-- refusals are tested in the paper's order, and each leaves all lent memory as it was. An answer is told by the paper's number and by what
+-- it tells beside it (`Reply` of `store_desk`); the promise of `needed` stands there too.
 -- Assumes nothing.
 use mathlib.Core.Bool.{cond}
-use mathlib.Core.List.{List, []}
+use mathlib.Core.List.{List, [], _∷_}
+use mathlib.Core.Path.{_≡_}
 use Prim.Native.Nat.{ℕ, _+_, _*_}
+use denote.Ref.{RefT, ptr, now}
 use lib.Dec.{ltb, leb}
 use lib.ListN.{length}
 use Rattle.cells.specs.Put.{put}
-use Rattle.store_desk.specs.declared.Desk.{Desk}
-use Rattle.store_desk.specs.declared.Kind.the-variants.{Cue}
-use Rattle.store_desk.specs.Size.{inRangeOf, storeLength}
-use Rattle.store_desk.specs.Name.{Name}
-use Rattle.store_desk.specs.declared.Refusal.the-variants.{R1, R2, R3, R4, R5, R6}
-use Rattle.store_desk.specs.Refusal.{refusalNumber}
-use denote.Ref.{RefT, ptr, now}
-use mathlib.Core.Path.{_≡_}
 use Rattle.cells.specs.Search.{Found, at, nowhere}
+use Rattle.store_desk.specs.declared.Desk.{Desk}
 use Rattle.store_desk.specs.declared.Key.{Key}
-use Rattle.store_desk.specs.Size.{headLength, slotLength}
+use Rattle.store_desk.specs.declared.Kind.the-variants.{Cue}
+use Rattle.store_desk.specs.declared.Refusal.the-variants.{R1, R2, R3, R4, R5, R6}
+use Rattle.store_desk.specs.Size.{inRangeOf, storeLength, headLength, slotLength}
+use Rattle.store_desk.specs.Name.{Name}
+use Rattle.store_desk.specs.Refusal.{Reply, replied, refused, refusalNumber}
 use Rattle.store.specs.Slots.{find, levelsAt}
 use Rattle.store.specs.Change.{emptied as emptiedStore}
 use Rattle.store.specs.Form.{goodForm}
+use Rattle.load.specs.declared.Totals.{Totals}
 use Rattle.load.specs.Run.{Run, loadOf, totalsOf, storedIn, allReports}
 use Rattle.save.specs.Lines.{streamOf}
 use Rattle.show.specs.declared.Admission.{Admission}
@@ -45,61 +46,89 @@ admissionOf d s = cond (inRangeOf d) (cond (leb (storeLength d) (length s)) (con
 -- ---- load
 
 pub record LoadCall : Type 0 where
-  pub answer : Loaded
+  pub reply : Reply
   pub store : List ℕ
   pub reports : List ℕ
 
-abbrev pub loadedAs : Loaded → List ℕ → List ℕ → LoadCall
-loadedAs a s reps = record { answer = a; store = s; reports = reps }
+-- the count of reports, the four tallies and the closing number
+abbrev pub totalsTold : Totals → List ℕ
+totalsTold t = t .reports ∷ t .blank ∷ t .obeyed ∷ t .passed ∷ t .dropped ∷ t .closing ∷ []
+
+abbrev pub loadReply : Loaded → Reply
+loadReply (LoadAway r) = refused r
+loadReply (LoadDone t) = replied (totalsTold t)
+
+abbrev pub loadedAs : Reply → List ℕ → List ℕ → LoadCall
+loadedAs a s reps = record { reply = a; store = s; reports = reps }
 
 abbrev pub loadDone : Run → List ℕ → LoadCall
-loadDone x reps = loadedAs (LoadDone (totalsOf x)) (x .store) (storedIn reps (allReports x))
+loadDone x reps = loadedAs (replied (totalsTold (totalsOf x))) (x .store) (storedIn reps (allReports x))
 
 unfoldable pub loadBy : Admission → Desk → List ℕ → List ℕ → List ℕ → LoadCall
 loadBy Admitted d s reps stream = loadDone (loadOf d s stream) reps
-loadBy (Away r) d s reps stream = loadedAs (LoadAway r) s reps
+loadBy (Away r) d s reps stream = loadedAs (refused r) s reps
 
 unfoldable pub loadCall : Desk → List ℕ → List ℕ → List ℕ → LoadCall
 loadCall d s reps stream =
     let x = loadBy (admissionOf d s) d s reps stream in
-    cond (ltb mostBytes (length stream)) (loadedAs (LoadAway R1) s reps) x
+    cond (ltb mostBytes (length stream)) (loadedAs (refused R1) s reps) x
+
+-- of its answer, and the store and the lent list afterwards
+abbrev pub LoadPromise : Desk → List ℕ → List ℕ → List ℕ → Loaded → List ℕ → List ℕ → Type 0
+LoadPromise d s reps stream a t q = loadedAs (loadReply a) t q ≡ loadCall d s reps stream
 
 -- ---- write
 
 pub record WriteCall : Type 0 where
-  pub answer : Written
+  pub reply : Reply
   pub out : List ℕ
 
-abbrev pub writtenAs : Written → List ℕ → WriteCall
-writtenAs a o = record { answer = a; out = o }
+abbrev pub writeReply : Written → Reply
+writeReply (WriteAway r) = refused r
+writeReply (WriteDone n) = replied (n ∷ [])
+
+abbrev pub writtenAs : Reply → List ℕ → WriteCall
+writtenAs a o = record { reply = a; out = o }
 
 -- R5, the whole stream would exceed 262,143; R6, it exceeds the output given, with the length needed
 unfoldable pub putCall : List ℕ → List ℕ → WriteCall
 putCall stream out =
-    cond (ltb mostBytes (length stream)) (writtenAs (WriteAway R5) out)
-    (cond (ltb (length out) (length stream)) (writtenAs (WriteAway (R6 (length stream))) out)
-    (writtenAs (WriteDone (length stream)) (put out 0 stream)))
+    cond (ltb mostBytes (length stream)) (writtenAs (refused R5) out)
+    (cond (ltb (length out) (length stream)) (writtenAs (refused (R6 (length stream))) out)
+    (writtenAs (replied (length stream ∷ [])) (put out 0 stream)))
 
 unfoldable pub writeBy : Admission → Desk → List ℕ → List ℕ → WriteCall
 writeBy Admitted d s out = putCall (streamOf d s) out
-writeBy (Away r) d s out = writtenAs (WriteAway r) out
+writeBy (Away r) d s out = writtenAs (refused r) out
 
 unfoldable pub writeCall : Desk → List ℕ → List ℕ → WriteCall
 writeCall d s out = writeBy (admissionOf d s) d s out
 
+-- of its answer, and the output afterwards
+abbrev pub WritePromise : Desk → List ℕ → List ℕ → Written → List ℕ → Type 0
+WritePromise d s out a o = writtenAs (writeReply a) o ≡ writeCall d s out
+
 -- ---- empty
 
 pub record EmptyCall : Type 0 where
-  pub answer : Emptied
+  pub reply : Reply
   pub store : List ℕ
 
-abbrev pub emptiedAs : Emptied → List ℕ → EmptyCall
-emptiedAs a s = record { answer = a; store = s }
+abbrev pub emptyReply : Emptied → Reply
+emptyReply (EmptyAway r) = refused r
+emptyReply EmptyDone = replied []
+
+abbrev pub emptiedAs : Reply → List ℕ → EmptyCall
+emptiedAs a s = record { reply = a; store = s }
 
 unfoldable pub emptyCall : Desk → List ℕ → EmptyCall
 emptyCall d s =
-    cond (inRangeOf d) (cond (leb (storeLength d) (length s)) (emptiedAs EmptyDone (emptiedStore d s)) (emptiedAs (EmptyAway R3) s))
-    (emptiedAs (EmptyAway R2) s)
+    cond (inRangeOf d) (cond (leb (storeLength d) (length s)) (emptiedAs (replied []) (emptiedStore d s)) (emptiedAs (refused R3) s))
+    (emptiedAs (refused R2) s)
+
+-- of its answer, and the store afterwards
+abbrev pub EmptyPromise : Desk → List ℕ → Emptied → List ℕ → Type 0
+EmptyPromise d s a t = emptiedAs (emptyReply a) t ≡ emptyCall d s
 
 -- ---- look-up: the very level bytes of a kept cue
 
@@ -143,34 +172,31 @@ pub record LookedUp (s r : RefT (List ℕ)) (answer : ℕ) (x : Look) : Type 0 w
   pub block : ptr r .0 ≡ ptr s .0
   pub offset : ptr r .1 ≡ ptr s .1 + x .place
 
+-- of the part that it hands out, and the answer word afterwards
+abbrev pub LookPromise : Desk → RefT (List ℕ) → ℕ → ℕ → ℕ → RefT (List ℕ) → ℕ → Type 0
+LookPromise d s page whole tenths r answer = LookedUp s r answer (lookCall d (now s) page whole tenths)
+
 -- ---- find: the same as a number
 
-unfoldable pub placedAt : Desk → Found → Placed
-placedAt d (at i) = PlacedAt (i * slotLength d + headLength)
-placedAt d nowhere = NotKept
+abbrev pub findReply : Placed → Reply
+findReply (FindAway r) = refused r
+findReply NotKept = record { number = notKeptWord; told = [] }
+findReply (PlacedAt n) = replied (n ∷ [])
 
-unfoldable pub findBy : Admission → Desk → List ℕ → Key → Placed
+unfoldable pub placedAt : Desk → Found → Reply
+placedAt d (at i) = replied ((i * slotLength d + headLength) ∷ [])
+placedAt d nowhere = record { number = notKeptWord; told = [] }
+
+unfoldable pub findBy : Admission → Desk → List ℕ → Key → Reply
 findBy Admitted d s key = placedAt d (find d s (cueName key))
-findBy (Away r) d s key = FindAway r
+findBy (Away r) d s key = refused r
 
-unfoldable pub findCall : Desk → List ℕ → ℕ → ℕ → ℕ → Placed
+unfoldable pub findCall : Desk → List ℕ → ℕ → ℕ → ℕ → Reply
 findCall d s page whole tenths = findBy (admissionOf d s) d s (cueKey page whole tenths)
 
--- ---- the number of each answer: a refusal's, 0 where the call was answered, and 1 for a cue that is not kept
+-- its number is a refusal's, 1 for a cue that is not kept, or 0; no stream is read, so that R1 is never the answer
+abbrev pub PlacedAs : Reply → Placed → Type 0
+PlacedAs x a = (findReply a ≡ x) × (a ≡ FindAway R1 → ⊥)
 
-unfoldable pub loadNumber : Loaded → ℕ
-loadNumber (LoadAway r) = refusalNumber r
-loadNumber (LoadDone t) = 0
-
-unfoldable pub writeNumber : Written → ℕ
-writeNumber (WriteAway r) = refusalNumber r
-writeNumber (WriteDone n) = 0
-
-unfoldable pub emptyNumber : Emptied → ℕ
-emptyNumber (EmptyAway r) = refusalNumber r
-emptyNumber EmptyDone = 0
-
-unfoldable pub findNumber : Placed → ℕ
-findNumber (FindAway r) = refusalNumber r
-findNumber NotKept = notKeptWord
-findNumber (PlacedAt n) = keptWord
+abbrev pub FindPromise : Desk → List ℕ → ℕ → ℕ → ℕ → Placed → Type 0
+FindPromise d s page whole tenths a = PlacedAs (findCall d s page whole tenths) a

@@ -11,7 +11,7 @@ ghost use mathlib.Core.Bool.{true};
 ghost use Rattle.store_code.specs.Fits.{Fitting};
 ghost use Rattle.store.specs.Form.{goodForm};
 ghost use Rattle.save.specs.Lines.{streamOf};
-ghost use Rattle.show.specs.Calls.{admissionOf, loadCall, loadedAs, putCall, writeCall, writtenAs, emptyCall, emptiedAs, LookedUp, lookAt, lookCall, cueName, placedAt, findCall};
+ghost use Rattle.show.specs.Calls.{admissionOf, LoadPromise, writeReply, writtenAs, putCall, WritePromise, EmptyPromise, LookedUp, lookAt, LookPromise, cueName, placedAt, PlacedAs, FindPromise};
 ghost use Rattle.store.specs.Slots.{find as findSlot, placeOf};
 
 // The longest stream that is read or written, in bytes.
@@ -59,8 +59,7 @@ fn turned_away(desk: Desk, store: &[u8]) -> Admission
 
 // Reads a stream into a store.
 pub fn load(desk: Desk, store: &mut [u8], stream: &[u8], reports: &mut [u32]) -> Loaded
-    ensures { λ r. ⌜ loadedAs r (now (store .exit)) (now (reports .exit))
-        ≡ loadCall desk (now (store .entry)) (now (reports .entry)) (now (stream .entry)) ⌝ }
+    ensures { λ r. ⌜ LoadPromise desk (now (store .entry)) (now (reports .entry)) (now (stream .entry)) r (now (store .exit)) (now (reports .exit)) ⌝ }
 {
     if MOST_BYTES < stream.len() {
         return Loaded::Away(Refusal::R1);
@@ -75,7 +74,7 @@ pub fn load(desk: Desk, store: &mut [u8], stream: &[u8], reports: &mut [u32]) ->
 fn put(desk: Desk, store: &[u8], out: &mut [u8]) -> Written
     requires { ⌜ Fitting desk (now store) ⌝ }
     requires { ⌜ goodForm desk (now store) ≡ true ⌝ }
-    ensures { λ r. ⌜ writtenAs r (now (out .exit)) ≡ putCall (streamOf desk (now (store .entry))) (now (out .entry)) ⌝ }
+    ensures { λ r. ⌜ writtenAs (writeReply r) (now (out .exit)) ≡ putCall (streamOf desk (now (store .entry))) (now (out .entry)) ⌝ }
 {
     let n = save::length(desk, store);
     if MOST_BYTES < n {
@@ -89,7 +88,7 @@ fn put(desk: Desk, store: &[u8], out: &mut [u8]) -> Written
 
 // Puts a store's show back as one fixed stream.
 pub fn write(desk: Desk, store: &[u8], out: &mut [u8]) -> Written
-    ensures { λ r. ⌜ writtenAs r (now (out .exit)) ≡ writeCall desk (now (store .entry)) (now (out .entry)) ⌝ }
+    ensures { λ r. ⌜ WritePromise desk (now (store .entry)) (now (out .entry)) r (now (out .exit)) ⌝ }
 {
     match turned_away(desk, store) {
         Admission::Away(refusal) => Written::Away(refusal),
@@ -99,7 +98,7 @@ pub fn write(desk: Desk, store: &[u8], out: &mut [u8]) -> Written
 
 // Makes a store's needed bytes zero. Good form is not asked for.
 pub fn empty(desk: Desk, store: &mut [u8]) -> Emptied
-    ensures { λ r. ⌜ emptiedAs r (now (store .exit)) ≡ emptyCall desk (now (store .entry)) ⌝ }
+    ensures { λ r. ⌜ EmptyPromise desk (now (store .entry)) r (now (store .exit)) ⌝ }
 {
     if !desk.in_range() {
         return Emptied::Away(Refusal::R2);
@@ -162,7 +161,7 @@ pub fn look_up<'a, 'b>(
     tenths: u32,
     answer: &'b mut u32,
 ) -> &'a [u8]
-    ensures { λ r. ⌜ LookedUp (store .entry) r (now (answer .exit)) (lookCall desk (now (store .entry)) page whole tenths) ⌝ }
+    ensures { λ r. ⌜ LookPromise desk (store .entry) page whole tenths r (now (answer .exit)) ⌝ }
 {
     match turned_away(desk, store) {
         Admission::Away(refusal) => {
@@ -185,7 +184,7 @@ pub fn look_up<'a, 'b>(
 fn levels_place(desk: Desk, store: &[u8], key: Key) -> Placed
     requires { ⌜ Fitting desk (now store) ⌝ }
     requires { ⌜ goodForm desk (now store) ≡ true ⌝ }
-    ensures { λ r. ⌜ r ≡ placedAt desk (findSlot desk (now (store .entry)) (cueName key)) ⌝ }
+    ensures { λ r. ⌜ PlacedAs (placedAt desk (findSlot desk (now (store .entry)) (cueName key))) r ⌝ }
 {
     match cue_slot(desk, store, key) {
         Place::At(slot) => Placed::At(slot * desk.slot_length() + store_desk::HEAD_LENGTH),
@@ -195,7 +194,7 @@ fn levels_place(desk: Desk, store: &[u8], key: Key) -> Placed
 
 // The place in the store where the levels of a kept cue begin: what `look_up` hands out begins there.
 pub fn find(desk: Desk, store: &[u8], page: u32, whole: u32, tenths: u32) -> Placed
-    ensures { λ r. ⌜ r ≡ findCall desk (now (store .entry)) page whole tenths ⌝ }
+    ensures { λ r. ⌜ FindPromise desk (now (store .entry)) page whole tenths r ⌝ }
 {
     match turned_away(desk, store) {
         Admission::Away(refusal) => Placed::Away(refusal),

@@ -1,13 +1,10 @@
 -- The size of a desk: the ranges of its limits, and the lengths that follow from them (paper 01, "The size of a desk", "The store").
 -- Assumes nothing.
-use mathlib.Core.Bool.{Bool, true, cond, _&&_}
+use mathlib.Core.Bool.{Bool, true, _&&_}
 use mathlib.Core.List.{List, [], _∷_}
 use Prim.Native.Nat.{ℕ, _+_, _*_, _≤_}
 use lib.Dec.{leb}
 use Rattle.store_desk.specs.declared.Desk.{Desk}
-use Rattle.store_desk.specs.declared.Needed.{Needed}
-use Rattle.store_desk.specs.declared.Needed.the-variants.{Away, Length}
-use Rattle.store_desk.specs.declared.Refusal.the-variants.{R2}
 
 -- ---- ranges ("The size of a desk")
 
@@ -128,7 +125,3 @@ entriesOf d = d .dimmers * d .«patch_pages»
 -- the bytes that a store of this desk needs
 unfoldable pub storeLength : Desk → ℕ
 storeLength d = patchStart d + entriesOf d * entryLength
-
--- what the public call `needed` answers: R2, or the length
-unfoldable pub neededOf : Desk → Needed
-neededOf d = cond (inRangeOf d) (Length (storeLength d)) (Away R2)

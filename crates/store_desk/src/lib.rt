@@ -1,8 +1,8 @@
 // The size of a desk (paper 01, "The size of a desk"), the names of its memories, and why a call is turned away.
 ghost use mathlib.Core.Path.{_≡_};
 ghost use mathlib.Core.Bool.{_&&_};
-ghost use Rattle.store_desk.specs.Size.{Within, InRange, inRangeOf, isWithin, house, levelWidth, levelsLength, slotLength, subSlots, slotsOf, patchStart, entriesOf, storeLength, neededOf};
-ghost use Rattle.store_desk.specs.Refusal.{refusalNumber};
+ghost use Rattle.store_desk.specs.Size.{Within, InRange, inRangeOf, isWithin, house, levelWidth, levelsLength, slotLength, subSlots, slotsOf, patchStart, entriesOf, storeLength};
+ghost use Rattle.store_desk.specs.Refusal.{refusalNumber, NeededPromise};
 ghost use Rattle.store_desk.specs.Name.{firstSlot, slotCount, pagesOf, supported, okNumber, okSub, okWithin, okPage, okName, subSlot, entryOf};
 
 // The nine limits, in the order of the paper's table.
@@ -149,7 +149,7 @@ impl Desk {
 
     // The public call: R2, or the length.
     pub fn needed(self) -> Needed
-        ensures { λ r. ⌜ r ≡ neededOf self ⌝ }
+        ensures { λ r. ⌜ NeededPromise self r ⌝ }
     {
         if self.in_range() {
             Needed::Length(self.store_length())

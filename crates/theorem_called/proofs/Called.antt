@@ -1,117 +1,198 @@
--- A store in good form is not turned away, so that the public calls answer what the load and the writer are proved to give.
+-- The theorems of the public calls, from what each answered call says: the round trip, good form afterwards, and demand 3.
 -- Assumes nothing.
-use mathlib.Core.Path.{_≡_, refl, sym, ap, _∙_}
-use mathlib.Core.Bool.{false}
-use mathlib.Core.List.{List, [], _∷_}
-use Prim.Native.Nat.{ℕ, _+_, _≤_}
+use mathlib.Core.Path.{_≡_, refl, sym, ap, _∙_, subst}
+use mathlib.Core.List.{List, []}
+use Prim.Native.Nat.{ℕ, _≤_, _<_}
 use native.Mathlib.Omega.{arith}
-use lib.Dec.{ltb}
-use lib.ListN.{length, replicate}
-use borrow.Author.Tests.{le-ltb}
-use Rattle.cells.specs.Put.{put}
-use Rattle.cells.proofs.Put.{part-same}
+use denote.Ref.{RefT, now}
+use lib.ListN.{length, take, drop}
+use Rattle.cells.specs.Search.{Found, at, nowhere}
+use Rattle.cells.proofs.Split.{by-le}
 use Rattle.store_desk.specs.declared.Desk.{Desk}
+use Rattle.store_desk.specs.Refusal.{Reply, replied}
 use Rattle.store_desk.specs.Size.{storeLength}
+use Rattle.store_head.specs.Pack.{Bytes}
+use Rattle.store.specs.Change.{emptied}
 use Rattle.store.specs.Good.{Ready}
-use Rattle.store.specs.Form.{goodForm}
-use Rattle.store.proofs.Form.{good-complete}
-use Rattle.load.specs.declared.State.{State}
-use Rattle.load.specs.Step.{recordStep, nothingOpen}
-use Rattle.load.specs.Run.{Run, loadOf, storedIn, allReports, runFrom, stops, only, andThen}
-use Rattle.text_records.specs.Stream.{recordsOf}
-use Rattle.load.proofs.Steps.{record-ready}
-use Rattle.theorem_rehearse.proofs.Seen.{saw-room}
-use Rattle.theorem_rehearse.proofs.Rehearse.{rehearsed as both-loads}
-use Rattle.store.proofs.Empty.{empty-good}
-use Rattle.cells.proofs.Split.{by-test}
-use Rattle.save.specs.Lines.{linesOf, streamOf}
-use Rattle.theorem_same_show.specs.Show.{ReadBack, allObeyed}
-use Rattle.theorem_same_show.proofs.Theorem.{written-reads-back}
-use Rattle.theorem_told.specs.Edges.{smallest}
+use Rattle.store.specs.Slots.{find}
+use Rattle.load.specs.declared.Totals.{Totals}
+use Rattle.load.specs.Run.{loadOf, totalsOf, storedIn, allReports}
+use Rattle.save.specs.Lines.{streamOf}
 use Rattle.show.specs.declared.Admission.the-variants.{Admitted}
-use Rattle.show.specs.declared.Loaded.the-variants.{Done}
-use Rattle.show.specs.declared.Written.the-variants.{Done as WriteDone}
-use Rattle.show.specs.Calls.{mostBytes, admissionOf, loadedAs, loadDone, loadBy, loadCall, writtenAs, putCall, writeBy, writeCall}
-use Rattle.show.proofs.Laws.{admitted, load-by, write-by}
-use Rattle.cells.specs.Search.{firstFrom, allFrom, countFrom}
-use Rattle.store_desk.specs.Size.{allOf, inRangeOf, levelWidth, levelsLength, slotLength, subSlots, slotsOf, patchStart, entriesOf, neededOf}
-use Rattle.store_desk.specs.Name.{firstSlot, slotCount, pagesOf, kindAt, supported, eqKind, eqKey, eqName, lessKey, okNumber, okSub, okWithin, okPage, okName, subSlot, entryOf}
-use Rattle.store_head.specs.Pack.{total, packed, unpacked}
-use Rattle.store_head.specs.Layout.{encodeHead, decodeHead, encodePatch, decodePatch}
-use Rattle.store_head.specs.Fits.{wordOf, quickOf}
-use Rattle.store_head.specs.Words.{firstWord, secondWord, thirdWord}
-use Rattle.store.specs.Slots.{slotAt, putSlot, entryAt, putEntry, headAt, levelsAt, levelPlace, holdsAt, find, onFound, placeOf}
-use Rattle.store.specs.Form.{hasTimes, hasLink, isZero, linkFits, valuesFit, placeFits, shares, slotFits, patchFits, entryFits}
-use Rattle.theorem_called.specs.Called.{WriteThenLoad, EdgesCalled, GoodAfter, RehearsedCalls}
+use Rattle.show.specs.declared.Loaded.{Loaded}
+use Rattle.show.specs.declared.Written.{Written}
+use Rattle.show.specs.declared.Emptied.{Emptied}
+use Rattle.show.specs.declared.Placed.{Placed}
+use Rattle.show.specs.Calls.{mostBytes, LoadCall, loadReply, LoadPromise, WriteCall, writeReply, writeBy, WritePromise}
+use Rattle.show.specs.Calls.{EmptyCall, emptyReply, emptiedAs, emptyCall, EmptyPromise, Look, lookAt, lookBy, lookCall, LookPromise}
+use Rattle.show.specs.Calls.{cueName, cueKey, findReply, placedAt, findBy, FindPromise}
+use Rattle.show.proofs.Laws.{load-long, put-long, put-short, write-by, empty-done, look-by, find-by}
+use Rattle.theorem_told.proofs.Lent.{stored-length}
+use Rattle.theorem_same_show.specs.Show.{SameShow, ReadBack}
+use Rattle.theorem_same_show.proofs.Theorem.{written-reads-back}
+use Rattle.theorem_rehearse.specs.Rehearse.{HadRoom, Rehearsal, loaded, Carries, KeepsWithin, PatchedAlike, Ships, Complete, SamePatch}
+use Rattle.theorem_rehearse.proofs.Seen.{saw-room}
+use Rattle.theorem_rehearse.proofs.Rehearse.{rehearsed}
+use Rattle.theorem_called.specs.Called.{ReadBackAs, WriteThenLoad, WrittenIsLoaded, NotTurnedAway, LetIn, GoodAfter, SeenRoom, RehearsedCalls}
+use Rattle.theorem_called.proofs.Answered.{not-away, load-answers, LoadAnswered, load-answered, load-ready}
+use Rattle.theorem_called.proofs.Answered.{write-answers, write-answered, empty-answered}
 
--- a store in good form is not turned away
-pub not-away : (d : Desk) (s : List ℕ) → Ready d s → Admitted ≡ admissionOf d s
-not-away d s r = admitted d s (record { range = r .range; long = r .long }) refl (good-complete d s (r .form))
+-- ---- demand 2
 
--- so that a load into it answers
-pub load-answers : (d : Desk) (t reps stream : List ℕ) → Ready d t → length stream ≤ mostBytes
-    → loadCall d t reps stream ≡ loadDone (loadOf d t stream) reps
-unfolding loadBy
-load-answers d t reps stream r h = sym (load-by d t reps stream Admitted (not-away d t r) h)
-
--- and writing it, where the stream is short enough and the output has room
-pub write-answers : (d : Desk) (s out : List ℕ) → Ready d s → length (streamOf d s) ≤ mostBytes → length (streamOf d s) ≤ length out
-    → writeCall d s out ≡ writtenAs (WriteDone (length (streamOf d s))) (put out 0 (streamOf d s))
-unfolding writeBy putCall
-write-answers d s out r h g =
-    let a : ltb mostBytes (length (streamOf d s)) ≡ false = le-ltb _ _ h in
-    let b : ltb (length out) (length (streamOf d s)) ≡ false = le-ltb _ _ g in
-    sym (write-by d s out Admitted (not-away d s r)) ∙ rw (a, b)
+-- a stream that is the written one
+read-back : (d : Desk) (s t reps stream : List ℕ) {x : Totals} {u q : List ℕ} → Ready d s → Bytes s → stream ≡ streamOf d s
+    → LoadAnswered d t reps stream x u q → ReadBackAs d s stream t reps x u q
+read-back d s t reps stream {x} {u} {q} rs b e =
+    subst (λ (z : List ℕ). LoadAnswered d t reps z x u q → ReadBackAs d s z t reps x u q) (sym e)
+    (λ l.
+    let r : ReadBack d s t (loadOf d t (streamOf d s)) = written-reads-back d s t rs b (l .ready) in
+    record {
+      told = l .told ∙ r .told;
+      list = l .list ∙ r .list reps;
+      show = subst (SameShow d s) (sym (l .store)) (r .show);
+      past = ap (drop (storeLength d)) (l .store) ∙ r .past;
+      again = λ out n o w. write-answered d u out w .stream ∙ ap (streamOf d) (l .store) ∙ r .again;
+    })
 
 pub write-then-load : WriteThenLoad
-write-then-load d s out t reps rs b rt h g =
-    let x : ReadBack d s t (loadOf d t (streamOf d s)) = written-reads-back d s t rs b rt in
+write-then-load d s out n o b e t reps x u q f =
+    let w = write-answered d s out e in
+    read-back d s t reps (take n o) (w .ready) b (w .stream) (load-answered d t reps (take n o) f)
+
+pub written-is-loaded : WrittenIsLoaded
+written-is-loaded d s out n o e v t f reps a u q g =
+    let w = write-answered d s out e in
+    let short = subst (λ (z : List ℕ). length z ≤ mostBytes) (sym (w .stream)) (w .short) in
+    ap (λ (y : LoadCall). y .reply .number) (g ∙ load-answers d t reps (take n o) (empty-answered d v f .ready) short)
+
+-- ---- after an answered call
+
+before-away : (n : ℕ) → n < 2 → NotTurnedAway n
+before-away n h = (λ e. omega arith, λ e. omega arith, λ e. omega arith)
+
+after-away : (n : ℕ) → 4 < n → NotTurnedAway n
+after-away n h = (λ e. omega arith, λ e. omega arith, λ e. omega arith)
+
+placed-number : (d : Desk) (f : Found) → placedAt d f .number < 2
+unfolding placedAt
+placed-number d (at i) = omega arith
+placed-number d nowhere = omega arith
+
+look-word : (d : Desk) (s : List ℕ) (f : Found) → lookAt d s f .word < 2
+unfolding lookAt
+look-word d s (at i) = omega arith
+look-word d s nowhere = omega arith
+
+-- a store in good form is let in
+module _ (d : Desk) (s : List ℕ) (r : Ready d s) where
+  load-let : (reps stream : List ℕ) (a : Loaded) (t q : List ℕ) → LoadPromise d s reps stream a t q → NotTurnedAway (loadReply a .number)
+  load-let reps stream a t q e =
+      by-le (length stream) mostBytes
+      (λ h.
+      let z : loadReply a .number ≡ 0 = ap (λ (y : LoadCall). y .reply .number) (e ∙ load-answers d s reps stream r h) in
+      before-away (loadReply a .number) (omega arith))
+      (λ h.
+      let z : loadReply a .number ≡ 1 = ap (λ (y : LoadCall). y .reply .number) (e ∙ sym (load-long d s reps stream h)) in
+      before-away (loadReply a .number) (omega arith))
+
+  write-let : (out : List ℕ) (a : Written) (o : List ℕ) → WritePromise d s out a o → NotTurnedAway (writeReply a .number)
+  unfolding writeBy
+  write-let out a o e =
+      let f = e ∙ sym (write-by d s out Admitted (not-away d s r)) in
+      by-le (length (streamOf d s)) mostBytes
+      (λ h.
+      by-le (length (streamOf d s)) (length out)
+      (λ g.
+      let z : writeReply a .number ≡ 0 = ap (λ (y : WriteCall). y .reply .number) (e ∙ write-answers d s out r h g) in
+      before-away (writeReply a .number) (omega arith))
+      (λ g.
+      let z : writeReply a .number ≡ 6 = ap (λ (y : WriteCall). y .reply .number) (f ∙ sym (put-short (streamOf d s) out refl h g)) in
+      after-away (writeReply a .number) (omega arith)))
+      (λ h.
+      let z : writeReply a .number ≡ 5 = ap (λ (y : WriteCall). y .reply .number) (f ∙ sym (put-long (streamOf d s) out refl h)) in
+      after-away (writeReply a .number) (omega arith))
+
+  empty-let : (a : Emptied) (t : List ℕ) → EmptyPromise d s a t → NotTurnedAway (emptyReply a .number)
+  empty-let a t e =
+      let f : emptiedAs (replied []) (emptied d s) ≡ emptyCall d s = empty-done d s (record { range = r .range; long = r .long }) refl in
+      let z : emptyReply a .number ≡ 0 = ap (λ (y : EmptyCall). y .reply .number) (e ∙ sym f) in
+      before-away (emptyReply a .number) (omega arith)
+
+  look-let : (v q : RefT (List ℕ)) (page whole tenths answer : ℕ) → now v ≡ s → LookPromise d v page whole tenths q answer → NotTurnedAway answer
+  unfolding lookBy
+  look-let v q page whole tenths answer p e =
+      let f : Found = find d s (cueName (cueKey page whole tenths)) in
+      let z : answer ≡ lookAt d s f .word =
+      e .says
+      ∙ ap (λ (k : List ℕ). lookCall d k page whole tenths .word) p
+      ∙ ap (λ (y : Look). y .word) (sym (look-by d s page whole tenths Admitted (not-away d s r)))
+      in
+      let l = look-word d s f in
+      before-away answer (omega arith)
+
+  find-let : (page whole tenths : ℕ) (a : Placed) → FindPromise d s page whole tenths a → NotTurnedAway (findReply a .number)
+  unfolding findBy
+  find-let page whole tenths a e =
+      let f : Found = find d s (cueName (cueKey page whole tenths)) in
+      let z : findReply a .number ≡ placedAt d f .number =
+      ap (λ (y : Reply). y .number) (e .0 ∙ sym (find-by d s page whole tenths Admitted (not-away d s r)))
+      in
+      let l = placed-number d f in
+      before-away (findReply a .number) (omega arith)
+
+  ready-let : LetIn d s
+  ready-let = record { load = load-let; write = write-let; empty = empty-let; look = look-let; find = find-let }
+
+pub good-after : (d : Desk) → GoodAfter d
+good-after d =
     record {
-      writes = write-answers d s out rs h g;
-      stream = part-same out 0 (streamOf d s) (length (streamOf d s)) (omega arith) refl;
-      loads =
-          load-answers d t reps (streamOf d s) rt h
-          ∙ ap (λ z. loadedAs (Done z) (loadOf d t (streamOf d s) .store) (storedIn reps (allReports (loadOf d t (streamOf d s))))) (x .told)
-          ∙ ap (λ (q : List ℕ). loadedAs (Done (allObeyed (length (linesOf d s)))) (loadOf d t (streamOf d s) .store) q) (x .list reps);
-      show = x .show;
+      emptied = λ v s e. ready-let d s (empty-answered d v e .ready);
+      loaded =
+          λ s reps stream x t q e.
+          let l = load-answered d s reps stream e in
+          ready-let d t (subst (Ready d) (sym (l .store)) (load-ready d s stream (l .ready)));
     }
 
--- the empty store of the smallest desk is not turned away, by computation
-smallest-taken : Admitted ≡ admissionOf smallest (replicate (storeLength smallest) 0)
-unfolding admissionOf firstFrom allFrom countFrom put allOf inRangeOf levelWidth levelsLength slotLength subSlots slotsOf patchStart entriesOf storeLength neededOf firstSlot slotCount pagesOf kindAt supported eqKind eqKey eqName lessKey okNumber okSub okWithin okPage okName subSlot entryOf total packed unpacked encodeHead decodeHead firstWord secondWord thirdWord wordOf quickOf encodePatch decodePatch slotAt putSlot entryAt putEntry headAt levelsAt levelPlace holdsAt find onFound placeOf hasTimes hasLink isZero linkFits valuesFit placeFits shares slotFits patchFits entryFits goodForm
-smallest-taken = refl
+-- ---- demand 3
 
-pub edges-called : EdgesCalled
-unfolding loadBy
-edges-called stream reps h = sym (load-by smallest (replicate (storeLength smallest) 0) reps stream Admitted smallest-taken h)
-
--- ---- the store afterwards
-
-run-ready : (d : Desk) (n : ℕ) (s : State) (t : List ℕ) (rs : List (List ℕ)) → Ready d t → Ready d (runFrom d n s t rs .store)
-unfolding runFrom
-run-ready d n s t [] h = h
-run-ready d n s t (r ∷ rs) h =
-    by-test (λ (z : Run). Ready d (z .store)) (stops (recordStep d s r t .outcome)) (only (n + 1) r (recordStep d s r t))
-    (andThen (n + 1) r (recordStep d s r t) (runFrom d (n + 1) (recordStep d s r t .state) (recordStep d s r t .store) rs))
-    (λ e. record-ready d t h s r)
-    (λ e. run-ready d (n + 1) (recordStep d s r t .state) (recordStep d s r t .store) rs (record-ready d t h s r))
-
-pub load-ready : (d : Desk) (t stream : List ℕ) → Ready d t → Ready d (loadOf d t stream .store)
-unfolding loadOf
-load-ready d t stream h = run-ready d 0 nothingOpen t (recordsOf stream) h
-
-pub good-after : GoodAfter
-good-after d t stream h = not-away d (loadOf d t stream .store) (load-ready d t stream h)
-
--- ---- two desks
+-- room as a user sees it, of an answered load
+seen-room : (d : Desk) (s reps stream : List ℕ) {x : Totals} {t q : List ℕ} → LoadAnswered d s reps stream x t q → SeenRoom x q
+    → HadRoom (loadOf d s stream)
+seen-room d s reps stream {x} {t} {q} l h =
+    let run = loadOf d s stream in
+    let g : SeenRoom (totalsOf run) (storedIn reps (allReports run)) =
+    subst (λ (z : List ℕ). SeenRoom (totalsOf run) z) (l .list) (subst (λ (z : Totals). SeenRoom z q) (l .told) h)
+    in
+    saw-room run reps (subst (λ (n : ℕ). totalsOf run .reports ≤ n) (stored-length reps (allReports run)) (g .0), g .1)
 
 pub rehearsed-calls : RehearsedCalls
-rehearsed-calls d D s S lent Lent stream h l =
-    let x = both-loads d D s S h stream in
-    record {
-      small = load-answers d _ lent stream (empty-good d s (h .long) (h .small)) l;
-      large = load-answers D _ Lent stream (empty-good D S (h .longer) (h .large)) l;
-      ships = λ p. x .0 (saw-room _ Lent p);
-      complete = λ p q. x .1 (saw-room _ Lent p) (saw-room _ lent q);
-      patch = x .2;
-    }
+rehearsed-calls d D larger v s w S e E stream lent Lent x t q X T Q f F =
+    let a = empty-answered d v e in
+    let A = empty-answered D w E in
+    let l = load-answered d s lent stream f in
+    let L = load-answered D S Lent stream F in
+    let h : Rehearsal d D v w = record { small = a .range; large = A .range; larger = larger; long = a .long; longer = A .long } in
+    let p = both (sym (a .store)) (sym (A .store)) (rehearsed d D v w h stream) in
+    let there = left (sym (l .store)) (sym (L .store)) in (
+      record {
+        ships = λ g. there (Carries d D) (p .0 g);
+        complete = λ g k. there (KeepsWithin d D) (p .1 g k);
+        patch = λ c. there (PatchedAlike d D) (p .2 c);
+      },
+      record {
+        ships = λ g. there (Carries d D) (p .0 (seen-room D S Lent stream L g));
+        complete = λ g k. there (KeepsWithin d D) (p .1 (seen-room D S Lent stream L g) (seen-room d s lent stream l k));
+      },
+    )
+  where
+    -- of the emptied stores, and of what was left in them
+    Parts : List ℕ → List ℕ → Type 0
+    Parts y Y =
+        Ships d D (loadOf d y stream) (loadOf D Y stream) × Complete d D (loadOf d y stream) (loadOf D Y stream)
+        × SamePatch d D (loadOf d y stream) (loadOf D Y stream)
+
+    both : {y Y z Z : List ℕ} → y ≡ z → Y ≡ Z → Parts y Y → Parts z Z
+    both {y} {Y} {z} {Z} g G p = subst (λ (k : List ℕ). Parts k Z) g (subst (λ (k : List ℕ). Parts y k) G p)
+
+    left : {y Y z Z : List ℕ} → y ≡ z → Y ≡ Z → (P : List ℕ → List ℕ → Type 0) → P y Y → P z Z
+    left {y} {Y} {z} {Z} g G P p = subst (λ (k : List ℕ). P k Z) g (subst (λ (k : List ℕ). P y k) G p)

@@ -1,65 +1,107 @@
--- The theorems of the load and of the round trip, said of the public calls one after the other (paper 01, "What the checker must hold us to").
+-- The theorems, said of the public calls one after the other, from calls that were answered (paper 01, demands 2 and 3; "What the checker
+-- must hold us to"). What a call promises is named in `show/specs/Calls`.
 -- Assumes nothing.
 use mathlib.Core.Path.{_≡_}
-use mathlib.Core.List.{List}
+use mathlib.Core.Bool.{false}
+use mathlib.Core.List.{List, _∷_, [], map}
 use Prim.Native.Nat.{ℕ, _≤_}
-use lib.ListN.{length, take, replicate}
-use Rattle.cells.specs.Put.{put}
+use denote.Ref.{RefT, now}
+use lib.ListN.{length, take, drop, replicate}
 use Rattle.store_desk.specs.declared.Desk.{Desk}
 use Rattle.store_desk.specs.Size.{storeLength}
 use Rattle.store_head.specs.Pack.{Bytes}
-use mathlib.Core.Bool.{_&&_}
-use Rattle.store_desk.specs.Name.{Name, okName}
-use Rattle.store.specs.Good.{Ready}
 use Rattle.store.specs.View.{memoryOf}
-use Rattle.store.specs.Change.{emptied}
+use Rattle.load.specs.declared.Totals.{Totals}
 use Rattle.load.specs.Run.{loadOf}
-use Rattle.save.specs.Lines.{linesOf, streamOf}
-use Rattle.theorem_same_show.specs.Show.{SameShow, allObeyed}
-use Rattle.theorem_rehearse.specs.Rehearse.{Rehearsal, loaded as rehearsed, SawRoom, Carries, isKept, SamePatch}
-use Rattle.theorem_told.specs.Edges.{smallest}
-use Rattle.show.specs.declared.Loaded.the-variants.{Done}
+use Rattle.save.specs.Lines.{linesOf}
+use Rattle.show.specs.declared.Loaded.{Loaded}
+use Rattle.show.specs.declared.Loaded.the-variants.{Done as LoadDone}
+use Rattle.show.specs.declared.Written.{Written}
 use Rattle.show.specs.declared.Written.the-variants.{Done as WriteDone}
-use Rattle.show.specs.declared.Admission.the-variants.{Admitted}
-use Rattle.show.specs.Calls.{mostBytes, admissionOf, loadedAs, loadDone, loadCall, writtenAs, writeCall}
+use Rattle.show.specs.declared.Emptied.{Emptied}
+use Rattle.show.specs.declared.Emptied.the-variants.{Done as EmptyDone}
+use Rattle.show.specs.declared.Placed.{Placed}
+use Rattle.show.specs.Calls.{loadReply, LoadPromise, writeReply, WritePromise, emptyReply, EmptyPromise, LookPromise, findReply, FindPromise, loadCall}
+use Rattle.theorem_told.specs.Edges.{Edge, edges, cueOf, keptBy}
+use Rattle.theorem_same_show.specs.Show.{SameShow, allObeyed}
+use Rattle.theorem_rehearse.specs.Rehearse.{Larger, HadRoom, storedFull, Carries, KeepsWithin, PatchedAlike}
 
--- Write a show, and load what was written into any store in good form of the same desk: both calls answer, the load with no report and only
--- obeyed records, the lent list as it was, and the same show is kept
-pub record CallsReadBack (d : Desk) (s out t reps : List ℕ) : Type 0 where
-  pub writes : writeCall d s out ≡ writtenAs (WriteDone (length (streamOf d s))) (put out 0 (streamOf d s))
-  pub stream : take (length (streamOf d s)) (put out 0 (streamOf d s)) ≡ streamOf d s
-  pub loads : loadCall d t reps (streamOf d s)
-      ≡ loadedAs (Done (allObeyed (length (linesOf d s)))) (loadOf d t (streamOf d s) .store) reps
-  pub show : SameShow d s (loadOf d t (streamOf d s) .store)
+-- ---- demand 2: a show written, and what was written read back
 
--- where the stream is at most 262,143 characters, and the output has room for it
+-- a load of what was written, into store t of the same desk, that was answered: no report, every record obeyed, as many as lines, the lent
+-- list as it was, the same show, the bytes past the needed length as they were; and writing it gives the same stream
+pub record ReadBackAs (d : Desk) (s stream t reps : List ℕ) (x : Totals) (u q : List ℕ) : Type 0 where
+  pub told : x ≡ allObeyed (length (linesOf d s))
+  pub list : q ≡ reps
+  pub show : SameShow d s u
+  pub past : drop (storeLength d) u ≡ drop (storeLength d) t
+  pub again : (out : List ℕ) (n : ℕ) (o : List ℕ) → WritePromise d u out (WriteDone n) o → take n o ≡ stream
+
 abbrev pub WriteThenLoad : Type 0
 WriteThenLoad =
-    (d : Desk) (s out t reps : List ℕ) → Ready d s → Bytes s → Ready d t → length (streamOf d s) ≤ mostBytes → length (streamOf d s) ≤ length out
-    → CallsReadBack d s out t reps
+    (d : Desk) (s out : List ℕ) (n : ℕ) (o : List ℕ) → Bytes s → WritePromise d s out (WriteDone n) o
+    → (t reps : List ℕ) (x : Totals) (u q : List ℕ) → LoadPromise d t reps (take n o) (LoadDone x) u q
+    → ReadBackAs d s (take n o) t reps x u q
 
--- the proved edges are answers of the call itself: their desk and empty store are not turned away
-abbrev pub EdgesCalled : Type 0
-EdgesCalled =
-    (stream reps : List ℕ) → length stream ≤ mostBytes
-    → loadCall smallest (replicate (storeLength smallest) 0) reps stream
-    ≡ loadDone (loadOf smallest (replicate (storeLength smallest) 0) stream) reps
+-- it is answered where the store was emptied before
+abbrev pub WrittenIsLoaded : Type 0
+WrittenIsLoaded =
+    (d : Desk) (s out : List ℕ) (n : ℕ) (o : List ℕ) → WritePromise d s out (WriteDone n) o
+    → (v t : List ℕ) → EmptyPromise d v EmptyDone t
+    → (reps : List ℕ) (a : Loaded) (u q : List ℕ) → LoadPromise d t reps (take n o) a u q → loadReply a .number ≡ 0
 
--- after a load that was answered the store is in good form, so that no later call with that desk and store is R2, R3 or R4
-abbrev pub GoodAfter : Type 0
-GoodAfter = (d : Desk) (t stream : List ℕ) → Ready d t → Admitted ≡ admissionOf d (loadOf d t stream .store)
+-- ---- after an answered call
 
--- Demand 3, of the load call on two emptied desks as a user sees it: both calls answer; "had room" is that the count is at most the lent
--- list's length and no stored word has condition 21 or 22
-pub record CallsRehearse (d D : Desk) (s S lent Lent stream : List ℕ) : Type 0 where
-  pub small : loadCall d (emptied d s) lent stream ≡ loadDone (rehearsed d s stream) lent
-  pub large : loadCall D (emptied D S) Lent stream ≡ loadDone (rehearsed D S stream) Lent
-  pub ships : SawRoom (rehearsed D S stream) Lent → Carries d D (rehearsed d s stream .store) (rehearsed D S stream .store)
-  pub complete : SawRoom (rehearsed D S stream) Lent → SawRoom (rehearsed d s stream) lent
-      → (n : Name)
-      → isKept (memoryOf d (rehearsed d s stream .store) n) ≡ (okName d n && isKept (memoryOf D (rehearsed D S stream .store) n))
-  pub patch : SamePatch d D (rehearsed d s stream) (rehearsed D S stream)
+-- no later call with that desk and store is R2, R3 or R4
+abbrev pub NotTurnedAway : ℕ → Type 0
+NotTurnedAway n = (n ≡ 2 → ⊥) × (n ≡ 3 → ⊥) × (n ≡ 4 → ⊥)
+
+pub record LetIn (d : Desk) (s : List ℕ) : Type 0 where
+  pub load : (reps stream : List ℕ) (a : Loaded) (t q : List ℕ) → LoadPromise d s reps stream a t q → NotTurnedAway (loadReply a .number)
+  pub write : (out : List ℕ) (a : Written) (o : List ℕ) → WritePromise d s out a o → NotTurnedAway (writeReply a .number)
+  pub empty : (a : Emptied) (t : List ℕ) → EmptyPromise d s a t → NotTurnedAway (emptyReply a .number)
+  pub look : (v r : RefT (List ℕ)) (page whole tenths answer : ℕ) → now v ≡ s → LookPromise d v page whole tenths r answer → NotTurnedAway answer
+  pub find : (page whole tenths : ℕ) (a : Placed) → FindPromise d s page whole tenths a → NotTurnedAway (findReply a .number)
+
+pub record GoodAfter (d : Desk) : Type 0 where
+  pub emptied : (v s : List ℕ) → EmptyPromise d v EmptyDone s → LetIn d s
+  pub loaded : (s reps stream : List ℕ) (x : Totals) (t q : List ℕ) → LoadPromise d s reps stream (LoadDone x) t q → LetIn d t
+
+-- ---- demand 3: two emptied desks load the same stream
+
+-- what desk d keeps in t, and desk D, equal or larger in every limit, in T, after loads of the stream into the emptied s and S.
+-- "Reported" is over all reports, stored or not
+pub record RehearsedAs (d D : Desk) (s S stream t T : List ℕ) : Type 0 where
+  pub ships : HadRoom (loadOf D S stream) → Carries d D t T
+  pub complete : HadRoom (loadOf D S stream) → HadRoom (loadOf d s stream) → KeepsWithin d D t T
+  pub patch : d .channels ≡ D .channels → PatchedAlike d D t T
+
+-- the same as a user sees it: the count is at most the lent list's length, and no stored word has condition 21 or 22
+abbrev pub SeenRoom : Totals → List ℕ → Type 0
+SeenRoom x lent = (x .reports ≤ length lent) × (storedFull (take (x .reports) lent) ≡ false)
+
+pub record RehearsalSeen (d D : Desk) (x : Totals) (q t : List ℕ) (X : Totals) (Q T : List ℕ) : Type 0 where
+  pub ships : SeenRoom X Q → Carries d D t T
+  pub complete : SeenRoom X Q → SeenRoom x q → KeepsWithin d D t T
 
 abbrev pub RehearsedCalls : Type 0
 RehearsedCalls =
-    (d D : Desk) (s S lent Lent stream : List ℕ) → Rehearsal d D s S → length stream ≤ mostBytes → CallsRehearse d D s S lent Lent stream
+    (d D : Desk) → Larger d D
+    → (v s w S : List ℕ) → EmptyPromise d v EmptyDone s → EmptyPromise D w EmptyDone S
+    → (stream lent Lent : List ℕ) (x : Totals) (t q : List ℕ) (X : Totals) (T Q : List ℕ)
+    → LoadPromise d s lent stream (LoadDone x) t q → LoadPromise D S Lent stream (LoadDone X) T Q
+    → RehearsedAs d D s S stream t T × RehearsalSeen d D x q t X Q T
+
+-- ---- the proved edges are answers of the call itself
+
+-- on an empty store, with a lent list of just the length of the row's reports: the number, what is told, the list, and the cue that is kept
+unfoldable pub edgeCalled : Edge → List (List ℕ)
+edgeCalled e =
+    let x = loadCall (e .desk) (replicate (storeLength (e .desk)) 0) (replicate (length (e .reports)) 0) (e .stream) in
+    (x .reply .number ∷ x .reply .told) ∷ x .reports ∷ keptBy (memoryOf (e .desk) (x .store) (cueOf (e .cue))) ∷ []
+
+abbrev pub edgeWanted : Edge → List (List ℕ)
+edgeWanted e = (0 ∷ length (e .reports) ∷ e .told) ∷ e .reports ∷ e .kept ∷ []
+
+abbrev pub EdgesCalled : Type 0
+EdgesCalled = map edgeCalled edges ≡ map edgeWanted edges

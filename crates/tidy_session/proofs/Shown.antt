@@ -5,16 +5,16 @@ use mathlib.Core.Path.{_≡_, refl, sym, ap, _∙_, subst}
 use mathlib.Core.List.{List, _++_}
 use Prim.Native.Nat.{ℕ, _+_, _-_, _≤_, _<_}
 use native.Mathlib.Omega.{arith}
-use lib.Dec.{ltb}
 use lib.ListN.{length, take, drop, length-drop}
 use lib.Seq.{length-take-le}
-use borrow.Author.Tests.{ltb-true, ltb-false, lt-ltb, le-ltb}
+use borrow.Author.Tests.{lt-ltb, le-ltb}
 use Rattle.cells.specs.Put.{put}
 use Rattle.cells.proofs.Put.{put-front, put-back, put-part}
-use Rattle.cells.proofs.Split.{by-test, cond-true, cond-false}
+use Rattle.cells.proofs.Split.{by-lt, cond-true, cond-false}
 use Rattle.store_desk.specs.declared.Refusal.{Refusal}
 use Rattle.store_desk.specs.declared.Refusal.the-variants.{R6}
-use Rattle.store_desk.specs.Refusal.{refusalNumber}
+use Rattle.store_desk.specs.Refusal.{refusalNumber, refused}
+use Rattle.store_desk.proofs.Reply.{refused-apart, refused-no-reply}
 use Rattle.store_desk.specs.Size.{house}
 use Rattle.store.specs.Good.{Ready}
 use Rattle.save.specs.Lines.{streamOf}
@@ -25,9 +25,9 @@ use Rattle.text_room.specs.Room.{Room}
 use Rattle.show.specs.declared.Admission.the-variants.{Admitted}
 use Rattle.show.specs.declared.Written.{Written}
 use Rattle.show.specs.declared.Written.the-variants.{Away, Done}
-use Rattle.show.specs.Calls.{mostBytes, WriteCall, writtenAs, putCall, writeBy, writeCall}
-use Rattle.show.proofs.Laws.{write-by}
-use Rattle.theorem_called.proofs.Called.{not-away}
+use Rattle.show.specs.Calls.{mostBytes, WriteCall, writeReply, writtenAs, writeBy, WritePromise}
+use Rattle.show.proofs.Laws.{put-short, write-by}
+use Rattle.theorem_called.proofs.Answered.{not-away, write-answers, WriteAnswered, write-answered}
 use Rattle.tidy_printed.specs.Text.{neededText}
 use Rattle.tidy_printed.proofs.Lengths.{needed-length}
 use Rattle.tidy_session.specs.Session.{mostShown, shownText}
@@ -40,27 +40,6 @@ shown-long s h = cond-true _ _ _ (lt-ltb _ _ h)
 pub shown-short : (s : List ℕ) → length (streamOf house s) ≤ mostShown → shownText s ≡ streamOf house s
 unfolding shownText
 shown-short s h = cond-false _ _ _ (le-ltb _ _ h)
-
--- ---- the answer by cases, and the part of the output that was lent
-unfoldable Shown : List ℕ → List ℕ → Written → List ℕ → Type 0
-Shown s part (Away q) ys = (q ≡ R6 (length (streamOf house s))) × (ys ≡ part) × (mostShown < length (streamOf house s))
-Shown s part (Done n) ys = (ys ≡ put part 0 (shownText s)) × (length (shownText s) ≡ n) × (n ≤ mostShown)
-
-abbrev ShownCall : List ℕ → List ℕ → WriteCall → Type 0
-ShownCall s part x = Shown s part (x .answer) (x .out)
-
-put-shown : (s part : List ℕ) → length (streamOf house s) ≤ mostBytes → length part ≡ mostShown → ShownCall s part (putCall (streamOf house s) part)
-unfolding Shown putCall
-put-shown s part h l =
-    by-test (ShownCall s part) (ltb mostBytes (length (streamOf house s))) _ _
-    (λ e. let f : mostBytes < length (streamOf house s) = ltb-true _ _ e in let z : ⊥ = omega arith in absurd z)
-    (λ e.
-    by-test (ShownCall s part) (ltb (length part) (length (streamOf house s))) _ _
-    (λ f. let g : length part < length (streamOf house s) = ltb-true _ _ f in (refl, refl, omega arith))
-    (λ f.
-    let g : length (streamOf house s) ≤ length part = ltb-false _ _ f in
-    let k : length (streamOf house s) ≤ mostShown = omega arith in
-    (ap (put part 0) (sym (shown-short s k)), ap length (shown-short s k), k)))
 
 -- ---- in place: the lent part of the output, and the output with the part as it came back
 abbrev part : List ℕ → ℕ → List ℕ
@@ -81,47 +60,65 @@ back-same o at h =
     put-back o at (at + mostShown - at) (part o at) (part o at) refl (let f : mostShown ≡ at + mostShown - at = omega arith in part-length o at h ∙ f)
     ∙ put-part o at (at + mostShown - at) (omega arith)
 
+-- ---- the answer by cases
 module _ (s o : List ℕ) (at : ℕ) (r : Ready house s) (room : at + mostShown ≤ length o) {a : Written} {ys : List ℕ}
-    (e : writtenAs a ys ≡ writeCall house s (part o at)) where
-  shown : Shown s (part o at) a ys
+    (e : WritePromise house s (part o at) a ys) where
+  done : {n : ℕ} → a ≡ Done n → WriteAnswered house s (part o at) n ys
+  done f = write-answered house s (part o at) (subst (λ (x : Written). WritePromise house s (part o at) x ys) f e)
+
+  -- the refusal is that of a stream that finds no room
+  no-room : {q : Refusal} → a ≡ Away q → mostShown < length (streamOf house s)
+      → writtenAs (refused q) ys ≡ writtenAs (refused (R6 (length (streamOf house s)))) (part o at)
   unfolding writeBy
-  shown =
-      subst (ShownCall s (part o at)) (write-by house s (part o at) Admitted (not-away house s r) ∙ sym e)
-      (put-shown s (part o at) (house-short s) (part-length o at room))
+  no-room f h =
+      let l : length (part o at) ≡ mostShown = part-length o at room in
+      sym (ap (λ (x : Written). writtenAs (writeReply x) ys) f) ∙ e ∙ sym (write-by house s (part o at) Admitted (not-away house s r))
+      ∙ sym (put-short (streamOf house s) (part o at) refl (house-short s) (omega arith))
+
+  -- it is a refusal, and so the stream is longer than the part
+  too-long : {q : Refusal} → a ≡ Away q → mostShown < length (streamOf house s)
+  too-long {q} f =
+      by-lt mostShown (length (streamOf house s)) (λ h. h)
+      (λ h.
+      let l : length (part o at) ≡ mostShown = part-length o at room in
+      let w = write-answers house s (part o at) r (house-short s) (omega arith) in
+      refused-no-reply q (ap (λ (x : WriteCall). x .reply) (sym (ap (λ (x : Written). writtenAs (writeReply x) ys) f) ∙ e ∙ w)))
+
+  away-room : {q : Refusal} → a ≡ Away q → q ≡ R6 (length (streamOf house s))
+  away-room f = refused-apart (ap (λ (x : WriteCall). x .reply) (no-room f (too-long f)))
 
   -- of the refusals R6 alone can occur, with the stream's length
-  away : {q : Refusal} → a ≡ Away q → Shown s (part o at) (Away q) ys
-  away f = subst (λ (x : Written). Shown s (part o at) x ys) f shown
-
   pub never-other : {X : Type 0} {q p : Refusal} → a ≡ Away q → q ≡ p → (refusalNumber p ≡ 6 → ⊥) → X
-  unfolding Shown
-  never-other f g h = absurd (h (ap refusalNumber (sym g ∙ away f .0)))
+  never-other f g h = absurd (h (ap refusalNumber (sym g ∙ away-room f)))
 
   module _ {n : ℕ} where
     pub done-most : a ≡ Done n → n ≤ mostShown
-    unfolding Shown
-    done-most f = subst (λ (x : Written). Shown s (part o at) x ys) f shown .2
+    done-most f =
+        let w = done f in
+        let c : n ≡ length (streamOf house s) = w .count in
+        let h : length (streamOf house s) ≤ length (part o at) = w .room in
+        let l : length (part o at) ≡ mostShown = part-length o at room in
+        omega arith
 
     pub done-shown : a ≡ Done n → wrote (at + n) (back o at ys) ≡ wroteAt o at (shownText s)
-    unfolding Shown
     done-shown f =
-        let h : Shown s (part o at) (Done n) ys = subst (λ (x : Written). Shown s (part o at) x ys) f shown in
-        let l : length (shownText s) ≡ n = h .1 in
-        let m : n ≤ mostShown = h .2 in
-        wrote-count o at (shownText s) n l (put-front o at (at + mostShown - at) ys (shownText s) (h .0) (omega arith) (omega arith))
+        let m : n ≤ mostShown = done-most f in
+        let c : n ≡ length (streamOf house s) = done f .count in
+        let t : shownText s ≡ streamOf house s = shown-short s (omega arith) in
+        let l : length (shownText s) ≡ n = ap length t ∙ sym c in
+        wrote-count o at (shownText s) n l
+        (put-front o at (at + mostShown - at) ys (shownText s) (done f .output ∙ ap (put (part o at) 0) (sym t)) (omega arith) (omega arith))
 
   module _ {q : Refusal} {n : ℕ} (f : a ≡ Away q) (g : q ≡ R6 n) where
     length-is : length (streamOf house s) ≡ n
-    unfolding Shown
-    length-is = let h : R6 n ≡ R6 (length (streamOf house s)) = sym g ∙ away f .0 in cc
+    length-is = let h : R6 n ≡ R6 (length (streamOf house s)) = sym g ∙ away-room f in cc
 
     pub needed-most : n ≤ mostBytes
     needed-most = subst (λ (k : ℕ). k ≤ mostBytes) length-is (house-short s)
 
     -- the output is as it was
     untouched : back o at ys ≡ o
-    unfolding Shown
-    untouched = ap (back o at) (away f .1) ∙ back-same o at room
+    untouched = ap (λ (x : WriteCall). back o at (x .out)) (no-room f (too-long f)) ∙ back-same o at room
 
     pub needed-room : Room (back o at ys) at (neededText n)
     needed-room =
@@ -131,7 +128,6 @@ module _ (s o : List ℕ) (at : ℕ) (r : Ready house s) (room : at + mostShown 
         record { fits = omega arith }
 
     pub needed-shown : {k : ℕ} {z : List ℕ} → wrote k z ≡ wroteAt (back o at ys) at (neededText n) → wrote k z ≡ wroteAt o at (shownText s)
-    unfolding Shown
     needed-shown h =
-        wrote-as o at (ap neededText (sym length-is) ∙ sym (shown-long s (away f .2)))
+        wrote-as o at (ap neededText (sym length-is) ∙ sym (shown-long s (too-long f)))
         (h ∙ ap (λ (l : List ℕ). wroteAt l at (neededText n)) untouched)

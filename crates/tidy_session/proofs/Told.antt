@@ -1,89 +1,69 @@
 -- The load into an empty house small desk is never turned away, so that `load` answers what is told: the desk is in range, zeros are in good
 -- form, and the input is short.
 -- Assumes nothing.
-use mathlib.Core.Path.{_≡_, refl, sym, ap, _∙_, subst}
-use mathlib.Core.List.{List, _++_, append-nil}
-use Prim.Native.Nat.{ℕ, zero, _+_, _≤_, _<_}
+use mathlib.Core.Path.{_≡_, sym, ap, _∙_, subst}
+use mathlib.Core.List.{List, _++_}
+use Prim.Native.Nat.{ℕ, _+_, _≤_, _<_}
 use native.Mathlib.Omega.{arith}
-use lib.ListN.{length, drop, replicate, length-append, length-replicate, drop-of-length-le}
+use lib.ListN.{length, drop, replicate, length-append}
 use borrow.Author.Tests.{lt-ltb, le-ltb}
-use Rattle.cells.specs.Put.{put}
 use Rattle.cells.specs.Text.{bytes}
 use Rattle.cells.proofs.Put.{put-zero}
 use Rattle.cells.proofs.Split.{cond-true, cond-false}
 use Rattle.store_desk.specs.declared.Refusal.{Refusal}
-use Rattle.store_desk.specs.Size.{house, storeLength}
+use Rattle.store_desk.specs.Size.{house}
+use Rattle.store_desk.specs.Refusal.{Reply}
+use Rattle.store_desk.proofs.Reply.{refused-no-reply}
 use Rattle.store_desk.proofs.Size.{in-range, house-in-range, house-needs}
-use Rattle.store.specs.Change.{emptied}
 use Rattle.store.specs.Good.{Ready}
-use Rattle.store.proofs.Empty.{empty-good}
 use Rattle.load.specs.declared.Totals.{Totals}
-use Rattle.load.specs.Run.{Run, totalsOf, storedIn, allReports}
 use Rattle.text_room.specs.Wrote.{wrote, wroteAt}
 use Rattle.text_room.proofs.Writes.{wrote-as, wrote-then, next-is, out-is}
 use Rattle.text_room.specs.Room.{Room}
 use Rattle.text_room.proofs.Chain.{wrote-length}
 use Rattle.show.specs.declared.Loaded.{Loaded}
 use Rattle.show.specs.declared.Loaded.the-variants.{Away, Done}
-use Rattle.show.specs.Calls.{LoadCall, loadedAs, loadDone, loadCall}
-use Rattle.theorem_called.proofs.Called.{load-answers, load-ready}
+use Rattle.show.specs.Calls.{LoadCall, loadReply, loadedAs, loadDone, loadCall, LoadPromise}
+use Rattle.theorem_called.proofs.Answered.{load-answers, LoadAnswered, load-answered, load-ready, zeros-ready}
 use Rattle.tidy_printed.specs.Text.{toldText}
 use Rattle.tidy_printed.proofs.Lengths.{Tallies, told-length}
 use Rattle.tidy_session.specs.Session.{mostInput, mostShown, emptyStore, readIn, reportList, shownText, answerText, tidyText}
 
 -- ---- the empty store
-zeros-in-zeros : (k : ℕ) → put (replicate k 0) 0 (replicate k 0) ≡ replicate k 0
-zeros-in-zeros k =
-    let f : length (replicate k zero) ≤ length (replicate k zero) = omega arith in
-    put-zero (replicate k 0) (replicate k 0)
-    ∙ ap (λ (z : List ℕ). replicate k 0 ++ z) (drop-of-length-le (replicate k 0) f)
-    ∙ append-nil (replicate k 0)
-
 pub empty-ready : Ready house emptyStore
-unfolding emptied
-empty-ready =
-    let e : length (replicate (storeLength house) zero) ≡ storeLength house = length-replicate (storeLength house) (zero) in
-    subst (Ready house) (zeros-in-zeros (storeLength house))
-    (empty-good house emptyStore (omega arith) (in-range house house-in-range))
+empty-ready = zeros-ready house (in-range house house-in-range)
 
 pub read-ready : (stream : List ℕ) → Ready house (readIn stream .store)
 unfolding readIn
 read-ready stream = load-ready house emptyStore stream empty-ready
 
 -- ---- what `load` answers
-unfoldable Told : Run → Loaded → Type 0
-Told x (Away r) = ⊥
-Told x (Done t) = t ≡ totalsOf x
+module _ (stream : List ℕ) (short : length stream ≤ mostInput) {s reps : List ℕ} where
+  called : {y : Reply} → loadedAs y s reps ≡ loadCall house (replicate 35136 0) (replicate 1024 0) stream
+      → loadedAs y s reps ≡ loadCall house emptyStore reportList stream
+  called e = e ∙ ap (λ (k : ℕ). loadCall house (replicate k 0) reportList stream) (sym house-needs)
 
-module _ (stream : List ℕ) (short : length stream ≤ mostInput) {a : Loaded} {s reps : List ℕ}
-    (e : loadedAs a s reps ≡ loadCall house (replicate 35136 0) (replicate 1024 0) stream) where
-  answered : loadedAs a s reps ≡ loadDone (readIn stream) reportList
+  answered : {y : Reply} → loadedAs y s reps ≡ loadCall house (replicate 35136 0) (replicate 1024 0) stream
+      → loadedAs y s reps ≡ loadDone (readIn stream) reportList
   unfolding readIn
-  answered =
-      e ∙ ap (λ (k : ℕ). loadCall house (replicate k 0) reportList stream) (sym house-needs)
-      ∙ load-answers house emptyStore reportList stream empty-ready (omega arith)
+  answered e = called e ∙ load-answers house emptyStore reportList stream empty-ready (omega arith)
 
-  told : Told (readIn stream) a
-  unfolding Told
-  told = subst (Told (readIn stream)) (sym (ap (λ (x : LoadCall). x .answer) answered)) refl
+  pub loaded-ready : {y : Reply} → loadedAs y s reps ≡ loadCall house (replicate 35136 0) (replicate 1024 0) stream → Ready house s
+  loaded-ready e = subst (Ready house) (sym (ap (λ (x : LoadCall). x .store) (answered e))) (read-ready stream)
 
-  -- no refusal can occur
-  pub never-away : {X : Type 0} {r : Refusal} → a ≡ Away r → X
-  unfolding Told
-  never-away f = absurd (subst (Told (readIn stream)) f told)
+  module _ {a : Loaded} (e : LoadPromise house (replicate 35136 0) (replicate 1024 0) stream a s reps) where
+    -- no refusal can occur
+    pub never-away : {X : Type 0} {r : Refusal} → a ≡ Away r → X
+    never-away {X} {r} f = refused-no-reply r (sym (ap loadReply f) ∙ ap (λ (x : LoadCall). x .reply) (answered e))
 
-  pub loaded-ready : Ready house s
-  loaded-ready = subst (Ready house) (sym (ap (λ (x : LoadCall). x .store) answered)) (read-ready stream)
-
-  pub answer-is : {t : Totals} → a ≡ Done t → toldText reps t ++ shownText s ≡ answerText (readIn stream)
-  unfolding Told answerText
-  answer-is {t} f =
-      let h : t ≡ totalsOf (readIn stream) = subst (Told (readIn stream)) f told in
-      let p : s ≡ readIn stream .store = ap (λ (x : LoadCall). x .store) answered in
-      let q : reps ≡ storedIn reportList (allReports (readIn stream)) = ap (λ (x : LoadCall). x .reports) answered in
-      ap (λ (z : Totals). toldText reps z ++ shownText s) h
-      ∙ ap (λ (z : List ℕ). toldText z (totalsOf (readIn stream)) ++ shownText s) q
-      ∙ ap (λ (z : List ℕ). toldText (storedIn reportList (allReports (readIn stream))) (totalsOf (readIn stream)) ++ shownText z) p
+    pub answer-is : {t : Totals} → a ≡ Done t → toldText reps t ++ shownText s ≡ answerText (readIn stream)
+    unfolding readIn answerText
+    answer-is {t} f =
+        let l : LoadAnswered house emptyStore reportList stream t s reps =
+        load-answered house emptyStore reportList stream
+        (subst (λ (x : Loaded). LoadPromise house emptyStore reportList stream x s reps) f (called e))
+        in
+        (λ i. toldText (l .list i) (l .told i) ++ shownText (l .store i))
 
 -- ---- room for what is told, and the longest stream behind it
 pub tallies : (t : Totals) → t .blank < 4294967296 → t .obeyed < 4294967296 → t .passed < 4294967296 → t .dropped < 4294967296 → Tallies t

@@ -3,6 +3,7 @@
 -- Assumes nothing.
 use mathlib.Core.Bool.{cond}
 use mathlib.Core.List.{List, _++_}
+use mathlib.Core.Path.{_≡_}
 use Prim.Native.Nat.{ℕ}
 use lib.Dec.{ltb}
 use lib.ListN.{length, replicate}
@@ -10,6 +11,7 @@ use Rattle.cells.specs.Text.{bytes}
 use Rattle.store_desk.specs.Size.{house, storeLength}
 use Rattle.load.specs.Run.{Run, loadOf, totalsOf, storedIn, allReports}
 use Rattle.save.specs.Lines.{streamOf}
+use Rattle.text_room.specs.Wrote.{wrote, wroteAt}
 use Rattle.tidy_printed.specs.Text.{toldText, neededText}
 
 -- "reads standard input, at most 65,535 bytes"
@@ -43,3 +45,8 @@ answerText x = toldText (storedIn reportList (allReports x)) (totalsOf x) ++ sho
 -- "Too much input prints only `input too long`"
 unfoldable pub tidyText : List ℕ → List ℕ
 tidyText input = let r = answerText (readIn input) in cond (ltb mostInput (length input)) (bytes "input too long\n") r
+
+-- the promise of `tidy`, of its input and output, of the length that it answers and of the output afterwards: the text stands at the output's
+-- start, the length is the text's, and the bytes past it are as they were
+abbrev pub TidyPromise : List ℕ → List ℕ → ℕ → List ℕ → Type 0
+TidyPromise input out r o = wrote r o ≡ wroteAt out 0 (tidyText input)

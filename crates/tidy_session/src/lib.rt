@@ -13,7 +13,7 @@ ghost use Rattle.store_desk.specs.Size.{house};
 ghost use Rattle.store.specs.Good.{Ready};
 ghost use Rattle.text_room.specs.Wrote.{wrote, wroteAt};
 ghost use Rattle.tidy_printed.specs.Text.{toldText};
-ghost use Rattle.tidy_session.specs.Session.{shownText, readIn, answerText, tidyText};
+ghost use Rattle.tidy_session.specs.Session.{shownText, readIn, answerText, TidyPromise};
 
 // The longest input that is read, in bytes.
 const MOST_INPUT: usize = 65535;
@@ -79,7 +79,7 @@ pub fn buffer() -> [u8; 78943]
 // Writes what `tidy` prints at the start of `out`, and answers its length.
 pub fn tidy(input: &[u8], out: &mut [u8]) -> usize
     requires { ⌜ 78943 ≤ length (now out) ⌝ }
-    ensures { λ r. ⌜ wrote r (now (out .exit)) ≡ wroteAt (now (out .entry)) 0 (tidyText (now (input .entry))) ⌝ }
+    ensures { λ r. ⌜ TidyPromise (now (input .entry)) (now (out .entry)) r (now (out .exit)) ⌝ }
 {
     if MOST_INPUT < input.len() {
         return text_room::put_text(out, 0, b"input too long\n");

@@ -1,0 +1,55 @@
+-- A refusal's number is never 0, and its number and what it tells beside it tell it from every other; so no second answer of `needed`
+-- fits its promise. By the cases of a refusal.
+-- Assumes nothing.
+use mathlib.Core.Path.{_≡_, refl, sym, ap, _∙_}
+use mathlib.Core.List.{List, [], _∷_}
+use Prim.Native.Nat.{ℕ, _≤_}
+use native.Mathlib.Omega.{arith}
+use lib.ListN.{getD}
+use Rattle.store_desk.specs.declared.Desk.{Desk}
+use Rattle.store_desk.specs.declared.Needed.{Needed}
+use Rattle.store_desk.specs.declared.Needed.the-variants.{Away, Length}
+use Rattle.store_desk.specs.declared.Refusal.{Refusal}
+use Rattle.store_desk.specs.declared.Refusal.the-variants.{R1, R2, R3, R4, R5, R6}
+use Rattle.store_desk.specs.Refusal.{refusalNumber, Reply, replied, refused, neededReply, NeededPromise}
+
+pub refusal-some : (r : Refusal) → 1 ≤ refusalNumber r
+refusal-some R1 = omega arith
+refusal-some R2 = omega arith
+refusal-some R3 = omega arith
+refusal-some R4 = omega arith
+refusal-some R5 = omega arith
+refusal-some (R6 n) = omega arith
+
+-- the refusal of a number and what is told beside it
+named : ℕ → List ℕ → Refusal
+named n told = getD (R1 ∷ R1 ∷ R2 ∷ R3 ∷ R4 ∷ R5 ∷ R6 (getD told 0 0) ∷ []) n R1
+
+named-again : (r : Refusal) → named (refused r .number) (refused r .told) ≡ r
+unfolding named
+named-again R1 = refl
+named-again R2 = refl
+named-again R3 = refl
+named-again R4 = refl
+named-again R5 = refl
+named-again (R6 n) = refl
+
+pub refused-apart : {r q : Refusal} → refused r ≡ refused q → r ≡ q
+refused-apart {r} {q} e = sym (named-again r) ∙ ap (λ (x : Reply). named (x .number) (x .told)) e ∙ named-again q
+
+pub refused-no-reply : {X : Type 0} (r : Refusal) {l : List ℕ} → refused r ≡ replied l → X
+refused-no-reply r e =
+    let f : refusalNumber r ≡ 0 = ap (λ (x : Reply). x .number) e in
+    let l = refusal-some r in
+    absurd (let z : ⊥ = omega arith in z)
+
+-- ---- needed
+
+needed-apart : (a b : Needed) → neededReply a ≡ neededReply b → a ≡ b
+needed-apart (Away r) (Away q) e = ap (λ (x : Refusal). Away x) (refused-apart e)
+needed-apart (Away r) (Length n) e = refused-no-reply r e
+needed-apart (Length n) (Away q) e = refused-no-reply q (sym e)
+needed-apart (Length n) (Length m) e = ap (λ (x : Reply). Length (getD (x .told) 0 0)) e
+
+pub one-needed : (d : Desk) {a b : Needed} → NeededPromise d a → NeededPromise d b → a ≡ b
+one-needed d e f = needed-apart _ _ (e ∙ sym f)

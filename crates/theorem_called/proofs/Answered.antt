@@ -1,0 +1,203 @@
+-- What a call that was answered says, by its promise: it was let in, and its answer and every lent list are those of the load, of the written
+-- stream, of the emptied store. A refusal's number is never 0, and no second answer fits a promise.
+-- Assumes nothing.
+use mathlib.Core.Path.{_≡_, refl, sym, ap, _∙_, subst}
+use mathlib.Core.Bool.{false}
+use mathlib.Core.List.{List, [], _∷_, _++_, append-nil}
+use Prim.Native.Nat.{ℕ, zero, _+_, _≤_}
+use native.Mathlib.Omega.{arith}
+use lib.Dec.{ltb, leb}
+use lib.ListN.{length, take, replicate, length-replicate, drop-of-length-le}
+use borrow.Author.Tests.{le-ltb, leb-true, leb-false}
+use Rattle.cells.specs.Put.{put}
+use Rattle.cells.proofs.Put.{put-zero, part-same}
+use Rattle.cells.proofs.Split.{by-test, by-bool, by-le, not-of-false}
+use Rattle.store_desk.specs.declared.Desk.{Desk}
+use Rattle.store_desk.specs.declared.Refusal.{Refusal}
+use Rattle.store_desk.specs.declared.Refusal.the-variants.{R1, R2, R3, R5, R6}
+use Rattle.store_desk.specs.Refusal.{refusalNumber}
+use Rattle.store_desk.specs.Size.{InRange, inRangeOf, storeLength}
+use Rattle.store_desk.proofs.Size.{in-range}
+use Rattle.store_desk.proofs.Reply.{refusal-some}
+use Rattle.store.specs.Change.{emptied}
+use Rattle.store.specs.Good.{Ready}
+use Rattle.store.proofs.Empty.{empty-good}
+use Rattle.store.proofs.Form.{good-sound, good-complete}
+use Rattle.text_records.specs.Stream.{recordsOf}
+use Rattle.load.specs.declared.State.{State}
+use Rattle.load.specs.declared.Totals.{Totals}
+use Rattle.load.specs.Step.{recordStep, nothingOpen}
+use Rattle.load.specs.Run.{Run, loadOf, totalsOf, storedIn, allReports, runFrom, stops, only, andThen}
+use Rattle.load.proofs.Steps.{record-ready}
+use Rattle.save.specs.Lines.{streamOf}
+use Rattle.show.specs.declared.Admission.{Admission}
+use Rattle.show.specs.declared.Admission.the-variants.{Admitted, Away}
+use Rattle.show.specs.declared.Loaded.the-variants.{Done as LoadDone}
+use Rattle.show.specs.declared.Written.the-variants.{Done as WriteDone}
+use Rattle.show.specs.declared.Emptied.the-variants.{Done as EmptyDone}
+use Rattle.show.specs.Calls.{mostBytes, admissionOf, LoadCall, loadDone, loadBy, loadCall, LoadPromise}
+use Rattle.show.specs.Calls.{WriteCall, writeReply, writtenAs, putCall, writeBy, writeCall, WritePromise, EmptyCall, emptyCall, EmptyPromise}
+use Rattle.show.proofs.Laws.{taken, admitted, load-long, load-by, put-long, put-short, write-by, empty-range, empty-short, empty-done}
+use Rattle.show.proofs.OneAnswer.{one-load, one-write, one-empty}
+
+-- ---- let in
+
+-- a store in good form is not turned away
+pub not-away : (d : Desk) (s : List ℕ) → Ready d s → Admitted ≡ admissionOf d s
+not-away d s r = admitted d s (record { range = r .range; long = r .long }) refl (good-complete d s (r .form))
+
+-- and no other
+pub let-in : (d : Desk) (s : List ℕ) → Admitted ≡ admissionOf d s → Ready d s
+let-in d s e = let t = taken d s e in record { range = t .0 .range; long = t .0 .long; form = good-sound d s (t .1) }
+
+-- a refusal's number is not 0
+none-refused : {X : Type 0} (r : Refusal) {n : ℕ} → refusalNumber r ≡ n → n ≡ 0 → X
+none-refused r e z = let l = refusal-some r in absurd (let o : ⊥ = omega arith in o)
+
+-- ---- load
+
+-- what an answered load says
+pub record LoadAnswered (d : Desk) (s reps stream : List ℕ) (x : Totals) (t q : List ℕ) : Type 0 where
+  pub ready : Ready d s
+  pub short : length stream ≤ mostBytes
+  pub told : x ≡ totalsOf (loadOf d s stream)
+  pub store : t ≡ loadOf d s stream .store
+  pub list : q ≡ storedIn reps (allReports (loadOf d s stream))
+
+module _ (d : Desk) (s reps stream : List ℕ) where
+  -- a load into a store in good form, of a stream that is short enough, is answered
+  pub load-answers : Ready d s → length stream ≤ mostBytes → loadCall d s reps stream ≡ loadDone (loadOf d s stream) reps
+  unfolding loadBy
+  load-answers r h = sym (load-by d s reps stream Admitted (not-away d s r) h)
+
+  load-admitted : (a : Admission) → a ≡ admissionOf d s → loadBy a d s reps stream .reply .number ≡ 0 → Admitted ≡ admissionOf d s
+  unfolding loadBy
+  load-admitted Admitted e z = e
+  load-admitted (Away r) e z = none-refused r refl z
+
+  load-let-in : loadCall d s reps stream .reply .number ≡ 0 → Ready d s × (length stream ≤ mostBytes)
+  load-let-in z =
+      by-le (length stream) mostBytes
+      (λ h.
+      let n = ap (λ (y : LoadCall). y .reply .number) (load-by d s reps stream (admissionOf d s) refl h) in
+      (let-in d s (load-admitted (admissionOf d s) refl (n ∙ z)), h))
+      (λ h. none-refused R1 (ap (λ (y : LoadCall). y .reply .number) (load-long d s reps stream h)) z)
+
+  pub load-answered : {x : Totals} {t q : List ℕ} → LoadPromise d s reps stream (LoadDone x) t q → LoadAnswered d s reps stream x t q
+  load-answered {x} e =
+      let p = load-let-in (ap (λ (y : LoadCall). y .reply .number) (sym e)) in
+      let run = loadOf d s stream in
+      let o = one-load d s reps stream {a = LoadDone x} {b = LoadDone (totalsOf run)} e (sym (load-answers (p .0) (p .1))) in
+      let f : LoadDone x ≡ LoadDone (totalsOf run) = o .0 in
+      record { ready = p .0; short = p .1; told = cc; store = o .1; list = o .2 }
+
+-- ---- write
+
+-- what an answered writing says
+pub record WriteAnswered (d : Desk) (s out : List ℕ) (n : ℕ) (o : List ℕ) : Type 0 where
+  pub ready : Ready d s
+  pub short : length (streamOf d s) ≤ mostBytes
+  pub room : length (streamOf d s) ≤ length out
+  pub count : n ≡ length (streamOf d s)
+  pub output : o ≡ put out 0 (streamOf d s)
+  pub stream : take n o ≡ streamOf d s
+
+module _ (d : Desk) (s out : List ℕ) where
+  -- a store in good form is written, where its stream is short enough and the output has room
+  pub write-answers : Ready d s → length (streamOf d s) ≤ mostBytes → length (streamOf d s) ≤ length out
+      → writeCall d s out ≡ writtenAs (writeReply (WriteDone (length (streamOf d s)))) (put out 0 (streamOf d s))
+  unfolding writeBy putCall
+  write-answers r h g =
+      let a : ltb mostBytes (length (streamOf d s)) ≡ false = le-ltb _ _ h in
+      let b : ltb (length out) (length (streamOf d s)) ≡ false = le-ltb _ _ g in
+      sym (write-by d s out Admitted (not-away d s r)) ∙ rw (a, b)
+
+  write-admitted : (a : Admission) → a ≡ admissionOf d s → writeBy a d s out .reply .number ≡ 0 → Admitted ≡ admissionOf d s
+  unfolding writeBy
+  write-admitted Admitted e z = e
+  write-admitted (Away r) e z = none-refused r refl z
+
+  put-let-in : putCall (streamOf d s) out .reply .number ≡ 0 → (length (streamOf d s) ≤ mostBytes) × (length (streamOf d s) ≤ length out)
+  put-let-in z =
+      by-le (length (streamOf d s)) mostBytes
+      (λ h.
+      by-le (length (streamOf d s)) (length out) (λ g. (h, g))
+      (λ g. none-refused (R6 (length (streamOf d s))) (ap (λ (y : WriteCall). y .reply .number) (put-short (streamOf d s) out refl h g)) z))
+      (λ h. none-refused R5 (ap (λ (y : WriteCall). y .reply .number) (put-long (streamOf d s) out refl h)) z)
+
+  pub write-answered : {n : ℕ} {o : List ℕ} → WritePromise d s out (WriteDone n) o → WriteAnswered d s out n o
+  unfolding writeBy
+  write-answered {n} {o} e =
+      let z : writeCall d s out .reply .number ≡ 0 = ap (λ (y : WriteCall). y .reply .number) (sym e) in
+      let a = write-admitted (admissionOf d s) refl (ap (λ (y : WriteCall). y .reply .number) (write-by d s out (admissionOf d s) refl) ∙ z) in
+      let p = put-let-in (ap (λ (y : WriteCall). y .reply .number) (write-by d s out Admitted a) ∙ z) in
+      let w = streamOf d s in
+      let q = one-write d s out {a = WriteDone n} {b = WriteDone (length w)} e (sym (write-answers (let-in d s a) (p .0) (p .1))) in
+      let f : WriteDone n ≡ WriteDone (length w) = q .0 in
+      let c : n ≡ length w = cc in
+      record {
+        ready = let-in d s a;
+        short = p .0;
+        room = p .1;
+        count = c;
+        output = q .1;
+        stream =
+            ap (λ (k : ℕ). take k o) c
+            ∙ ap (λ (y : List ℕ). take (length w) y) (q .1)
+            ∙ part-same out 0 w (length w) (let g = p .1 in omega arith) refl;
+      }
+
+-- ---- empty
+
+-- what an answered emptying says
+pub record EmptyAnswered (d : Desk) (v s : List ℕ) : Type 0 where
+  pub range : InRange d
+  pub long : storeLength d ≤ length v
+  pub store : s ≡ emptied d v
+  pub ready : Ready d s
+
+module _ (d : Desk) (v : List ℕ) where
+  pub empty-answered : {s : List ℕ} → EmptyPromise d v EmptyDone s → EmptyAnswered d v s
+  empty-answered {s} e =
+      by-bool (inRangeOf d)
+      (λ a.
+      by-bool (leb (storeLength d) (length v))
+      (λ b. done (in-range d a) (leb-true _ _ b))
+      (λ b. none-refused R3 (ap (λ (y : EmptyCall). y .reply .number) (empty-short d v (in-range d a) refl (leb-false _ _ b))) none))
+      (λ a. none-refused R2 (ap (λ (y : EmptyCall). y .reply .number) (empty-range d v refl (not-of-false _ a))) none)
+    where
+      none : emptyCall d v .reply .number ≡ 0
+      none = ap (λ (y : EmptyCall). y .reply .number) (sym e)
+
+      done : InRange d → storeLength d ≤ length v → EmptyAnswered d v s
+      done r l =
+          let q : s ≡ emptied d v = one-empty d v {a = EmptyDone} {b = EmptyDone} e (empty-done d v (record { range = r; long = l }) refl) .1 in
+          record { range = r; long = l; store = q; ready = subst (Ready d) (sym q) (empty-good d v l r) }
+
+-- ---- the store after a load
+
+run-ready : (d : Desk) (n : ℕ) (s : State) (t : List ℕ) (rs : List (List ℕ)) → Ready d t → Ready d (runFrom d n s t rs .store)
+unfolding runFrom
+run-ready d n s t [] h = h
+run-ready d n s t (r ∷ rs) h =
+    by-test (λ (z : Run). Ready d (z .store)) (stops (recordStep d s r t .outcome)) (only (n + 1) r (recordStep d s r t))
+    (andThen (n + 1) r (recordStep d s r t) (runFrom d (n + 1) (recordStep d s r t .state) (recordStep d s r t .store) rs))
+    (λ e. record-ready d t h s r)
+    (λ e. run-ready d (n + 1) (recordStep d s r t .state) (recordStep d s r t .store) rs (record-ready d t h s r))
+
+pub load-ready : (d : Desk) (t stream : List ℕ) → Ready d t → Ready d (loadOf d t stream .store)
+unfolding loadOf
+load-ready d t stream h = run-ready d 0 nothingOpen t (recordsOf stream) h
+
+-- ---- a store of zeros
+
+-- a list put over the whole of another
+pub put-whole : (t xs : List ℕ) → length t ≤ length xs → put t 0 xs ≡ xs
+put-whole t xs h = put-zero t xs ∙ ap (λ (z : List ℕ). xs ++ z) (drop-of-length-le t h) ∙ append-nil xs
+
+-- zeros of just the length that the desk needs are in good form
+pub zeros-ready : (d : Desk) → InRange d → Ready d (replicate (storeLength d) 0)
+unfolding emptied
+zeros-ready d r =
+    let e : length (replicate (storeLength d) zero) ≡ storeLength d = length-replicate (storeLength d) zero in
+    subst (Ready d) (put-whole (replicate (storeLength d) 0) (replicate (storeLength d) 0) (omega arith)) (empty-good d (replicate (storeLength d) 0) (omega arith) r)
