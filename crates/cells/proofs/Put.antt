@@ -2,12 +2,12 @@
 -- By the laws of `take`, `drop` and `++` at a seam.
 -- Assumes nothing.
 use mathlib.Core.Path.{_≡_, refl, sym, ap, _∙_, subst}
-use mathlib.Core.List.{List, [], _∷_, _++_, append-assoc}
+use mathlib.Core.List.{List, [], _∷_, _++_, append-assoc, append-nil}
 use Prim.Native.Nat.{ℕ, zero, suc, _+_, _-_, _*_, _<_, _≤_}
 use native.Mathlib.Nat.{add-zero, zero-add, suc-add}
 use native.Mathlib.Numerals.{add-one}
 use native.Mathlib.Omega.{arith}
-use lib.ListN.{length, getD, set, take, drop, replicate, length-append, length-drop, length-replicate, take-append-drop}
+use lib.ListN.{length, getD, set, take, drop, replicate, length-append, length-drop, length-replicate, take-append-drop, drop-of-length-le}
 use lib.Seq.{length-take-le, take-all, take-nil, take-at, drop-at, set-at, drop-drop, take-take, take-suc, drop-cons, append-snoc, drop-append-add, take-append-add, take-append-le, drop-append-le, getD-drop}
 use borrow.Rule.Slice.PartMut.{put-same}
 use Rattle.cells.specs.Put.{put}
@@ -31,6 +31,10 @@ put-nil t a = take-append-drop a t
 pub put-zero : (t xs : List ℕ) → put t 0 xs ≡ xs ++ drop (length xs) t
 unfolding put
 put-zero t xs = refl
+
+-- a list put over the whole of another
+pub put-whole : (t xs : List ℕ) → length t ≤ length xs → put t 0 xs ≡ xs
+put-whole t xs h = put-zero t xs ∙ ap (λ (z : List ℕ). xs ++ z) (drop-of-length-le t h) ∙ append-nil xs
 
 pub drop-at-put : (t : List ℕ) (a : ℕ) (xs : List ℕ) → a ≤ length t → drop a (put t a xs) ≡ xs ++ drop (length xs) (drop a t)
 unfolding put

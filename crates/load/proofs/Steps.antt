@@ -16,6 +16,7 @@ use Rattle.store_desk.specs.declared.Key.{Key}
 use Rattle.store_desk.specs.declared.Kind.{Kind}
 use Rattle.store_desk.specs.Size.{Within}
 use Rattle.store_desk.specs.Name.{Name, okName}
+use Rattle.text_records.specs.Stream.{recordsOf}
 use Rattle.text_fields.specs.declared.Item.{Item}
 use Rattle.text_fields.specs.Words.{Word, fieldsOf, tailOf}
 use Rattle.store.specs.declared.Edit.the-variants.{Level as SetLevel}
@@ -35,9 +36,9 @@ use Rattle.load.specs.declared.Outcome.the-variants.{Blank, Passed, Obey
 use Rattle.load.specs.Condition.{fullOf}
 use Rattle.load.specs.Item.{blameNone, faultsOf, memory, page, done, allDone}
 use Rattle.load.specs.Ask.{Wipe, table, dimmers, Ask, name, primaryAsk, itemAsk, fieldsAsk}
-use Rattle.load.specs.Step.{Step, wiped, openedBy, acted, stepOf, recordStep, outcomeReports, faultReports}
+use Rattle.load.specs.Step.{Step, nothingOpen, wiped, openedBy, acted, stepOf, recordStep, outcomeReports, faultReports}
 use Rattle.load.specs.Fits.{AllFit, Small}
-use Rattle.load.specs.Run.{conditionSpan}
+use Rattle.load.specs.Run.{conditionSpan, Run, stops, only, andThen, runFrom, loadOf}
 use Rattle.load.proofs.Entries.{faults-few}
 use Rattle.load.proofs.Deed.{OutcomeFits, WipesFit, Deed, resting, skipping, opening, editing, setting, patching, clearing, full-fits}
 use Rattle.load.proofs.Deed.{primary-deed, item-deed, fields-deed, record-deed}
@@ -111,6 +112,20 @@ module _ (d : Desk) (s : State) (n : ℕ) (t : List ℕ) (r : Ready d t) where
 pub record-ready : (d : Desk) (t : List ℕ) → Ready d t → (s : State) (x : List ℕ) → Ready d (recordStep d s x t .store)
 unfolding recordStep
 record-ready d t r s x = deed-ready d s (length (tailOf (fieldsOf x))) t r (record-deed d s x)
+
+-- and so of the records one after the other, and of a load
+run-ready : (d : Desk) (n : ℕ) (s : State) (t : List ℕ) (rs : List (List ℕ)) → Ready d t → Ready d (runFrom d n s t rs .store)
+unfolding runFrom
+run-ready d n s t [] h = h
+run-ready d n s t (r ∷ rs) h =
+    by-test (λ (z : Run). Ready d (z .store)) (stops (recordStep d s r t .outcome)) (only (n + 1) r (recordStep d s r t))
+    (andThen (n + 1) r (recordStep d s r t) (runFrom d (n + 1) (recordStep d s r t .state) (recordStep d s r t .store) rs))
+    (λ e. record-ready d t h s r)
+    (λ e. run-ready d (n + 1) (recordStep d s r t .state) (recordStep d s r t .store) rs (record-ready d t h s r))
+
+pub load-ready : (d : Desk) (t stream : List ℕ) → Ready d t → Ready d (loadOf d t stream .store)
+unfolding loadOf
+load-ready d t stream h = run-ready d 0 nothingOpen t (recordsOf stream) h
 
 -- ---- a fault has two fields, but for the last
 module _ (d : Desk) (s : State) (n : ℕ) (t : List ℕ) where

@@ -7,7 +7,7 @@ use Prim.Native.Nat.{ℕ}
 use lib.ListN.{length}
 use Rattle.store_desk.specs.declared.Desk.{Desk}
 use Rattle.store_desk.specs.declared.Kind.{Kind}
-use Rattle.store_desk.specs.declared.Kind.the-variants.{Cue, Group, Sub}
+use Rattle.store_desk.specs.declared.Kind.the-variants.{Cue}
 use Rattle.store_desk.specs.Name.{Name}
 use Rattle.text_fields.specs.Words.{Word, headOf}
 use Rattle.text_fields.specs.Places.{wordsFrom}

@@ -8,7 +8,7 @@ use native.Mathlib.Nat.{zero-add}
 use native.Mathlib.Omega.{arith}
 use lib.ListN.{length, take, drop, replicate, length-replicate}
 use Rattle.cells.specs.Put.{put}
-use Rattle.cells.proofs.Put.{length-put, part-inside, drop-after}
+use Rattle.cells.proofs.Put.{length-put, part-inside, drop-after, put-whole}
 use Rattle.cells.proofs.Search.{none-is}
 use Rattle.cells.proofs.Split.{clash}
 use Rattle.store_desk.specs.declared.Desk.{Desk}
@@ -84,3 +84,10 @@ module _ (d : Desk) (s : List ℕ) (long : storeLength d ≤ length s) where
               entries = λ j h. zero-entry-fits d (emptied d s) j (empty-entry j h);
             };
       }
+
+-- zeros of just the length that the desk needs are in good form
+pub zeros-ready : (d : Desk) → InRange d → Ready d (replicate (storeLength d) 0)
+unfolding emptied
+zeros-ready d r =
+    let e : length (replicate (storeLength d) zero) ≡ storeLength d = length-replicate (storeLength d) zero in
+    subst (Ready d) (put-whole (replicate (storeLength d) 0) (replicate (storeLength d) 0) (omega arith)) (empty-good d (replicate (storeLength d) 0) (omega arith) r)

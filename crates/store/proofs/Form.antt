@@ -199,9 +199,6 @@ module _ (d : Desk) (s : List ℕ) (g : GoodForm d s) (n : Name) where
             by-bool (holdsAt d s (n .key) j) (λ t. absurd (ne (at-inj (sym e ∙ found-holds j h l t)))) (λ f. f);
         free = λ key f. holds-one d s (n .key) key i (r .passes) f;
       }
-    where
-      at-inj : {i j : ℕ} → at i ≡ at j → i ≡ j
-      at-inj q = cc
 
   -- where the name is not kept: an unused slot of its kind
   unused-placed : (k : Kind) → n .kind ≡ k → find d s n ≡ nowhere → (i : ℕ) → lowestUnused d s k ≡ at i → Placed d s n i
@@ -253,17 +250,11 @@ module _ (d : Desk) (s : List ℕ) (g : GoodForm d s) (n : Name) where
   new-placed Cue q o f i e = unused-placed Cue q f i e
   new-placed Group q o f i e = unused-placed Group q f i e
   new-placed Sub q o f i e = subst (Placed d s n) (at-inj e) (sub-placed q o f)
-    where
-      at-inj : {i j : ℕ} → at i ≡ at j → i ≡ j
-      at-inj q = cc
 
   pub placed-seat : okName d n ≡ true → (i : ℕ) → seat d s n ≡ at i → Placed d s n i
   unfolding seat onFound
   placed-seat o i e = cases (find d s n) refl e
     where
-      at-inj : {i j : ℕ} → at i ≡ at j → i ≡ j
-      at-inj q = cc
-
       cases : (a : Found) → find d s n ≡ a → onFound a (λ j. at j) (newSeat d s (n .kind) (n .key)) ≡ at i → Placed d s n i
       cases (at j) f q = placed-found i (f ∙ q)
       cases nowhere f q = new-placed (n .kind) refl o f i q

@@ -98,6 +98,22 @@ module _ (c : ℕ) (cs : List ℕ) where
   unfolding keptOf
   kept-stop m = cond-true (isMark c) _ _ m
 
+-- what is left of what is left
+kept-by : (m i : Bool) (c : ℕ) (ks : List ℕ) → keptOf ks ≡ ks → isMark c ≡ m → (isHigh c || isControl c) ≡ i
+    → keptOf (cond m [] (cond i ks (c ∷ ks))) ≡ cond m [] (cond i ks (c ∷ ks))
+unfolding keptOf
+kept-by true i c ks h e f = refl
+kept-by false true c ks h e f = h
+kept-by false false c ks h e f =
+    cond-false (isMark c) [] (cond (isHigh c || isControl c) (keptOf ks) (c ∷ keptOf ks)) e
+    ∙ cond-false (isHigh c || isControl c) (keptOf ks) (c ∷ keptOf ks) f
+    ∙ ap (λ (x : List ℕ). c ∷ x) h
+
+pub kept-again : (r : List ℕ) → keptOf (keptOf r) ≡ keptOf r
+unfolding keptOf
+kept-again [] = refl
+kept-again (c ∷ r) = kept-by (isMark c) (isHigh c || isControl c) c (keptOf r) (kept-again r) refl refl
+
 pub kept-length : (xs : List ℕ) → length (keptOf xs) ≤ length xs
 unfolding keptOf
 kept-length [] = zero-le

@@ -3,15 +3,15 @@
 -- Assumes nothing.
 use mathlib.Core.Path.{_≡_, refl, sym, ap, _∙_, subst}
 use mathlib.Core.Bool.{false}
-use mathlib.Core.List.{List, [], _∷_, _++_, append-nil}
-use Prim.Native.Nat.{ℕ, zero, _+_, _≤_}
+use mathlib.Core.List.{List}
+use Prim.Native.Nat.{ℕ, _≤_}
 use native.Mathlib.Omega.{arith}
 use lib.Dec.{ltb, leb}
-use lib.ListN.{length, take, replicate, length-replicate, drop-of-length-le}
+use lib.ListN.{length, take}
 use borrow.Author.Tests.{le-ltb, leb-true, leb-false}
 use Rattle.cells.specs.Put.{put}
-use Rattle.cells.proofs.Put.{put-zero, part-same}
-use Rattle.cells.proofs.Split.{by-test, by-bool, by-le, not-of-false}
+use Rattle.cells.proofs.Put.{part-same}
+use Rattle.cells.proofs.Split.{by-bool, by-le, not-of-false}
 use Rattle.store_desk.specs.declared.Desk.{Desk}
 use Rattle.store_desk.specs.declared.Refusal.{Refusal}
 use Rattle.store_desk.specs.declared.Refusal.the-variants.{R1, R2, R3, R5, R6}
@@ -23,12 +23,8 @@ use Rattle.store.specs.Change.{emptied}
 use Rattle.store.specs.Good.{Ready}
 use Rattle.store.proofs.Empty.{empty-good}
 use Rattle.store.proofs.Form.{good-sound, good-complete}
-use Rattle.text_records.specs.Stream.{recordsOf}
-use Rattle.load.specs.declared.State.{State}
 use Rattle.load.specs.declared.Totals.{Totals}
-use Rattle.load.specs.Step.{recordStep, nothingOpen}
-use Rattle.load.specs.Run.{Run, loadOf, totalsOf, storedIn, allReports, runFrom, stops, only, andThen}
-use Rattle.load.proofs.Steps.{record-ready}
+use Rattle.load.specs.Run.{loadOf, totalsOf, storedIn, allReports}
 use Rattle.save.specs.Lines.{streamOf}
 use Rattle.show.specs.declared.Admission.{Admission}
 use Rattle.show.specs.declared.Admission.the-variants.{Admitted, Away}
@@ -173,31 +169,3 @@ module _ (d : Desk) (v : List ℕ) where
       done r l =
           let q : s ≡ emptied d v = one-empty d v {a = EmptyDone} {b = EmptyDone} e (empty-done d v (record { range = r; long = l }) refl) .1 in
           record { range = r; long = l; store = q; ready = subst (Ready d) (sym q) (empty-good d v l r) }
-
--- ---- the store after a load
-
-run-ready : (d : Desk) (n : ℕ) (s : State) (t : List ℕ) (rs : List (List ℕ)) → Ready d t → Ready d (runFrom d n s t rs .store)
-unfolding runFrom
-run-ready d n s t [] h = h
-run-ready d n s t (r ∷ rs) h =
-    by-test (λ (z : Run). Ready d (z .store)) (stops (recordStep d s r t .outcome)) (only (n + 1) r (recordStep d s r t))
-    (andThen (n + 1) r (recordStep d s r t) (runFrom d (n + 1) (recordStep d s r t .state) (recordStep d s r t .store) rs))
-    (λ e. record-ready d t h s r)
-    (λ e. run-ready d (n + 1) (recordStep d s r t .state) (recordStep d s r t .store) rs (record-ready d t h s r))
-
-pub load-ready : (d : Desk) (t stream : List ℕ) → Ready d t → Ready d (loadOf d t stream .store)
-unfolding loadOf
-load-ready d t stream h = run-ready d 0 nothingOpen t (recordsOf stream) h
-
--- ---- a store of zeros
-
--- a list put over the whole of another
-pub put-whole : (t xs : List ℕ) → length t ≤ length xs → put t 0 xs ≡ xs
-put-whole t xs h = put-zero t xs ∙ ap (λ (z : List ℕ). xs ++ z) (drop-of-length-le t h) ∙ append-nil xs
-
--- zeros of just the length that the desk needs are in good form
-pub zeros-ready : (d : Desk) → InRange d → Ready d (replicate (storeLength d) 0)
-unfolding emptied
-zeros-ready d r =
-    let e : length (replicate (storeLength d) zero) ≡ storeLength d = length-replicate (storeLength d) zero in
-    subst (Ready d) (put-whole (replicate (storeLength d) 0) (replicate (storeLength d) 0) (omega arith)) (empty-good d (replicate (storeLength d) 0) (omega arith) r)

@@ -34,7 +34,8 @@ use Rattle.theorem_rehearse.specs.Rehearse.{HadRoom, Rehearsal, loaded, Carries
 use Rattle.theorem_rehearse.proofs.Seen.{saw-room}
 use Rattle.theorem_rehearse.proofs.Rehearse.{rehearsed}
 use Rattle.theorem_called.specs.Called.{ReadBackAs, WriteThenLoad, WrittenIsLoaded, NotTurnedAway, LetIn, GoodAfter, SeenRoom, RehearsedCalls}
-use Rattle.theorem_called.proofs.Answered.{not-away, load-answers, LoadAnswered, load-answered, load-ready}
+use Rattle.theorem_called.proofs.Answered.{not-away, load-answers, LoadAnswered, load-answered}
+use Rattle.load.proofs.Steps.{load-ready}
 use Rattle.theorem_called.proofs.Answered.{write-answers, write-answered, empty-answered}
 
 -- ---- demand 2

@@ -20,7 +20,9 @@ use Rattle.show.specs.Calls.{mostBytes, LoadCall}
 use Rattle.theorem_told.specs.Edges.{Edge, edges, toldBy, cueOf, keptBy, edgeLoaded, answerOf, wantedOf}
 use Rattle.theorem_told.proofs.Edges.{edges-hold}
 use Rattle.theorem_called.specs.Called.{edgeCalled, edgeWanted, EdgesCalled}
-use Rattle.theorem_called.proofs.Answered.{load-answers, put-whole, zeros-ready}
+use Rattle.theorem_called.proofs.Answered.{load-answers}
+use Rattle.cells.proofs.Put.{put-whole}
+use Rattle.store.proofs.Empty.{zeros-ready}
 
 -- ---- one row
 

@@ -2,7 +2,7 @@
 -- characters make no difference. Of a load by induction on the records.
 -- Assumes nothing.
 use mathlib.Core.Path.{_≡_, refl, sym, ap, _∙_}
-use mathlib.Core.Bool.{Bool, true, false, cond, _||_}
+use mathlib.Core.Bool.{Bool, true, false, cond}
 use mathlib.Core.Logic.{_↔_}
 use mathlib.Core.List.{List, [], _∷_}
 use Prim.Native.Nat.{ℕ, zero, suc, _+_, _≤_, _<_}
@@ -15,8 +15,8 @@ use Rattle.cells.proofs.Split.{by-test, by-eq, cond-true, cond-false}
 use Rattle.store_desk.specs.declared.Desk.{Desk}
 use Rattle.text_records.specs.Stream.{recordsOf}
 use Rattle.text_records.specs.Received.{longest}
-use Rattle.text_records.specs.Cleaning.{isHigh, isControl, isMark, keptOf}
-use Rattle.text_records.proofs.Cleaning.{kept-length}
+use Rattle.text_records.specs.Cleaning.{keptOf}
+use Rattle.text_records.proofs.Cleaning.{kept-length, kept-again}
 use Rattle.text_fields.specs.Words.{Word, wordsOf, fieldsOf, headOf}
 use Rattle.text_fields.specs.Keywords.{sameText, sameWord, meaningOf, keywordRows, keywordOf}
 use Rattle.load.specs.declared.Basic.the-variants.{Unknown}
@@ -172,22 +172,6 @@ module _ (d : Desk) (s : State) (r t : List ℕ) where
   over-long-said e = rw e (record { drops = refl; reported = rw e refl; stopped = refl })
 
 -- ---- ignored characters
--- what is left of what is left
-kept-by : (m i : Bool) (c : ℕ) (ks : List ℕ) → keptOf ks ≡ ks → isMark c ≡ m → (isHigh c || isControl c) ≡ i
-    → keptOf (cond m [] (cond i ks (c ∷ ks))) ≡ cond m [] (cond i ks (c ∷ ks))
-unfolding keptOf
-kept-by true i c ks h e f = refl
-kept-by false true c ks h e f = h
-kept-by false false c ks h e f =
-    cond-false (isMark c) [] (cond (isHigh c || isControl c) (keptOf ks) (c ∷ keptOf ks)) e
-    ∙ cond-false (isHigh c || isControl c) (keptOf ks) (c ∷ keptOf ks) f
-    ∙ ap (λ (x : List ℕ). c ∷ x) h
-
-kept-again : (r : List ℕ) → keptOf (keptOf r) ≡ keptOf r
-unfolding keptOf
-kept-again [] = refl
-kept-again (c ∷ r) = kept-by (isMark c) (isHigh c || isControl c) c (keptOf r) (kept-again r) refl refl
-
 pub cleaned-alike : (d : Desk) (s : State) (r t : List ℕ) → CleanedAlike d s r t
 unfolding recordStep askOf fieldsOf
 cleaned-alike d s r t e =

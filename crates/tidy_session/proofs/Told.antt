@@ -24,7 +24,9 @@ use Rattle.text_room.proofs.Chain.{wrote-length}
 use Rattle.show.specs.declared.Loaded.{Loaded}
 use Rattle.show.specs.declared.Loaded.the-variants.{Away, Done}
 use Rattle.show.specs.Calls.{LoadCall, loadReply, loadedAs, loadDone, loadCall, LoadPromise}
-use Rattle.theorem_called.proofs.Answered.{load-answers, LoadAnswered, load-answered, load-ready, zeros-ready}
+use Rattle.theorem_called.proofs.Answered.{load-answers, LoadAnswered, load-answered}
+use Rattle.load.proofs.Steps.{load-ready}
+use Rattle.store.proofs.Empty.{zeros-ready}
 use Rattle.tidy_printed.specs.Text.{toldText}
 use Rattle.tidy_printed.proofs.Lengths.{Tallies, told-length}
 use Rattle.tidy_session.specs.Session.{mostInput, mostShown, emptyStore, readIn, reportList, shownText, answerText, tidyText}

@@ -5,7 +5,7 @@ use Rattle.show.proofs.Laws.{unnamed}
 use Rattle.show.proofs.cue_slot.Statement.{statement}
 use Rattle.show.proofs.cue_slot.Tie as tie
 use borrow.Author.Needs.{needs}
-use mathlib.Core.Path.{_≡_, sym, _∙_}
+use mathlib.Core.Path.{sym, _∙_}
 
 ok-name-requires : tie.Need-ok-name-requires
 ok-name-requires c κs = search needs

@@ -2,7 +2,7 @@
 -- Assumes nothing.
 use Rattle.store_desk.specs.Name.{firstSlot}
 use mathlib.Core.Path.{refl}
-use mathlib.Core.Path.{_≡_, refl}
+use mathlib.Core.Path.{refl}
 use borrow.Author.Needs.{needs}
 use Rattle.store_desk.proofs.first_slot.Statement.{statement}
 use Rattle.store_desk.proofs.first_slot.Tie as tie

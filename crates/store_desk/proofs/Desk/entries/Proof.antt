@@ -4,7 +4,7 @@ use Rattle.store_desk.proofs.Size.{entries-le}
 use native.Mathlib.Omega.{arith}
 use mathlib.Core.Path.{refl}
 use Rattle.store_desk.specs.Size.{entriesOf}
-use mathlib.Core.Path.{_≡_, refl}
+use mathlib.Core.Path.{refl}
 use borrow.Author.Needs.{needs}
 use Rattle.store_desk.proofs.Desk.entries.Statement.{statement}
 use Rattle.store_desk.proofs.Desk.entries.Tie as tie

@@ -2,8 +2,7 @@
 -- Assumes nothing.
 use mathlib.Core.Path.{refl}
 use Rattle.store_desk.specs.Size.{levelWidth}
-use mathlib.Core.Path.{_≡_, refl}
-use borrow.Author.Needs.{needs}
+use mathlib.Core.Path.{refl}
 use Rattle.store_desk.proofs.Desk.level_width.Statement.{statement}
 use Rattle.store_desk.proofs.Desk.level_width.Tie as tie
 

@@ -4,7 +4,7 @@ use Rattle.store_desk.proofs.Size.{subs-le}
 use native.Mathlib.Omega.{arith}
 use mathlib.Core.Path.{refl}
 use Rattle.store_desk.specs.Size.{subSlots}
-use mathlib.Core.Path.{_≡_, refl}
+use mathlib.Core.Path.{refl}
 use borrow.Author.Needs.{needs}
 use Rattle.store_desk.proofs.Desk.sub_slots.Statement.{statement}
 use Rattle.store_desk.proofs.Desk.sub_slots.Tie as tie
