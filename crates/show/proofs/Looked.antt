@@ -23,7 +23,7 @@ use Rattle.show.specs.declared.Placed.{Placed}
 use Rattle.show.specs.declared.Placed.the-variants.{At}
 use Rattle.show.specs.Calls.{admissionOf, cueName, cueKey, Look, lookAt, lookBy, lookCall, LookPromise, findReply, placedAt, findBy, findCall, FindPromise}
 use Rattle.show.specs.Looked.{cueMemory, KeptLevels, LookedShow, FoundPart}
-use Rattle.show.proofs.Laws.{awayNumber, not-first, taken, admitted, kept-memory}
+use Rattle.show.proofs.Laws.{awayNumber, store-away, taken, admitted, kept-memory}
 
 module _ (d : Desk) (s : List ℕ) (page whole tenths : ℕ) where
   -- a slot that is found, or none
@@ -52,7 +52,7 @@ module _ (d : Desk) (s : List ℕ) (page whole tenths : ℕ) where
       record {
         levels = λ q. absurd (let z : refusalNumber r ≡ 0 = q in omega arith);
         none = (
-          λ q. absurd (not-first d s (ap awayNumber (sym e) ∙ q)),
+          λ q. absurd (store-away d s .second (ap awayNumber (sym e) ∙ q)),
           λ q.
               let g = admitted d s (record { range = q .0 .range; long = q .0 .long }) refl (good-complete d s (q .0 .form)) in
               let z : refusalNumber r ≡ 0 = ap awayNumber (e ∙ sym g) in
