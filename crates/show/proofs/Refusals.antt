@@ -152,45 +152,64 @@ module _ (d : Desk) (s : List ℕ) (page whole tenths : ℕ) where
       cases (at i) e = inr (λ h. kept-absent (sym (kept-memory d s (cueName (cueKey page whole tenths)) i e) ∙ h), kept i)
       cases nowhere e = inl (absent-at d s (cueName (cueKey page whole tenths)) e, none)
 
+-- ---- the calls
+
+pub load-lines : (d : Desk) (s reps stream : List ℕ) → LoadRefused d s stream (loadCall d s reps stream .reply .number)
+unfolding apart other
+load-lines d s reps stream = told _ _ refl (load-first d s reps stream)
+
+pub write-lines : (d : Desk) (s out : List ℕ) → WriteRefused d s out (writeCall d s out .reply .number)
+unfolding apart other writeCall writeBy
+write-lines d s out =
+    told _ _ refl
+    (store-first d s (r5 d s ∷ r6 d s out ∷ []) (λ b. writeBy b d s out .reply .number) (λ r. refl) (λ h. put-first d s out))
+
+pub empty-lines : (d : Desk) (s : List ℕ) → EmptyRefused d s (emptyCall d s .reply .number)
+unfolding apart other
+empty-lines d s = told _ _ refl (empty-first d s)
+
+pub needed-lines : (d : Desk) → NeededRefused d (neededCall d .number)
+unfolding apart other
+needed-lines d = told _ _ refl (needed-first d)
+
+pub find-lines : (d : Desk) (s : List ℕ) (page whole tenths : ℕ) → FindRefused d s page whole tenths (findCall d s page whole tenths .number)
+unfolding apart other findCall findBy placedAt
+find-lines d s page whole tenths =
+    told _ _ refl
+    (store-first d s (notKept d s page whole tenths ∷ []) (λ b. findBy b d s (cueKey page whole tenths) .number) (λ r. refl)
+    (λ h. kept-first d s page whole tenths (λ f. placedAt d f .number) (λ i. refl) refl))
+
+look-lines : (d : Desk) (s : List ℕ) (page whole tenths : ℕ) → FindRefused d s page whole tenths (lookCall d s page whole tenths .word)
+unfolding apart other lookCall lookBy lookAt
+look-lines d s page whole tenths =
+    told _ _ refl
+    (store-first d s (notKept d s page whole tenths ∷ []) (λ b. lookBy b d s (cueKey page whole tenths) .word) (λ r. refl)
+    (λ h. kept-first d s page whole tenths (λ f. lookAt d s f .word) (λ i. refl) refl))
+
 -- ---- the promises
 
 pub load-refused : (d : Desk) (s reps stream : List ℕ) (a : Loaded) {t q : List ℕ} → LoadPromise d s reps stream a t q
     → LoadRefused d s stream (loadReply a .number)
-unfolding apart other
 load-refused d s reps stream a e =
-    subst (LoadRefused d s stream) (sym (ap (λ (y : LoadCall). y .reply .number) e)) (told _ _ refl (load-first d s reps stream))
+    subst (LoadRefused d s stream) (sym (ap (λ (y : LoadCall). y .reply .number) e)) (load-lines d s reps stream)
 
 pub write-refused : (d : Desk) (s out : List ℕ) (a : Written) {o : List ℕ} → WritePromise d s out a o
     → WriteRefused d s out (writeReply a .number)
-unfolding apart other writeCall writeBy
 write-refused d s out a e =
-    subst (WriteRefused d s out) (sym (ap (λ (y : WriteCall). y .reply .number) e))
-    (told _ _ refl
-    (store-first d s (r5 d s ∷ r6 d s out ∷ []) (λ b. writeBy b d s out .reply .number) (λ r. refl) (λ h. put-first d s out)))
+    subst (WriteRefused d s out) (sym (ap (λ (y : WriteCall). y .reply .number) e)) (write-lines d s out)
 
 pub empty-refused : (d : Desk) (s : List ℕ) (a : Emptied) {t : List ℕ} → EmptyPromise d s a t → EmptyRefused d s (emptyReply a .number)
-unfolding apart other
-empty-refused d s a e =
-    subst (EmptyRefused d s) (sym (ap (λ (y : EmptyCall). y .reply .number) e)) (told _ _ refl (empty-first d s))
+empty-refused d s a e = subst (EmptyRefused d s) (sym (ap (λ (y : EmptyCall). y .reply .number) e)) (empty-lines d s)
 
 pub needed-refused : (d : Desk) (a : Needed) → NeededPromise d a → NeededRefused d (neededReply a .number)
-unfolding apart other
-needed-refused d a e = subst (NeededRefused d) (sym (ap (λ (y : Reply). y .number) e)) (told _ _ refl (needed-first d))
+needed-refused d a e = subst (NeededRefused d) (sym (ap (λ (y : Reply). y .number) e)) (needed-lines d)
 
 pub find-refused : (d : Desk) (s : List ℕ) (page whole tenths : ℕ) (a : Placed) → FindPromise d s page whole tenths a
     → FindRefused d s page whole tenths (findReply a .number)
-unfolding apart other findCall findBy placedAt
 find-refused d s page whole tenths a e =
-    subst (FindRefused d s page whole tenths) (sym (ap (λ (y : Reply). y .number) (e .0)))
-    (told _ _ refl
-    (store-first d s (notKept d s page whole tenths ∷ []) (λ b. findBy b d s (cueKey page whole tenths) .number) (λ r. refl)
-    (λ h. kept-first d s page whole tenths (λ f. placedAt d f .number) (λ i. refl) refl)))
+    subst (FindRefused d s page whole tenths) (sym (ap (λ (y : Reply). y .number) (e .0))) (find-lines d s page whole tenths)
 
 pub look-refused : (d : Desk) (s : RefT (List ℕ)) (page whole tenths : ℕ) {r : RefT (List ℕ)} {answer : ℕ}
     → LookPromise d s page whole tenths r answer → FindRefused d (now s) page whole tenths answer
-unfolding apart other lookCall lookBy lookAt
 look-refused d s page whole tenths e =
-    subst (FindRefused d (now s) page whole tenths) (sym (e .says))
-    (told _ _ refl
-    (store-first d (now s) (notKept d (now s) page whole tenths ∷ []) (λ b. lookBy b d (now s) (cueKey page whole tenths) .word) (λ r. refl)
-    (λ h. kept-first d (now s) page whole tenths (λ f. lookAt d (now s) f .word) (λ i. refl) refl)))
+    subst (FindRefused d (now s) page whole tenths) (sym (e .says)) (look-lines d (now s) page whole tenths)

@@ -16,7 +16,7 @@ use Rattle.sphairune.specs.Calls.{NeededExport, EmptyExport, LoadExport,
 use Rattle.sphairune.proofs.Laws.{mute-list}
 
 -- the number and the list at a place
-number-is : {x y : Exported} → x ≡ y → x .number ≡ y .number
+pub number-is : {x y : Exported} → x ≡ y → x .number ≡ y .number
 number-is e = ap (λ (z : Exported). z .number) e
 
 list-is : (i : ℕ) {x y : Exported} → x ≡ y → getD (x .lent) i [] ≡ getD (y .lent) i []
