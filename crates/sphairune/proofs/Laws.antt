@@ -5,7 +5,7 @@ use mathlib.Core.Path.{_≡_, refl, sym, ap, _∙_}
 use mathlib.Core.List.{List, [], _∷_}
 use Prim.Native.Nat.{ℕ, _≤_}
 use native.Mathlib.Omega.{arith}
-use lib.ListN.{length, set}
+use lib.ListN.{length, getD, set}
 use lib.Seq.{set-out}
 use Rattle.store_desk.specs.declared.Desk.{Desk}
 use Rattle.store_desk.specs.declared.Needed.{Needed}
@@ -25,6 +25,38 @@ use Rattle.show.specs.Calls.{totalsTold, LoadCall, loadReply, loadCall, LoadPro
 use Rattle.show.specs.Calls.{emptyReply, emptyCall, EmptyPromise, findReply, findCall, FindPromise}
 use Rattle.show.proofs.OneAnswer.{load-kept, find-mute}
 use Rattle.sphairune.specs.Calls.{deskOf, notedFrom, Exported, exported, repliedIn, emptiedIn, loadedIn, writtenIn}
+
+-- ---- a desk, limit by limit
+
+pub desk-is : (l : List ℕ) {a b c d e f g h k : ℕ} → a ≡ getD l 0 0 → b ≡ getD l 1 0 → c ≡ getD l 2 0 → d ≡ getD l 3 0 → e ≡ getD l 4 0
+    → f ≡ getD l 5 0 → g ≡ getD l 6 0 → h ≡ getD l 7 0 → k ≡ getD l 8 0
+    → _≡_ {A = Desk}
+    (record {
+      channels = a;
+      dimmers = b;
+      cues = c;
+      groups = d;
+      subs = e;
+      «cue_pages» = f;
+      «group_pages» = g;
+      «sub_pages» = h;
+      «patch_pages» = k;
+    })
+    (deskOf l)
+unfolding deskOf
+desk-is l p q r s t u v w x =
+    λ i.
+    record {
+      channels = p i;
+      dimmers = q i;
+      cues = r i;
+      groups = s i;
+      subs = t i;
+      «cue_pages» = u i;
+      «group_pages» = v i;
+      «sub_pages» = w i;
+      «patch_pages» = x i;
+    }
 
 -- ---- lists of numbers
 
