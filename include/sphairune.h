@@ -4,7 +4,8 @@
  * tells how, and what is proved: the five calls declared under "The calls" are, the inline functions below them are not.
  *
  * A show lives in a store, which is the caller's own bytes. A desk is the list of its nine limits, which says how long the store has to be
- * and how it is laid out. Nothing allocates, nothing is kept between calls, and a call that is turned away changes no lent byte.
+ * and how it is laid out. Nothing allocates, nothing is kept between calls, and a call that is turned away changes no lent byte, but that
+ * a write answered R6 stores the length needed.
  *
  *     static const uint32_t desk[SPHAIRUNE_LIMITS] = SPHAIRUNE_HOUSE;
  *     static uint8_t store[SPHAIRUNE_HOUSE_STORE];

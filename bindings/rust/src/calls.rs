@@ -1,6 +1,7 @@
 //! The five calls of the library as they are, with numbers and lists; the only unsafe code. A slice of Rust is what the library asks of a
 //! list: a pointer that is aligned and not null, to as many entries as the length says; and a slice lent as `&mut` overlaps no other.
-//! Each answers 0 or the number of the refusal, and then every lent list is as it was ([`find`] answers 1 where the cue is not kept).
+//! Each answers 0 or the number of the refusal, and then every lent list is as it was, but that [`write`] with 6 stores the length needed;
+//! [`find`] answers 1 where the cue is not kept, and leaves its list too.
 #![allow(unsafe_code)]
 
 mod library {

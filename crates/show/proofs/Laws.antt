@@ -18,7 +18,8 @@ use Rattle.store_desk.specs.Size.{InRange, inRangeOf, storeLength, headLength, 
 use Rattle.store_desk.specs.Name.{Name, okName}
 use Rattle.store_desk.proofs.Size.{in-range, in-range-true}
 use Rattle.store.specs.declared.Place.the-variants.{Nowhere}
-use Rattle.store.specs.Slots.{find, placeOf, levelsAt}
+use Rattle.store.specs.Slots.{find, onFound, placeOf, levelsAt}
+use Rattle.store.specs.View.{absent, kept, memoryAt, memoryOf}
 use Rattle.store.specs.Change.{emptied as emptiedStore}
 use Rattle.store.specs.Form.{goodForm}
 use Rattle.store.proofs.Form.{good-sound}
@@ -31,7 +32,7 @@ use Rattle.load.specs.Run.{loadOf}
 use Rattle.load_run.specs.Loaded.{Loaded as Ran, loadedOf, runLoaded as ran}
 use Rattle.text_room.specs.Wrote.{Wrote, wrote, wroteAt}
 use Rattle.store_desk.specs.declared.Refusal.{Refusal}
-use Rattle.store_desk.specs.Refusal.{refusalNumber, Reply, replied, refused}
+use Rattle.store_desk.specs.Refusal.{refusalNumber, refusalTold, Reply, replied, refused}
 use Rattle.store_desk.specs.declared.Refusal.the-variants.{R1, R2, R3, R4, R5, R6}
 use Rattle.show.specs.declared.Admission.{Admission}
 use Rattle.show.specs.declared.Admission.the-variants.{Admitted, Away}
@@ -92,22 +93,32 @@ module _ (d : Desk) (s : List ℕ) where
       away-clash : {r : Refusal} → Away r ≡ admissionOf d s → ⊥
       away-clash q = let z : _≡_ {A = ℕ} 0 1 = cc in omega arith
 
--- R1 is of a stream, which is not among what is tested here
-abbrev awayNumber : Admission → ℕ
+-- what is tested here is R2, R3 and R4: never R1, and nothing is told beside the number
+abbrev pub awayNumber : Admission → ℕ
 awayNumber Admitted = 0
 awayNumber (Away r) = refusalNumber r
 
-not-first : (d : Desk) (s : List ℕ) → awayNumber (admissionOf d s) ≡ 1 → ⊥
+abbrev pub awayTold : Admission → List ℕ
+awayTold Admitted = []
+awayTold (Away r) = refusalTold r
+
+pub record StoreAway (a : Admission) : Type 0 where
+  pub second : awayNumber a ≡ 1 → ⊥
+  pub fourth : awayNumber a ≤ 4
+  pub mute : awayTold a ≡ []
+
+pub store-away : (d : Desk) (s : List ℕ) → StoreAway (admissionOf d s)
 unfolding admissionOf
-not-first d s =
-    by-test Not (inRangeOf d) _ _
+store-away d s =
+    by-test StoreAway (inRangeOf d) _ _
     (λ e.
-    by-test Not (leb (storeLength d) (length s)) _ _
-    (λ f. by-test Not (goodForm d s) _ _ (λ g q. omega arith) (λ g q. omega arith)) (λ f q. omega arith))
-    (λ e q. omega arith)
-  where
-    Not : Admission → Type 0
-    Not a = awayNumber a ≡ 1 → ⊥
+    by-test StoreAway (leb (storeLength d) (length s)) _ _
+    (λ f.
+    by-test StoreAway (goodForm d s) _ _
+    (λ g. record { second = λ q. omega arith; fourth = omega arith; mute = refl })
+    (λ g. record { second = λ q. omega arith; fourth = omega arith; mute = refl }))
+    (λ f. record { second = λ q. omega arith; fourth = omega arith; mute = refl }))
+    (λ e. record { second = λ q. omega arith; fourth = omega arith; mute = refl })
 
 -- ---- load
 
@@ -189,6 +200,10 @@ unnamed d s n {b} g e f = sym (ap placeOf (none (find d s n) refl))
     none (at i) q = clash (found-ok d s (good-sound d s g) n i q) (sym e ∙ f)
     none nowhere q = refl
 
+pub kept-memory : (d : Desk) (s : List ℕ) (n : Name) (i : ℕ) → find d s n ≡ at i → memoryOf d s n ≡ kept (memoryAt d s i)
+unfolding memoryOf onFound
+kept-memory d s n i e = ap (λ (a : Found). onFound a (λ j. kept (memoryAt d s j)) absent) e
+
 pub look-by : (d : Desk) (s : List ℕ) (page whole tenths : ℕ) (a : Admission) → a ≡ admissionOf d s
     → lookBy a d s (cueKey page whole tenths) ≡ lookCall d s page whole tenths
 unfolding lookCall
@@ -204,7 +219,7 @@ pub find-away : (d : Desk) (s : List ℕ) (page whole tenths : ℕ) {r : Refusal
     → PlacedAs (findCall d s page whole tenths) (FindAway r)
 unfolding findBy
 find-away d s page whole tenths {r} e =
-    (find-by d s page whole tenths (Away r) e, λ q. not-first d s (ap awayNumber (sym e) ∙ ap (λ (x : Placed). findReply x .number) q))
+    (find-by d s page whole tenths (Away r) e, λ q. store-away d s .second (ap awayNumber (sym e) ∙ ap (λ (x : Placed). findReply x .number) q))
 
 pub place-small : (d : Desk) {i n : ℕ} → i < slotsOf d → InRange d → n ≡ slotLength d → i * n + headLength ≤ 1643264
 place-small d {i} {n} h r e =

@@ -1,3 +1,5 @@
 pub mod Laws
 pub mod OneAnswer
+pub mod Refusals
+pub mod Looked
 pub mod House

@@ -3,18 +3,22 @@
 -- told beside it; a refusal's record is built from the lists at entry.
 -- Assumes nothing.
 use mathlib.Core.Path.{_≡_, refl, sym, ap, _∙_}
-use mathlib.Core.List.{List}
+use mathlib.Core.List.{List, [], _∷_}
 use Prim.Native.Nat.{ℕ}
+use native.Mathlib.Omega.{arith}
 use denote.Ref.{RefT, ptr, now}
 use lib.Dec.{ltb, leb}
 use lib.ListN.{length, getD}
+use Rattle.cells.specs.Search.{Found, at, nowhere}
 use Rattle.cells.proofs.Split.{by-test}
 use Rattle.store_desk.specs.declared.Desk.{Desk}
+use Rattle.store_desk.specs.declared.Key.{Key}
 use Rattle.store_desk.specs.declared.Refusal.{Refusal}
 use Rattle.store_desk.specs.declared.Refusal.the-variants.{R1}
 use Rattle.store_desk.specs.Size.{inRangeOf, storeLength}
 use Rattle.store_desk.specs.Refusal.{Reply}
 use Rattle.store_desk.proofs.Reply.{refused-apart, refused-no-reply}
+use Rattle.store.specs.Slots.{find}
 use Rattle.load.specs.declared.Totals.{Totals}
 use Rattle.save.specs.Lines.{streamOf}
 use Rattle.show.specs.declared.Admission.{Admission}
@@ -29,7 +33,8 @@ use Rattle.show.specs.declared.Placed.{Placed}
 use Rattle.show.specs.declared.Placed.the-variants.{Away as FindAway, NotKept, At as PlacedAt}
 use Rattle.show.specs.Calls.{mostBytes, admissionOf, LoadCall, loadReply, loadBy, loadCall, LoadPromise}
 use Rattle.show.specs.Calls.{WriteCall, writeReply, putCall, writeBy, writeCall, WritePromise}
-use Rattle.show.specs.Calls.{EmptyCall, emptyReply, emptyCall, EmptyPromise, LookPromise, findReply, FindPromise}
+use Rattle.show.specs.Calls.{EmptyCall, emptyReply, emptyCall, EmptyPromise, LookPromise, cueName, cueKey, findReply, placedAt, findBy, findCall, FindPromise}
+use Rattle.show.proofs.Laws.{awayTold, StoreAway, store-away}
 
 -- ---- answers that tell the same are the same
 
@@ -110,59 +115,85 @@ one-find d s page whole tenths {a} {b} e f = find-apart a b (e .0 ∙ sym (f .0)
 
 -- ---- refused, untouched
 
--- a call's record either has the number 0 or has the lists of entry
+-- a call's record either has the number 0, or has the lists of entry and tells nothing beside its number
 LoadKept : List ℕ → List ℕ → LoadCall → Type 0
-LoadKept s reps x = (x .reply .number ≡ 0 → ⊥) → (x .store ≡ s) × (x .reports ≡ reps)
+LoadKept s reps x = (x .reply .number ≡ 0 → ⊥) → (x .store ≡ s) × (x .reports ≡ reps) × (x .reply .told ≡ [])
 
-load-by-kept : (a : Admission) (d : Desk) (s reps stream : List ℕ) → LoadKept s reps (loadBy a d s reps stream)
+load-by-kept : (a : Admission) → awayTold a ≡ [] → (d : Desk) (s reps stream : List ℕ) → LoadKept s reps (loadBy a d s reps stream)
 unfolding LoadKept loadBy
-load-by-kept Admitted d s reps stream h = absurd (h refl)
-load-by-kept (Away r) d s reps stream h = (refl, refl)
+load-by-kept Admitted m d s reps stream h = absurd (h refl)
+load-by-kept (Away r) m d s reps stream h = (refl, refl, m)
 
-load-kept : (d : Desk) (s reps stream : List ℕ) → LoadKept s reps (loadCall d s reps stream)
+pub load-kept : (d : Desk) (s reps stream : List ℕ) → (loadCall d s reps stream .reply .number ≡ 0 → ⊥)
+    → (loadCall d s reps stream .store ≡ s) × (loadCall d s reps stream .reports ≡ reps) × (loadCall d s reps stream .reply .told ≡ [])
 unfolding LoadKept loadCall
 load-kept d s reps stream =
-    by-test (LoadKept s reps) (ltb mostBytes (length stream)) _ (loadBy (admissionOf d s) d s reps stream) (λ e h. (refl, refl))
-    (λ e. load-by-kept (admissionOf d s) d s reps stream)
+    by-test (LoadKept s reps) (ltb mostBytes (length stream)) _ (loadBy (admissionOf d s) d s reps stream) (λ e h. (refl, refl, refl))
+    (λ e. load-by-kept (admissionOf d s) (store-away d s .mute) d s reps stream)
 
 pub untouched-load : (d : Desk) (s reps stream : List ℕ) (a : Loaded) {t q : List ℕ}
     → LoadPromise d s reps stream a t q → (loadReply a .number ≡ 0 → ⊥) → (t ≡ s) × (q ≡ reps)
-unfolding LoadKept
 untouched-load d s reps stream a e h =
     let k = load-kept d s reps stream (λ z. h (ap (λ (y : LoadCall). y .reply .number) e ∙ z)) in
     (ap (λ (y : LoadCall). y .store) e ∙ k .0, ap (λ (y : LoadCall). y .reports) e ∙ k .1)
 
-WriteKept : List ℕ → WriteCall → Type 0
-WriteKept out x = (x .reply .number ≡ 0 → ⊥) → x .out ≡ out
+-- of a write: R6 tells the length of the stream, every other refusal nothing beside its number
+pub record WriteKept (stream out : List ℕ) (x : WriteCall) : Type 0 where
+  pub same : (x .reply .number ≡ 0 → ⊥) → x .out ≡ out
+  pub mute : (x .reply .number ≡ 0 → ⊥) → (x .reply .number ≡ 6 → ⊥) → x .reply .told ≡ []
+  pub needs : x .reply .number ≡ 6 → x .reply .told ≡ length stream ∷ []
 
-put-kept : (stream out : List ℕ) → WriteKept out (putCall stream out)
-unfolding WriteKept putCall
+put-kept : (stream out : List ℕ) → WriteKept stream out (putCall stream out)
+unfolding putCall
 put-kept stream out =
-    by-test (WriteKept out) (ltb mostBytes (length stream)) _ _ (λ e h. refl)
-    (λ e. by-test (WriteKept out) (ltb (length out) (length stream)) _ _ (λ f h. refl) (λ f h. absurd (h refl)))
+    by-test (WriteKept stream out) (ltb mostBytes (length stream)) _ _
+    (λ e. record { same = λ h. refl; mute = λ h k. refl; needs = λ q. absurd (omega arith) })
+    (λ e.
+    by-test (WriteKept stream out) (ltb (length out) (length stream)) _ _
+    (λ f. record { same = λ h. refl; mute = λ h k. absurd (k refl); needs = λ q. refl })
+    (λ f. record { same = λ h. absurd (h refl); mute = λ h k. absurd (h refl); needs = λ q. absurd (omega arith) }))
 
-write-by-kept : (a : Admission) (d : Desk) (s out : List ℕ) → WriteKept out (writeBy a d s out)
-unfolding WriteKept writeBy
-write-by-kept Admitted d s out h = put-kept (streamOf d s) out h
-write-by-kept (Away r) d s out h = refl
+write-by-kept : (a : Admission) → StoreAway a → (d : Desk) (s out : List ℕ) → WriteKept (streamOf d s) out (writeBy a d s out)
+unfolding writeBy
+write-by-kept Admitted m d s out = put-kept (streamOf d s) out
+write-by-kept (Away r) m d s out =
+    record { same = λ h. refl; mute = λ h k. m .mute; needs = λ q. let l = m .fourth in absurd (omega arith) }
+
+pub write-kept : (d : Desk) (s out : List ℕ) → WriteKept (streamOf d s) out (writeCall d s out)
+unfolding writeCall
+write-kept d s out = write-by-kept (admissionOf d s) (store-away d s) d s out
 
 pub untouched-write : (d : Desk) (s out : List ℕ) (a : Written) {o : List ℕ}
     → WritePromise d s out a o → (writeReply a .number ≡ 0 → ⊥) → o ≡ out
-unfolding WriteKept writeCall
 untouched-write d s out a e h =
-    ap (λ (y : WriteCall). y .out) e
-    ∙ write-by-kept (admissionOf d s) d s out (λ z. h (ap (λ (y : WriteCall). y .reply .number) e ∙ z))
+    ap (λ (y : WriteCall). y .out) e ∙ write-kept d s out .same (λ z. h (ap (λ (y : WriteCall). y .reply .number) e ∙ z))
 
 EmptyKept : List ℕ → EmptyCall → Type 0
 EmptyKept s x = (x .reply .number ≡ 0 → ⊥) → x .store ≡ s
 
-empty-kept : (d : Desk) (s : List ℕ) → EmptyKept s (emptyCall d s)
+pub empty-kept : (d : Desk) (s : List ℕ) → (emptyCall d s .reply .number ≡ 0 → ⊥) → emptyCall d s .store ≡ s
 unfolding EmptyKept emptyCall
 empty-kept d s =
     by-test (EmptyKept s) (inRangeOf d) _ _
     (λ e. by-test (EmptyKept s) (leb (storeLength d) (length s)) _ _ (λ f h. absurd (h refl)) (λ f h. refl)) (λ e h. refl)
 
 pub untouched-empty : (d : Desk) (s : List ℕ) (a : Emptied) {t : List ℕ} → EmptyPromise d s a t → (emptyReply a .number ≡ 0 → ⊥) → t ≡ s
-unfolding EmptyKept
 untouched-empty d s a e h =
     ap (λ (y : EmptyCall). y .store) e ∙ empty-kept d s (λ z. h (ap (λ (y : EmptyCall). y .reply .number) e ∙ z))
+
+-- `find` lends no list; where it tells no place it tells nothing
+place-mute : (d : Desk) (a : Found) → (placedAt d a .number ≡ 0 → ⊥) → placedAt d a .told ≡ []
+unfolding placedAt
+place-mute d (at i) h = absurd (h refl)
+place-mute d nowhere h = refl
+
+find-by-mute : (a : Admission) → awayTold a ≡ [] → (d : Desk) (s : List ℕ) (key : Key)
+    → (findBy a d s key .number ≡ 0 → ⊥) → findBy a d s key .told ≡ []
+unfolding findBy
+find-by-mute Admitted m d s key h = place-mute d (find d s (cueName key)) h
+find-by-mute (Away r) m d s key h = m
+
+pub find-mute : (d : Desk) (s : List ℕ) (page whole tenths : ℕ) → (findCall d s page whole tenths .number ≡ 0 → ⊥)
+    → findCall d s page whole tenths .told ≡ []
+unfolding findCall
+find-mute d s page whole tenths h = find-by-mute (admissionOf d s) (store-away d s .mute) d s (cueKey page whole tenths) h

@@ -1,5 +1,5 @@
 // The public calls (paper 01, "Calls turned away"). None has a `requires`: every desk, store, stream and output gets an answer, and a
-// call that is turned away changes no lent byte.
+// call that is turned away changes no lent byte; but the word that `look_up` is lent for its answer always has it.
 use load::Totals;
 use store::Place;
 use store_desk::Desk;

@@ -1,24 +1,13 @@
--- What the calls for other programs answer and leave behind: the public calls, with numbers and lists (paper 01, "Calls turned away").
+-- What the calls for other programs answer and leave behind: the public calls, with numbers and lists, and their promises by name (paper
+-- 01, "Calls turned away").
 -- Assumes nothing.
 use mathlib.Core.List.{List, [], _∷_}
-use Prim.Native.Nat.{ℕ}
+use mathlib.Core.Path.{_≡_}
+use Prim.Native.Nat.{ℕ, suc}
 use lib.ListN.{getD, set}
 use Rattle.store_desk.specs.declared.Desk.{Desk}
-use Rattle.store_desk.specs.declared.Needed.{Needed}
-use Rattle.store_desk.specs.declared.Needed.the-variants.{Away, Length}
-use Rattle.store_desk.specs.declared.Refusal.{Refusal}
-use Rattle.store_desk.specs.declared.Refusal.the-variants.{R1, R2, R3, R4, R5, R6}
-use Rattle.store_desk.specs.Refusal.{refusalNumber}
-use Rattle.store_desk.specs.Size.{neededOf}
-use Rattle.load.specs.declared.Totals.{Totals}
-use Rattle.show.specs.declared.Loaded.{Loaded}
-use Rattle.show.specs.declared.Loaded.the-variants.{Away as LoadAway, Done as LoadDone}
-use Rattle.show.specs.declared.Written.{Written}
-use Rattle.show.specs.declared.Written.the-variants.{Away as WriteAway, Done as WriteDone}
-use Rattle.show.specs.declared.Placed.{Placed}
-use Rattle.show.specs.declared.Placed.the-variants.{Away as FindAway, NotKept, At}
+use Rattle.store_desk.specs.Refusal.{Reply, neededCall}
 use Rattle.show.specs.Calls.{LoadCall, loadCall, WriteCall, writeCall, EmptyCall, emptyCall, findCall}
-use Rattle.show.specs.Calls.{loadNumber, writeNumber, emptyNumber, findNumber}
 
 -- a desk is the list of its nine limits; a limit that the list lacks is 0
 unfoldable pub deskOf : List ℕ → Desk
@@ -35,22 +24,10 @@ deskOf l =
       «patch_pages» = getD l 8 0;
     }
 
--- past its end a list keeps what it has
-unfoldable pub totalsIn : List ℕ → Totals → List ℕ
-totalsIn l t =
-    set (set (set (set (set (set l 0 (t .reports)) 1 (t .blank)) 2 (t .obeyed)) 3 (t .passed)) 4 (t .dropped)) 5 (t .closing)
-
-unfoldable pub lengthIn : List ℕ → ℕ → List ℕ
-lengthIn l n = set l 0 n
-
--- what a refusal tells beside its number: R6 the length needed
-abbrev pub toldIn : Refusal → List ℕ → List ℕ
-toldIn R1 l = l
-toldIn R2 l = l
-toldIn R3 l = l
-toldIn R4 l = l
-toldIn R5 l = l
-toldIn (R6 n) l = lengthIn l n
+-- what an answer tells goes into a lent list from place i on; past its end a list keeps what it has
+unfoldable pub notedFrom : ℕ → List ℕ → List ℕ → List ℕ
+notedFrom i l [] = l
+notedFrom i l (v ∷ vs) = notedFrom (suc i) (set l i v) vs
 
 -- the answer's number, and the lists that the call may write, in the order of its parameters
 pub record Exported : Type 0 where
@@ -60,48 +37,33 @@ pub record Exported : Type 0 where
 abbrev pub exported : ℕ → List (List ℕ) → Exported
 exported n ls = record { number = n; lent = ls }
 
--- ---- the calls
+-- ---- the calls: the answer's number, the lent lists as the public call leaves them, and last the list for what it tells
 
-unfoldable pub neededBy : Needed → List ℕ → Exported
-neededBy (Away r) l = exported (refusalNumber r) (l ∷ [])
-neededBy (Length n) l = exported 0 (lengthIn l n ∷ [])
+unfoldable pub repliedIn : Reply → List ℕ → Exported
+repliedIn a l = exported (a .number) (notedFrom 0 l (a .told) ∷ [])
 
-abbrev pub exportNeeded : List ℕ → List ℕ → Exported
-exportNeeded limits l = neededBy (neededOf (deskOf limits)) l
+unfoldable pub emptiedIn : EmptyCall → Exported
+emptiedIn x = exported (x .reply .number) (x .store ∷ [])
 
-unfoldable pub emptyBy : EmptyCall → Exported
-emptyBy x = exported (emptyNumber (x .answer)) (x .store ∷ [])
+unfoldable pub loadedIn : LoadCall → List ℕ → Exported
+loadedIn x l = exported (x .reply .number) (x .store ∷ x .reports ∷ notedFrom 0 l (x .reply .told) ∷ [])
 
-abbrev pub exportEmpty : List ℕ → List ℕ → Exported
-exportEmpty limits s = emptyBy (emptyCall (deskOf limits) s)
+unfoldable pub writtenIn : WriteCall → List ℕ → Exported
+writtenIn x l = exported (x .reply .number) (x .out ∷ notedFrom 0 l (x .reply .told) ∷ [])
 
-unfoldable pub loadTotals : Loaded → List ℕ → List ℕ
-loadTotals (LoadAway r) l = l
-loadTotals (LoadDone t) l = totalsIn l t
+-- ---- the promises: of the number, and each lent list afterwards
 
-unfoldable pub loadedBy : LoadCall → List ℕ → Exported
-loadedBy x l = exported (loadNumber (x .answer)) (x .store ∷ x .reports ∷ loadTotals (x .answer) l ∷ [])
+abbrev pub NeededExport : List ℕ → List ℕ → ℕ → List ℕ → Type 0
+NeededExport limits l n m = exported n (m ∷ []) ≡ repliedIn (neededCall (deskOf limits)) l
 
-abbrev pub exportLoad : List ℕ → List ℕ → List ℕ → List ℕ → List ℕ → Exported
-exportLoad limits s stream reps l = loadedBy (loadCall (deskOf limits) s reps stream) l
+abbrev pub EmptyExport : List ℕ → List ℕ → ℕ → List ℕ → Type 0
+EmptyExport limits s n t = exported n (t ∷ []) ≡ emptiedIn (emptyCall (deskOf limits) s)
 
-unfoldable pub writeLength : Written → List ℕ → List ℕ
-writeLength (WriteAway r) l = toldIn r l
-writeLength (WriteDone n) l = lengthIn l n
+abbrev pub LoadExport : List ℕ → List ℕ → List ℕ → List ℕ → List ℕ → ℕ → List ℕ → List ℕ → List ℕ → Type 0
+LoadExport limits s stream reps l n t q m = exported n (t ∷ q ∷ m ∷ []) ≡ loadedIn (loadCall (deskOf limits) s reps stream) l
 
-unfoldable pub writtenBy : WriteCall → List ℕ → Exported
-writtenBy x l = exported (writeNumber (x .answer)) (x .out ∷ writeLength (x .answer) l ∷ [])
+abbrev pub WriteExport : List ℕ → List ℕ → List ℕ → List ℕ → ℕ → List ℕ → List ℕ → Type 0
+WriteExport limits s out l n o m = exported n (o ∷ m ∷ []) ≡ writtenIn (writeCall (deskOf limits) s out) l
 
-abbrev pub exportWrite : List ℕ → List ℕ → List ℕ → List ℕ → Exported
-exportWrite limits s out l = writtenBy (writeCall (deskOf limits) s out) l
-
-unfoldable pub placeIn : Placed → List ℕ → List ℕ
-placeIn (FindAway r) l = l
-placeIn NotKept l = l
-placeIn (At n) l = lengthIn l n
-
-unfoldable pub placedBy : Placed → List ℕ → Exported
-placedBy x l = exported (findNumber x) (placeIn x l ∷ [])
-
-abbrev pub exportFind : List ℕ → List ℕ → ℕ → ℕ → ℕ → List ℕ → Exported
-exportFind limits s page whole tenths l = placedBy (findCall (deskOf limits) s page whole tenths) l
+abbrev pub FindExport : List ℕ → List ℕ → ℕ → ℕ → ℕ → List ℕ → ℕ → List ℕ → Type 0
+FindExport limits s page whole tenths l n m = exported n (m ∷ []) ≡ repliedIn (findCall (deskOf limits) s page whole tenths) l

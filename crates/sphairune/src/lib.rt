@@ -1,6 +1,7 @@
 // The calls for programs in other languages, with numbers and slices only. A desk is the list of its nine limits, in the order of paper
 // 01's table (channels, dimmers, cues, groups, highest submaster, pages of cues, groups, submasters, patch); a limit that the list lacks
-// is 0, and so out of range where it matters. The answer is 0, or the number of the refusal, which leaves every lent list as it was.
+// is 0, and so out of range where it matters. The answer is 0, or the number of the refusal, which leaves every lent list as it was; but
+// with 6 `sphairune_write` stores the length needed. `sphairune_find` reads no stream: its 1 is not R1, but says that the cue is not kept.
 use load::Totals;
 use show::Emptied;
 use show::Loaded;
@@ -12,7 +13,9 @@ use store_desk::Refusal;
 ghost use mathlib.Core.Path.{_≡_};
 ghost use mathlib.Core.List.{[], _∷_};
 ghost use lib.ListN.{getD, set};
-ghost use Rattle.sphairune.specs.Calls.{deskOf, totalsIn, lengthIn, toldIn, exported, exportNeeded, exportEmpty, exportLoad, exportWrite, exportFind};
+ghost use Rattle.sphairune.specs.Calls.{deskOf, notedFrom, NeededExport, EmptyExport, LoadExport, WriteExport, FindExport};
+ghost use Rattle.store_desk.specs.Refusal.{refusalTold};
+ghost use Rattle.show.specs.Calls.{totalsTold};
 
 fn number_at(list: &[u32], i: usize) -> u32
     ensures { λ r. ⌜ r ≡ getD (now (list .entry)) i 0 ⌝ }
@@ -46,7 +49,7 @@ fn note(list: &mut [u32], i: usize, v: u32)
 }
 
 fn note_length(list: &mut [usize], v: usize)
-    ensures { λ _. ⌜ now (list .exit) ≡ lengthIn (now (list .entry)) v ⌝ }
+    ensures { λ _. ⌜ now (list .exit) ≡ notedFrom 0 (now (list .entry)) (v ∷ []) ⌝ }
 {
     if 0 < list.len() {
         list[0] = v;
@@ -55,7 +58,7 @@ fn note_length(list: &mut [usize], v: usize)
 
 // What a refusal tells beside its number.
 fn note_told(list: &mut [usize], refusal: Refusal)
-    ensures { λ _. ⌜ now (list .exit) ≡ toldIn refusal (now (list .entry)) ⌝ }
+    ensures { λ _. ⌜ now (list .exit) ≡ notedFrom 0 (now (list .entry)) (refusalTold refusal) ⌝ }
 {
     match refusal {
         Refusal::R6(n) => note_length(list, n),
@@ -76,7 +79,7 @@ fn note_tallies(list: &mut [u32], t: Totals)
 }
 
 fn note_totals(list: &mut [u32], t: Totals)
-    ensures { λ _. ⌜ now (list .exit) ≡ totalsIn (now (list .entry)) t ⌝ }
+    ensures { λ _. ⌜ now (list .exit) ≡ notedFrom 0 (now (list .entry)) (totalsTold t) ⌝ }
 {
     note(&mut *list, 0, t.reports);
     note_tallies(&mut *list, t);
@@ -87,7 +90,7 @@ fn note_totals(list: &mut [u32], t: Totals)
 // The bytes that a store of this desk needs, in `length`; or 2.
 #[no_mangle]
 pub extern "C" fn sphairune_needed(limits: &[u32], length: &mut [usize]) -> u32
-    ensures { λ r. ⌜ exported r (now (length .exit) ∷ []) ≡ exportNeeded (now (limits .entry)) (now (length .entry)) ⌝ }
+    ensures { λ r. ⌜ NeededExport (now (limits .entry)) (now (length .entry)) r (now (length .exit)) ⌝ }
 {
     match desk_of(limits).needed() {
         Needed::Away(refusal) => refusal.number(),
@@ -101,7 +104,7 @@ pub extern "C" fn sphairune_needed(limits: &[u32], length: &mut [usize]) -> u32
 // Makes a store's needed bytes zero; or 2, 3.
 #[no_mangle]
 pub extern "C" fn sphairune_empty(limits: &[u32], store: &mut [u8]) -> u32
-    ensures { λ r. ⌜ exported r (now (store .exit) ∷ []) ≡ exportEmpty (now (limits .entry)) (now (store .entry)) ⌝ }
+    ensures { λ r. ⌜ EmptyExport (now (limits .entry)) (now (store .entry)) r (now (store .exit)) ⌝ }
 {
     match show::empty(desk_of(limits), store) {
         Emptied::Away(refusal) => refusal.number(),
@@ -119,8 +122,8 @@ pub extern "C" fn sphairune_load(
     reports: &mut [u32],
     totals: &mut [u32],
 ) -> u32
-    ensures { λ r. ⌜ exported r (now (store .exit) ∷ now (reports .exit) ∷ now (totals .exit) ∷ [])
-        ≡ exportLoad (now (limits .entry)) (now (store .entry)) (now (stream .entry)) (now (reports .entry)) (now (totals .entry)) ⌝ }
+    ensures { λ r. ⌜ LoadExport (now (limits .entry)) (now (store .entry)) (now (stream .entry)) (now (reports .entry)) (now (totals .entry))
+        r (now (store .exit)) (now (reports .exit)) (now (totals .exit)) ⌝ }
 {
     match show::load(desk_of(limits), store, stream, reports) {
         Loaded::Away(refusal) => refusal.number(),
@@ -139,8 +142,8 @@ pub extern "C" fn sphairune_write(
     out: &mut [u8],
     length: &mut [usize],
 ) -> u32
-    ensures { λ r. ⌜ exported r (now (out .exit) ∷ now (length .exit) ∷ [])
-        ≡ exportWrite (now (limits .entry)) (now (store .entry)) (now (out .entry)) (now (length .entry)) ⌝ }
+    ensures { λ r. ⌜ WriteExport (now (limits .entry)) (now (store .entry)) (now (out .entry)) (now (length .entry))
+        r (now (out .exit)) (now (length .exit)) ⌝ }
 {
     match show::write(desk_of(limits), store, out) {
         Written::Away(refusal) => {
@@ -164,7 +167,7 @@ pub extern "C" fn sphairune_find(
     tenths: u32,
     place: &mut [usize],
 ) -> u32
-    ensures { λ r. ⌜ exported r (now (place .exit) ∷ []) ≡ exportFind (now (limits .entry)) (now (store .entry)) page whole tenths (now (place .entry)) ⌝ }
+    ensures { λ r. ⌜ FindExport (now (limits .entry)) (now (store .entry)) page whole tenths (now (place .entry)) r (now (place .exit)) ⌝ }
 {
     match show::find(desk_of(limits), store, page, whole, tenths) {
         Placed::Away(refusal) => refusal.number(),

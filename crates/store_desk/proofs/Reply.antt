@@ -1,5 +1,5 @@
 -- A refusal's number is never 0, and its number and what it tells beside it tell it from every other; so no second answer of `needed`
--- fits its promise. By the cases of a refusal.
+-- fits its promise, and its refusal tells nothing but the number. By the cases of a refusal.
 -- Assumes nothing.
 use mathlib.Core.Path.{_≡_, refl, sym, ap, _∙_}
 use mathlib.Core.List.{List, [], _∷_}
@@ -11,7 +11,9 @@ use Rattle.store_desk.specs.declared.Needed.{Needed}
 use Rattle.store_desk.specs.declared.Needed.the-variants.{Away, Length}
 use Rattle.store_desk.specs.declared.Refusal.{Refusal}
 use Rattle.store_desk.specs.declared.Refusal.the-variants.{R1, R2, R3, R4, R5, R6}
-use Rattle.store_desk.specs.Refusal.{refusalNumber, Reply, replied, refused, neededReply, NeededPromise}
+use Rattle.store_desk.specs.Refusal.{refusalNumber, Reply, replied, refused, neededReply, neededCall, NeededPromise}
+use Rattle.store_desk.specs.Size.{inRangeOf}
+use Rattle.cells.proofs.Split.{by-test}
 
 pub refusal-some : (r : Refusal) → 1 ≤ refusalNumber r
 refusal-some R1 = omega arith
@@ -53,3 +55,9 @@ needed-apart (Length n) (Length m) e = ap (λ (x : Reply). Length (getD (x .told
 
 pub one-needed : (d : Desk) {a b : Needed} → NeededPromise d a → NeededPromise d b → a ≡ b
 one-needed d e f = needed-apart _ _ (e ∙ sym f)
+
+-- R2 tells nothing beside its number
+pub needed-mute : (d : Desk) → (neededCall d .number ≡ 0 → ⊥) → neededCall d .told ≡ []
+unfolding neededCall
+needed-mute d =
+    by-test (λ (x : Reply). (x .number ≡ 0 → ⊥) → x .told ≡ []) (inRangeOf d) _ _ (λ e h. absurd (h refl)) (λ e h. refl)

@@ -1,8 +1,8 @@
 -- `desk_of` meets its contract: each limit is the number at its place.
 -- Assumes nothing.
+use Rattle.sphairune.proofs.Laws.{desk-is}
 use Rattle.sphairune.proofs.desk_of.Statement.{statement}
 use Rattle.sphairune.proofs.desk_of.Tie as tie
-use Rattle.sphairune.specs.Calls.{deskOf}
 use borrow.Author.Needs.{needs}
 
 number-at-requires : tie.Need-number-at-requires
@@ -33,8 +33,7 @@ number-at-requires-9 : tie.Need-number-at-requires-9
 number-at-requires-9 c κs = search needs
 
 returns : tie.Need-returns
-unfolding deskOf
-returns c = cc (c .before .before .before .before .before .before .before .before .number-at .ensures, c .before .before .before .before .before .before .before .number-at2 .ensures, c .before .before .before .before .before .before .number-at3 .ensures, c .before .before .before .before .before .number-at4 .ensures, c .before .before .before .before .number-at5 .ensures, c .before .before .before .number-at6 .ensures, c .before .before .number-at7 .ensures, c .before .number-at8 .ensures, c .number-at9 .ensures)
+returns c = desk-is _ (c .before .before .before .before .before .before .before .before .number-at .ensures) (c .before .before .before .before .before .before .before .number-at2 .ensures) (c .before .before .before .before .before .before .number-at3 .ensures) (c .before .before .before .before .before .number-at4 .ensures) (c .before .before .before .before .number-at5 .ensures) (c .before .before .before .number-at6 .ensures) (c .before .before .number-at7 .ensures) (c .before .number-at8 .ensures) (c .number-at9 .ensures)
 
 pub desk-of-spec : {M : Type 1} → statement M
 desk-of-spec =

@@ -1,9 +1,11 @@
 -- `note_told` meets its contract: R6 tells the length needed, and every other refusal leaves the list.
 -- Assumes nothing.
-use Rattle.sphairune.proofs.Laws.{told-length}
+use Rattle.sphairune.proofs.Laws.{told-length, told-none}
 use Rattle.sphairune.proofs.note_told.Statement.{statement}
 use Rattle.sphairune.proofs.note_told.Tie as tie
+use Rattle.store_desk.specs.declared.Refusal.the-variants.{R1, R2, R3, R4, R5}
 use borrow.Author.Needs.{needs}
+use mathlib.Core.Path.{refl}
 
 enum-known-refusal : tie.Need-enum-known-refusal
 enum-known-refusal c = search needs
@@ -33,19 +35,19 @@ returns : tie.Need-returns
 returns c = told-length _ (c .before .before .before .before .before .refusal .given .1) (c .before .before .note-length .ensures)
 
 returns-2 : tie.Need-returns-2
-returns-2 c = search needs
+returns-2 c = told-none _ R1 (c .enum-told .given .1) refl
 
 returns-3 : tie.Need-returns-3
-returns-3 c = search needs
+returns-3 c = told-none _ R2 (c .enum-told2 .given .1) refl
 
 returns-4 : tie.Need-returns-4
-returns-4 c = search needs
+returns-4 c = told-none _ R3 (c .enum-told3 .given .1) refl
 
 returns-5 : tie.Need-returns-5
-returns-5 c = search needs
+returns-5 c = told-none _ R4 (c .enum-told4 .given .1) refl
 
 returns-6 : tie.Need-returns-6
-returns-6 c = search needs
+returns-6 c = told-none _ R5 (c .enum-told5 .given .1) refl
 
 pub note-told-spec : {M : Type 1} → statement M
 note-told-spec =

@@ -1,6 +1,5 @@
 -- `sphairune_empty` meets its contract: a refusal gives its number, and done is 0.
 -- Assumes nothing.
-use Rattle.show.specs.Calls.{emptyNumber}
 use Rattle.show.specs.declared.Emptied.the-variants.{Away, Done}
 use Rattle.sphairune.proofs.Laws.{answered, empty-by}
 use Rattle.sphairune.proofs.sphairune_empty.Statement.{statement}
@@ -26,14 +25,12 @@ same-length : tie.Need-same-length
 same-length c = search needs
 
 returns : tie.Need-returns
-unfolding emptyNumber
 returns c = answered (c .number .ensures) (empty-by _ (c .before .before .before .before .before .before .before .before .desk-of .ensures) _ (c .before .before .before .before .before .before .empty .ensures) (Away _) (c .before .before .refusal .given .1))
 
 same-length-2 : tie.Need-same-length-2
 same-length-2 c = search needs
 
 returns-2 : tie.Need-returns-2
-unfolding emptyNumber
 returns-2 c = empty-by _ (c .before .before .before .before .before .before .desk-of .ensures) _ (c .before .before .before .before .empty .ensures) Done (c .enum-told .given .1)
 
 pub sphairune-empty-spec : {M : Type 1} → statement M

@@ -1,13 +1,10 @@
 -- `sphairune_load` meets its contract: a refusal gives its number, and the totals go into the lent list.
 -- Assumes nothing.
-use Rattle.show.specs.Calls.{loadNumber}
-use Rattle.show.specs.declared.Loaded.the-variants.{Away, Done}
-use Rattle.sphairune.proofs.Laws.{answered, load-by}
+use Rattle.show.specs.declared.Loaded.the-variants.{Done}
+use Rattle.sphairune.proofs.Laws.{answered, load-by, load-away}
 use Rattle.sphairune.proofs.sphairune_load.Statement.{statement}
 use Rattle.sphairune.proofs.sphairune_load.Tie as tie
-use Rattle.sphairune.specs.Calls.{loadTotals}
 use borrow.Author.Needs.{needs}
-use mathlib.Core.Path.{refl}
 
 desk-of-requires : tie.Need-desk-of-requires
 desk-of-requires c κs = search needs
@@ -34,8 +31,7 @@ same-length-2 : tie.Need-same-length-2
 same-length-2 c = search needs
 
 returns : tie.Need-returns
-unfolding loadNumber loadTotals
-returns c = answered (c .number .ensures) (load-by _ (c .before .before .before .before .before .before .before .before .before .before .before .desk-of .ensures) _ _ _ _ (c .before .before .before .before .before .before .before .before .load .ensures) (Away _) (c .before .before .refusal .given .1) refl)
+returns c = answered (c .number .ensures) (load-away _ (c .before .before .before .before .before .before .before .before .before .before .before .desk-of .ensures) _ _ _ _ (c .before .before .before .before .before .before .before .before .load .ensures) (c .before .before .refusal .given .1))
 
 same-length-3 : tie.Need-same-length-3
 same-length-3 c = search needs
@@ -47,7 +43,6 @@ same-length-5 : tie.Need-same-length-5
 same-length-5 c = search needs
 
 returns-2 : tie.Need-returns-2
-unfolding loadNumber loadTotals
 returns-2 c = load-by _ (c .before .before .before .before .before .before .before .before .before .before .before .before .before .before .desk-of .ensures) _ _ _ _ (c .before .before .before .before .before .before .before .before .before .before .before .load .ensures) (Done _) (c .before .before .before .before .before .t .given .1) (c .before .before .note-totals .ensures)
 
 pub sphairune-load-spec : {M : Type 1} → statement M

@@ -1,14 +1,10 @@
 -- `sphairune_needed` meets its contract: a refusal gives its number, and the length goes into the lent list.
 -- Assumes nothing.
-use Prim.Native.Nat.{ℕ}
-use Rattle.sphairune.proofs.Laws.{answered, needed-by}
+use Rattle.sphairune.proofs.Laws.{answered, needed-by, needed-away}
 use Rattle.sphairune.proofs.sphairune_needed.Statement.{statement}
 use Rattle.sphairune.proofs.sphairune_needed.Tie as tie
-use Rattle.sphairune.specs.Calls.{neededBy, exported}
-use Rattle.store_desk.specs.declared.Needed.the-variants.{Away, Length}
+use Rattle.store_desk.specs.declared.Needed.the-variants.{Length}
 use borrow.Author.Needs.{needs}
-use mathlib.Core.List.{List, [], _∷_}
-use mathlib.Core.Path.{ap, _∙_}
 
 desk-of-requires : tie.Need-desk-of-requires
 desk-of-requires c κs = search needs
@@ -29,15 +25,13 @@ note-length-requires : tie.Need-note-length-requires
 note-length-requires c κs = search needs
 
 returns : tie.Need-returns
-unfolding neededBy
-returns c = answered (c .number .ensures) (needed-by _ (c .before .before .before .before .before .desk-of .ensures) _ (c .before .before .before .before .needed .ensures) (Away _) (c .before .before .refusal .given .1))
+returns c = answered (c .number .ensures) (needed-away _ (c .before .before .before .before .before .desk-of .ensures) _ (c .before .before .before .before .needed .ensures) (c .before .before .refusal .given .1))
 
 same-length : tie.Need-same-length
 same-length c = search needs
 
 returns-2 : tie.Need-returns-2
-unfolding neededBy
-returns-2 c = ap (λ (l : List ℕ). exported 0 (l ∷ [])) (c .before .before .note-length .ensures) ∙ needed-by _ (c .before .before .before .before .before .before .before .before .desk-of .ensures) _ (c .before .before .before .before .before .before .before .needed .ensures) (Length _) (c .before .before .before .before .before .n .given .1)
+returns-2 c = needed-by _ (c .before .before .before .before .before .before .before .before .desk-of .ensures) _ (c .before .before .before .before .before .before .before .needed .ensures) (Length _) (c .before .before .before .before .before .n .given .1) (c .before .before .note-length .ensures)
 
 pub sphairune-needed-spec : {M : Type 1} → statement M
 sphairune-needed-spec =

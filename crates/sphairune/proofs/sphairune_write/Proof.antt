@@ -1,11 +1,9 @@
 -- `sphairune_write` meets its contract: a refusal gives its number and what it tells, and the length goes into the lent list.
 -- Assumes nothing.
-use Rattle.show.specs.Calls.{writeNumber}
 use Rattle.show.specs.declared.Written.the-variants.{Away, Done}
 use Rattle.sphairune.proofs.Laws.{answered, write-by}
 use Rattle.sphairune.proofs.sphairune_write.Statement.{statement}
 use Rattle.sphairune.proofs.sphairune_write.Tie as tie
-use Rattle.sphairune.specs.Calls.{writeLength}
 use borrow.Author.Needs.{needs}
 
 desk-of-requires : tie.Need-desk-of-requires
@@ -36,7 +34,6 @@ same-length-2 : tie.Need-same-length-2
 same-length-2 c = search needs
 
 returns : tie.Need-returns
-unfolding writeNumber writeLength
 returns c = answered (c .number .ensures) (write-by _ (c .before .before .before .before .before .before .before .before .before .before .before .before .desk-of .ensures) _ _ _ (c .before .before .before .before .before .before .before .before .before .before .write .ensures) (Away _) (c .before .before .before .before .before .before .refusal .given .1) (c .before .before .before .note-told .ensures))
 
 same-length-3 : tie.Need-same-length-3
@@ -46,7 +43,6 @@ same-length-4 : tie.Need-same-length-4
 same-length-4 c = search needs
 
 returns-2 : tie.Need-returns-2
-unfolding writeNumber writeLength
 returns-2 c = write-by _ (c .before .before .before .before .before .before .before .before .before .before .before .desk-of .ensures) _ _ _ (c .before .before .before .before .before .before .before .before .before .write .ensures) (Done _) (c .before .before .before .before .before .n .given .1) (c .before .before .note-length .ensures)
 
 pub sphairune-write-spec : {M : Type 1} → statement M

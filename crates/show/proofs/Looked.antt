@@ -1,0 +1,104 @@
+-- What a look-up hands out is what the show keeps under the cue's name: the slot that the search finds is the one that the view reads; and
+-- `find` tells the place of that same slot.
+-- Assumes nothing.
+use mathlib.Core.Path.{_≡_, refl, sym, ap, _∙_, subst}
+use mathlib.Core.List.{List}
+use Prim.Native.Nat.{ℕ, _+_, _*_, _≤_}
+use native.Mathlib.Omega.{arith}
+use denote.Ref.{RefT, ptr, now}
+use lib.ListN.{getD}
+use Rattle.cells.specs.Search.{Found, at, nowhere}
+use Rattle.store_desk.specs.declared.Desk.{Desk}
+use Rattle.store_desk.specs.Refusal.{refusalNumber, Reply}
+use Rattle.store_desk.proofs.Reply.{refusal-some}
+use Rattle.store.specs.Slots.{find}
+use Rattle.store.specs.View.{absent, memoryAt}
+use Rattle.store.specs.Good.{Ready}
+use Rattle.store.proofs.Form.{good-sound, good-complete}
+use Rattle.store.proofs.Find.{kept-absent}
+use Rattle.store.proofs.Start.{absent-at}
+use Rattle.show.specs.declared.Admission.{Admission}
+use Rattle.show.specs.declared.Admission.the-variants.{Admitted, Away}
+use Rattle.show.specs.declared.Placed.{Placed}
+use Rattle.show.specs.declared.Placed.the-variants.{At}
+use Rattle.show.specs.Calls.{admissionOf, cueName, cueKey, Look, lookAt, lookBy, lookCall, LookPromise, findReply, placedAt, findBy, findCall, FindPromise}
+use Rattle.show.specs.Looked.{cueMemory, KeptLevels, LookedShow, FoundPart}
+use Rattle.show.proofs.Laws.{awayNumber, store-away, taken, admitted, kept-memory}
+
+module _ (d : Desk) (s : List ℕ) (page whole tenths : ℕ) where
+  -- a slot that is found, or none
+  at-show : Ready d s → (a : Found) → find d s (cueName (cueKey page whole tenths)) ≡ a
+      → LookedShow d s page whole tenths (lookAt d s a .bytes) (lookAt d s a .word)
+  unfolding lookAt memoryAt
+  at-show h (at i) e =
+      record {
+        levels = λ q. record { memory = memoryAt d s i; held = kept-memory d s _ i e; same = refl };
+        none = (λ q. absurd (omega arith), λ q. absurd (kept-absent (sym (kept-memory d s _ i e) ∙ q .1)));
+      }
+  at-show h nowhere e =
+      record {
+        levels = λ q. absurd (omega arith);
+        none = (λ q. (h, absent-at d s _ e), λ q. refl);
+      }
+
+  by-show : (a : Admission) → a ≡ admissionOf d s
+      → LookedShow d s page whole tenths (lookBy a d s (cueKey page whole tenths) .bytes) (lookBy a d s (cueKey page whole tenths) .word)
+  unfolding lookBy
+  by-show Admitted e =
+      let h = taken d s e in
+      at-show (record { range = h .0 .range; long = h .0 .long; form = good-sound d s (h .1) }) (find d s (cueName (cueKey page whole tenths))) refl
+  by-show (Away r) e =
+      let some = refusal-some r in
+      record {
+        levels = λ q. absurd (let z : refusalNumber r ≡ 0 = q in omega arith);
+        none = (
+          λ q. absurd (store-away d s .second (ap awayNumber (sym e) ∙ q)),
+          λ q.
+              let g = admitted d s (record { range = q .0 .range; long = q .0 .long }) refl (good-complete d s (q .0 .form)) in
+              let z : refusalNumber r ≡ 0 = ap awayNumber (e ∙ sym g) in
+              absurd (omega arith),
+        );
+      }
+
+pub looked-show : (d : Desk) (s : RefT (List ℕ)) (page whole tenths : ℕ) {r : RefT (List ℕ)} {answer : ℕ}
+    → LookPromise d s page whole tenths r answer → LookedShow d (now s) page whole tenths (now r) answer
+unfolding lookCall
+looked-show d s page whole tenths {r} {answer} e =
+    let x = lookCall d (now s) page whole tenths in
+    subst (λ (w : ℕ). LookedShow d (now s) page whole tenths (now r) w) (sym (e .says))
+    (subst (λ (b : List ℕ). LookedShow d (now s) page whole tenths b (x .word)) (sym (e .bytes))
+    (by-show d (now s) page whole tenths (admissionOf d (now s)) refl))
+
+-- ---- find beside it
+
+-- the same number, and the same place where there is one
+Beside : Reply → Look → Type 0
+Beside x y = (x .number ≡ y .word) × ((n : ℕ) → x ≡ findReply (At n) → n ≡ y .place)
+
+at-beside : (d : Desk) (s : List ℕ) (a : Found) → Beside (placedAt d a) (lookAt d s a)
+unfolding Beside placedAt lookAt
+at-beside d s (at i) = (refl, λ n e. sym (ap (λ (x : Reply). getD (x .told) 0 0) e))
+at-beside d s nowhere = (refl, λ n e. let z : _≡_ {A = ℕ} 1 0 = ap (λ (x : Reply). x .number) e in absurd (omega arith))
+
+by-beside : (d : Desk) (s : List ℕ) (page whole tenths : ℕ) (a : Admission)
+    → Beside (findBy a d s (cueKey page whole tenths)) (lookBy a d s (cueKey page whole tenths))
+unfolding Beside findBy lookBy
+by-beside d s page whole tenths Admitted = at-beside d s (find d s (cueName (cueKey page whole tenths)))
+by-beside d s page whole tenths (Away r) = (
+  refl,
+  λ n e. let z : refusalNumber r ≡ 0 = ap (λ (x : Reply). x .number) e in let some = refusal-some r in absurd (omega arith),
+)
+
+pub found-part : (d : Desk) (s : RefT (List ℕ)) (page whole tenths : ℕ) {r : RefT (List ℕ)} {answer : ℕ} {a : Placed}
+    → FindPromise d (now s) page whole tenths a → LookPromise d s page whole tenths r answer → FoundPart s r answer a
+unfolding Beside findCall lookCall
+found-part d s page whole tenths {r} {answer} {a} f e =
+    let b = by-beside d (now s) page whole tenths (admissionOf d (now s)) in
+    record {
+      number = ap (λ (x : Reply). x .number) (f .0) ∙ b .0 ∙ sym (e .says);
+      place =
+          λ n q. (
+            e .block,
+            e .offset ∙ ap (λ (k : ℕ). ptr s .1 + k) (sym (b .1 n (sym (f .0) ∙ ap findReply q))),
+          );
+    }
