@@ -20,6 +20,8 @@ use Rattle.value_level.specs.Level.{levelOf}
 use Rattle.text_records.specs.Received.{longest}
 use Rattle.text_fields.specs.Words.{Word, headOf, tailOf}
 use Rattle.text_fields.specs.Places.{wordsFrom, startAt, endAt, isMore, fieldAt, isMissing, wordAt}
+use Rattle.text_fields.specs.Tables.{Ended}
+use Rattle.text_fields.proofs.Runs.{end-ended}
 use Rattle.text_fields.proofs.Words.{words-some, words-none, words-head, words-tail, words-start, start-from, start-within, start-start, end-from, end-within, end-forward, missing-some, missing-none, end-of-start, chars-of-start}
 use Rattle.text_fields.proofs.Counts.{words-few}
 use Rattle.store.specs.declared.Edit.the-variants.{Level as SetLevel}
@@ -252,23 +254,23 @@ pub fields-read : (d : Desk) (g : Group) (text : List ℕ) (at : ℕ) {c m : Rea
 fields-read d g text at e c m s l =
     record { starts = e; channel = c; middle = m; level = l ∙ ap (λ (k : ℕ). litAt text k) s }
 
--- all of them lie within the text
+-- all of them lie within the text, and each ends
 pub start-fits : (text : List ℕ) (place : ℕ) {s : ℕ} → s ≡ startAt text place → place ≤ length text → s ≤ length text
 start-fits text place e h = subst (λ (k : ℕ). k ≤ length text) (sym e) (start-within text place h)
 
 module _ (limit beyond : ℕ) (text : List ℕ) (at : ℕ) (s : startAt text at ≡ at) (h : at ≤ length text) {c : Read}
     (e : c ≡ rangedAt limit beyond text at) where
-  pub second-within : c .end ≤ length text
-  second-within = subst (λ (k : ℕ). k ≤ length text) (sym (number-end text at (sym s) limit beyond e)) (end-within text at h)
+  pub second-ended : Ended text (c .end)
+  second-ended = subst (λ (k : ℕ). Ended text k) (sym (number-end text at (sym s) limit beyond e)) (end-ended text at h)
 
-  pub third-within : (d : Desk) (g : Group) {m : Read} → m ≡ betweenAt d g text (c .end) → m .end ≤ length text
+  pub third-ended : (d : Desk) (g : Group) {m : Read} → m ≡ betweenAt d g text (c .end) → Ended text (m .end)
   unfolding betweenAt
-  third-within d g {m} f = subst (λ (x : Read). x .end ≤ length text) (sym f) (middle-within g (c .end) second-within)
+  third-ended d g {m} f = subst (λ (x : Read). Ended text (x .end)) (sym f) (middle-ended g (c .end) second-ended)
     where
-      middle-within : (g : Group) (p : ℕ) → p ≤ length text → betweenAt d g text p .end ≤ length text
-      middle-within Pair p w = w
-      middle-within Triple p w =
-          subst (λ (k : ℕ). k ≤ length text) (sym (number-end text p refl (d .dimmers) badDimmer refl)) (end-within text p w)
+      middle-ended : (g : Group) (p : ℕ) → Ended text p → Ended text (betweenAt d g text p .end)
+      middle-ended Pair p w = w
+      middle-ended Triple p w =
+          subst (λ (k : ℕ). Ended text k) (sym (number-end text p refl (d .dimmers) badDimmer refl)) (end-ended text p (w .within))
 
 -- by what stands between channel and level, and by what an item is made of
 module _ (d : Desk) (text : List ℕ) (place : ℕ) {g : Group} where
@@ -359,11 +361,10 @@ item-from text place =
     let b : startAt text place ≤ endAt text place = end-from text place in
     omega arith
 
-at-within : (d : Desk) (g : Group) (text : List ℕ) (place : ℕ) → place ≤ length text → itemAt d g text place .end ≤ length text
+at-ended : (d : Desk) (g : Group) (text : List ℕ) (place : ℕ) → place ≤ length text → Ended text (itemAt d g text place .end)
 unfolding itemAt
-at-within d Pair text place h = end-within text (endAt text place) (end-within text place h)
-at-within d Triple text place h =
-    end-within text (endAt text (endAt text place)) (end-within text (endAt text place) (end-within text place h))
+at-ended d Pair text place h = end-ended text (endAt text place) (end-within text place h)
+at-ended d Triple text place h = end-ended text (endAt text (endAt text place)) (end-within text (endAt text place) (end-within text place h))
 
 at-forward : (d : Desk) (g : Group) (text : List ℕ) (place : ℕ) → isMore text place ≡ true → place < itemAt d g text place .end
 unfolding itemAt
@@ -382,8 +383,8 @@ more-at : (text : List ℕ) (place : ℕ) → startAt text place ≡ place → p
 more-at text place s h = lt-ltb (startAt text place) (length text) (subst (λ (k : ℕ). k < length text) (sym s) h)
 
 module _ (d : Desk) (g : Group) (text : List ℕ) (place : ℕ) {x : Item} (e : x ≡ itemAt d g text place) where
-  pub item-within : place ≤ length text → x .end ≤ length text
-  item-within h = subst (λ (y : Item). y .end ≤ length text) (sym e) (at-within d g text place h)
+  pub item-ended : place ≤ length text → Ended text (x .end)
+  item-ended h = subst (λ (y : Item). Ended text (y .end)) (sym e) (at-ended d g text place h)
 
   pub item-forward : startAt text place ≡ place → place < length text → place < x .end
   item-forward s h = subst (λ (y : Item). place < y .end) (sym e) (at-forward d g text place (more-at text place s h))
@@ -563,7 +564,7 @@ module _ (d : Desk) (g : Group) (text : List ℕ) (place : ℕ) (aim : Aim) (s�
           let u : length ys ≡ length (now .xs) + length (faultsOf (x .entry ∷ [])) = length-append (now .xs) (faultsOf (x .entry ∷ [])) in
           let o : length (faultsOf (x .entry ∷ [])) ≤ 1 = faults-one (x .entry) in
           let r : length (now .xs) + length (entriesFrom d g text i) ≤ mostFaults = now .room in
-          let w : x .end ≤ length text = item-within d g text i e (now .within) in
+          let w : x .end ≤ length text = item-ended d g text i e (now .within) .within in
           record {
             within = subst (λ (p : ℕ). p ≤ length text) (sym q) (start-within text (x .end) w);
             starts = ap (λ (p : ℕ). startAt text p) q ∙ start-start text (x .end) ∙ sym q;

@@ -4,6 +4,7 @@ ghost use mathlib.Core.Path.{_≡_};
 ghost use Prim.Native.Nat.{_≤_, _<_};
 ghost use lib.ListN.{length};
 ghost use Rattle.text_fields.specs.Places.{wordsFrom};
+ghost use Rattle.text_fields.specs.Tables.{Ended};
 ghost use Rattle.store_code.specs.Fits.{Fitting};
 ghost use Rattle.load.specs.Item.{pairsOf, triplesOf};
 ghost use Rattle.load.specs.Fits.{EntryFits};
@@ -167,7 +168,7 @@ struct Item {
 
 // PATCH has a dimmer between channel and level; CHAN has nothing there.
 fn between(desk: Desk, group: Group, text: &[u8], at: usize) -> Read
-    requires { ⌜ at ≤ length (now text) ⌝ }
+    requires { ⌜ Ended (now text) at ⌝ }
     ensures { λ r. ⌜ r ≡ betweenAt desk group (now (text .entry)) at ⌝ }
 {
     match group {
@@ -178,7 +179,7 @@ fn between(desk: Desk, group: Group, text: &[u8], at: usize) -> Read
         },
         Group::Triple => ranged(
             text,
-            text_fields::field_start(text, at),
+            text_fields::next_field(text, at),
             desk.dimmers,
             BAD_DIMMER,
         ),
@@ -203,7 +204,7 @@ fn item_at(desk: Desk, group: Group, text: &[u8], at: usize) -> Item
     let second = c.end;
     let m = between(desk, group, text, second);
     let third = m.end;
-    let l = level(text, text_fields::field_start(text, third));
+    let l = level(text, text_fields::next_field(text, third));
     let end = l.end;
     if c.condition != 0 {
         return Item {
@@ -308,7 +309,7 @@ fn take_items(
         let e = item.entry;
         apply(desk, &mut *store, aim, e);
         n = note(&mut *faults, n, e);
-        i = text_fields::field_start(text, item.end);
+        i = text_fields::next_field(text, item.end);
     }
     n
 }

@@ -21,7 +21,7 @@ use Rattle.load.specs.declared.Outcome.{Outcome}
 use Rattle.load.specs.declared.Totals.{Totals}
 use Rattle.load.specs.Condition.{noEnddata}
 use Rattle.load.specs.Step.{Step, recordStep, conditionsOf}
-use Rattle.load.specs.Run.{Report, Run, stops, reportsAt, runFrom, loadOf, allReports, storedIn}
+use Rattle.load.specs.Run.{Report, Run, stops, reportsAt, runFrom, loadOf, allReports, storedIn, conditionSpan}
 use Rattle.load.specs.Fits.{Small}
 use Rattle.load.proofs.Counts.{record-said, stored-none}
 use Rattle.load_step.specs.declared.Held.{Held}
@@ -305,15 +305,14 @@ module _ {d : Desk} {t₀ reps₀ stream : List ℕ} {p : Progress} {at : ℕ} {
 
 -- ---- the end of the stream
 module _ {d : Desk} {t₀ reps₀ stream : List ℕ} {p : Progress} {at : ℕ} {t reps : List ℕ} (w : SoFar d t₀ reps₀ stream p at t reps) where
-  pub end-room : Tellable (p .count) (noEnddata ∷ [])
+  pub end-room : (c : ℕ) → c < conditionSpan → Tellable (p .count) (c ∷ [])
   unfolding Small
-  end-room =
+  end-room c h =
       let k : length (w .outcomes) ≤ at = w .records-few in
       let l : length (w .reports) ≤ at = w .reports-few in
       let i : at ≤ length stream = w .within in
       let g : length stream ≤ mostRecords = w .long in
-      subst (λ (n : Count). Tellable n (noEnddata ∷ [])) (sym (w .count))
-      (count-tellable (w .outcomes) (w .reports) (noEnddata ∷ []) (omega arith) (omega arith) (omega arith, tt))
+      subst (λ (n : Count). Tellable n (c ∷ [])) (sym (w .count)) (count-tellable (w .outcomes) (w .reports) (c ∷ []) (omega arith) (omega arith) (h, tt))
 
   pub loop-end : length stream ≤ at → {n : Count} {l : List ℕ} → told n l ≡ toldOne (told (p .count) reps) noEnddata
       → runLoaded (totalsBy n) t l ≡ loadedOf (loadOf d t₀ stream) reps₀

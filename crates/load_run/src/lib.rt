@@ -96,6 +96,8 @@ fn take_record(
     ensures { λ r. ⌜ taken r (now (store .exit)) (now (reports .exit)) ≡ recordTaken desk done (take (end - at) (drop at (now (stream .entry)))) (now (store .entry)) (now (reports .entry)) ⌝ }
 {
     let r = text_records::receive(stream, at, end);
+    // Ahead of the test, so that both copies are made of what was just read, and none of what was just stored.
+    let mut bytes = r.bytes;
     if text_records::over_long(r) {
         let held = done.held;
         let count = done.count;
@@ -105,7 +107,6 @@ fn take_record(
             stopped: true,
         };
     }
-    let mut bytes = r.bytes;
     let mut n = r.count;
     let mut high = false;
     let mut control = false;

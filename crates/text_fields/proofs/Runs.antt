@@ -1,5 +1,6 @@
 -- The word that stands at a place, character by character: its number made in the scan that finds its end, its first characters, the quick
--- test for CHAN, and a run of some of a word's characters before a delimiter. By the laws of scans, and by induction on the characters.
+-- test for CHAN, the next field behind it, and a run of some of a word's characters before a delimiter. By the laws of scans, and by induction
+-- on the characters.
 -- Assumes nothing.
 use mathlib.Core.Path.{_≡_, refl, sym, ap, _∙_, subst}
 use mathlib.Core.Bool.{Bool, true, false, cond, not, _&&_, false≢true}
@@ -25,9 +26,10 @@ use Rattle.text_fields.specs.declared.Keyed.{Keyed}
 use Rattle.text_fields.specs.declared.Said.{Said}
 use Rattle.text_fields.specs.declared.SaidItem.{SaidItem}
 use Rattle.text_fields.specs.Words.{isDelimiter, isWord}
-use Rattle.text_fields.specs.Places.{endFrom}
+use Rattle.text_fields.specs.Places.{endFrom, startAt, endAt}
 use Rattle.text_fields.specs.Keywords.{upper, sameText, sameWord, meaningOf, keywordRows, dollar, keywordOf, itemOf}
-use Rattle.text_fields.specs.Tables.{letterOf, fieldKey, charsAt, keyedAt, endsAt, isChan, keywordBy, itemBy, saidAt, saidItemAt}
+use Rattle.text_fields.specs.Tables.{letterOf, fieldKey, charsAt, keyedAt, endsAt, Ended, isChan, keywordBy, itemBy, saidAt, saidItemAt}
+use Rattle.text_fields.proofs.Words.{end-within}
 use Rattle.text_fields.proofs.Keys.{letter-high, keyword-key, item-key}
 
 -- ---- whether a field that goes up to a place ends there
@@ -55,6 +57,48 @@ module _ (text : List ℕ) (at : ℕ) where
       span-more isWord text at l refl (not-of-false (isDelimiter (getD text at 0)) (ends-within l refl ∙ e)) in
       omega arith)
       (λ l. clash (sym (ends-past l)) e)
+
+-- a field ends at a delimiter, or with the text
+pub end-ended : (text : List ℕ) (at : ℕ) → at ≤ length text → Ended text (endAt text at)
+unfolding endAt
+end-ended text at h =
+    let s : ℕ = startAt text at in
+    record {
+      within = end-within text at h;
+      ends = by-lt (endFrom text s) (length text)
+          (λ l. sym (ends-within text (endFrom text s) l (sym (not-false (isDelimiter (getD text (endFrom text s) 0)) (span-at-from isWord text s l)))))
+          (λ l. sym (ends-past text (endFrom text s) l));
+    }
+
+-- ---- the next field, sought behind the delimiter that ended this one: a place up to which there are only delimiters
+pub record Behind (text : List ℕ) (end i : ℕ) : Type 0 where
+  pub ended : Ended text i
+  pub same : startAt text i ≡ startAt text end
+
+module _ {text : List ℕ} {end i : ℕ} (k : Behind text end i) where
+  behind-next : i < length text → startAt text (i + 1) ≡ startAt text end
+  unfolding startAt
+  behind-next h = scan-turn isDelimiter text i h refl (ends-within text i h refl ∙ k .ended .ends) (k .same)
+
+  module _ (h : i + 1 < length text) {b : Bool} (e : b ≡ isDelimiter (getD text (i + 1) 0)) where
+    pub behind-turn : b ≡ true → Behind text end (i + 1)
+    behind-turn t =
+        record {
+          ended = record { within = omega arith; ends = sym (ends-within text (i + 1) h e) ∙ t };
+          same = behind-next (omega arith);
+        }
+
+    pub behind-stop : b ≡ false → i + 1 ≡ startAt text end
+    unfolding startAt
+    behind-stop t = scan-stop isDelimiter text (i + 1) h e t (behind-next (omega arith))
+
+  pub behind-end : length text ≤ i + 1 → length text ≡ startAt text end
+  unfolding startAt
+  behind-end h =
+      let w : i ≤ length text = k .ended .within in
+      by-lt i (length text)
+      (λ l. let a : i + 1 ≡ startAt text end = scan-end isDelimiter text (i + 1) h (behind-next l) in omega arith)
+      (λ l. let a : i ≡ startAt text end = scan-end isDelimiter text i l (k .same) in omega arith)
 
 -- ---- a run of some of the word's characters, such as its digits
 run-split : (p : ℕ → Bool) → ((c : ℕ) → p c ≡ true → isWord c ≡ true) → (s : List ℕ)

@@ -2,8 +2,9 @@
 -- this makes what specs/Keywords.antt says. No promise above the load names these.
 -- Assumes nothing.
 use mathlib.Core.Bool.{Bool, true, cond, _&&_}
+use mathlib.Core.Path.{_≡_}
 use mathlib.Core.List.{List, [], _∷_}
-use Prim.Native.Nat.{ℕ, _+_, _-_, _*_}
+use Prim.Native.Nat.{ℕ, _+_, _-_, _*_, _≤_}
 use lib.Dec.{eqb, ltb, leb}
 use lib.ListN.{length, getD, take, drop}
 use Rattle.cells.specs.Scan.{span}
@@ -60,6 +61,11 @@ keyedAt text at = record { key = fieldKey (take 10 (charsAt text at)); end = end
 -- whether a field that goes up to a place ends there: at the end of the text, or at a delimiter
 unfoldable pub endsAt : List ℕ → ℕ → Bool
 endsAt text at = cond (ltb at (length text)) (isDelimiter (getD text at 0)) true
+
+-- a place in a text where a field ended
+pub record Ended (text : List ℕ) (place : ℕ) : Type 0 where
+  pub within : place ≤ length text
+  pub ends : endsAt text place ≡ true
 
 -- whether CHAN stands at a place in capitals, and nothing else
 unfoldable pub isChan : List ℕ → ℕ → Bool

@@ -7,7 +7,7 @@ ghost use lib.ListN.{length, drop};
 ghost use Rattle.text_fields.specs.Words.{isDelimiter};
 ghost use Rattle.text_fields.specs.Places.{endFrom, startAt, fieldAt, isMissing, wordIn};
 ghost use Rattle.text_fields.specs.Keywords.{keywordRows, itemRows};
-ghost use Rattle.text_fields.specs.Tables.{letterOf, meaningBy, keywordBy, itemBy, keyedAt, endsAt, isChan, saidAt, saidItemAt};
+ghost use Rattle.text_fields.specs.Tables.{letterOf, meaningBy, keywordBy, itemBy, keyedAt, endsAt, Ended, isChan, saidAt, saidItemAt};
 use cells::byte;
 
 // A field: where it starts and ends in the text. A missing field is empty, at the end of the text.
@@ -86,6 +86,21 @@ pub fn field_start(text: &[u8], at: usize) -> usize
         i += 1;
     }
     i
+}
+
+// Where the next field starts, behind a field that ended at `end`: the delimiter that ended it is not looked at again.
+pub fn next_field(text: &[u8], end: usize) -> usize
+    requires { ⌜ Ended (now text) end ⌝ }
+    ensures { λ r. ⌜ r ≡ startAt (now (text .entry)) end ⌝ }
+{
+    let mut i = end;
+    while i + 1 < text.len() {
+        i += 1;
+        if !is_delimiter(text[i]) {
+            return i;
+        }
+    }
+    text.len()
 }
 
 // The first place from `at` on that is a delimiter: where a field that goes on there ends.

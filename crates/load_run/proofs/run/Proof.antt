@@ -5,7 +5,9 @@ use Rattle.load_run.proofs.Turn as turn
 use Rattle.load_run.proofs.Turn.{SoFar, answered, loop-start, end-in, loop-room, loop-turn, loop-stop, loop-end, end-room}
 use Rattle.load_run.proofs.Turn.{first-in, loop-spans, blank-room, blank-less, blank-turn}
 use Rattle.load_items.specs.Done.{mostFaults}
+use Rattle.load_run.specs.Take.{Spans}
 use native.Mathlib.Omega.{arith}
+use lib.Dec.{eqb}
 use lib.ListN.{length}
 use Prim.Native.Nat.{_-_}
 use mathlib.Core.Path.{_≡_, refl, sym, _∙_}
@@ -20,11 +22,38 @@ Inv-loop desk store₀ stream reports₀ faults₀ done₀ at₀ store reports f
 abbrev μ-loop : tie.MeasureT-loop
 μ-loop desk store₀ stream reports₀ faults₀ done₀ at₀ store reports faults done at = length stream - at
 
+-- the places that the answers speak of, each from a later one: the turn, its record's end, the record taken; the end of the stream, 0100 told
+abbrev began : tie.After-slice-known2 Inv-loop μ-loop → tie.Start Inv-loop μ-loop
+began c = c .before .before .before
+
+abbrev turned : tie.After-is-end Inv-loop μ-loop → tie.In-loop Inv-loop μ-loop
+turned c = c .before .before
+
+abbrev ended : tie.After-faults Inv-loop μ-loop → tie.After-record-end Inv-loop μ-loop
+ended c = c .before .before .before
+
+abbrev took : tie.After-faults2 Inv-loop μ-loop → tie.After-take-record Inv-loop μ-loop
+took c = c .before .before .before .before .before
+
+abbrev over : tie.After-report-arg Inv-loop μ-loop → tie.After-loop Inv-loop μ-loop
+over c = c .before .before
+
+abbrev closed : tie.After-totals2 Inv-loop μ-loop → tie.After-report Inv-loop μ-loop
+closed c = c .before .before .before
+
+-- the turn of a record that has characters, and where the record stands
+abbrev reached : tie.After-record-end Inv-loop μ-loop → tie.In-loop Inv-loop μ-loop
+reached e = turned (e .before .before .before)
+
+spans : (e : tie.After-record-end Inv-loop μ-loop)
+    → let l = reached e .before in Spans (began (l .before .before) .args .stream .now) (l .loop .at) (e .record-end .result) (eqb (e .before .plain-end .result) (e .record-end .result))
+spans e = loop-spans (reached e .before .loop .inv .0) (e .before .plain-end .ensures) (e .record-end .ensures)
+
 begun-requires : tie.Need-begun-requires Inv-loop μ-loop
 begun-requires c κs = search needs
 
 loop-holds : tie.Need-loop-holds Inv-loop μ-loop
-loop-holds c = (loop-start _ _ _ _ (c .before .before .before .before .pre .0) (c .before .before .before .before .pre .1) (c .begun .ensures), refl)
+loop-holds c = let s = began (c .before) in (loop-start _ _ _ _ (s .pre .0) (s .pre .1) (c .begun .ensures), refl)
 
 shared-slice-read-is-end : tie.Need-shared-slice-read-is-end Inv-loop μ-loop
 shared-slice-read-is-end c = search needs
@@ -33,92 +62,112 @@ is-end-requires : tie.Need-is-end-requires Inv-loop μ-loop
 is-end-requires c κs = search needs
 
 take-blank-requires : tie.Need-take-blank-requires Inv-loop μ-loop
-take-blank-requires c κs = blank-room (c .before .before .before .before .loop .inv .0) (c .before .before .before .loop-test .taken) (c .before .is-end .ensures) (c .if1 .taken)
+take-blank-requires c κs =
+    let i = c .before in
+    let t = turned i in
+    blank-room (t .before .loop .inv .0) (t .loop-test .taken) (i .is-end .ensures) (c .if1 .taken)
 
 next-start-requires : tie.Need-next-start-requires Inv-loop μ-loop
-next-start-requires c κs = c .before .before .before .before .before .loop .inv .0 .within
+next-start-requires c κs = turned (c .before .before) .before .loop .inv .0 .within
 
 loop-less : tie.Need-loop-less Inv-loop μ-loop
-loop-less c = blank-less (c .before .before .before .before .before .before .loop .inv .0) (c .before .before .before .before .before .loop-test .taken) (c .before .before .before .is-end .ensures) (c .before .before .if1 .taken) (c .before .take-blank .ensures) (c .next-start .ensures)
+loop-less c =
+    let b = c .before in
+    let y = b .before in
+    let i = y .before in
+    let t = turned i in
+    blank-less (t .before .loop .inv .0) (t .loop-test .taken) (i .is-end .ensures) (y .if1 .taken) (b .take-blank .ensures) (c .next-start .ensures)
 
 loop-again : tie.Need-loop-again Inv-loop μ-loop
-loop-again c = (
-  blank-turn (c .before .before .before .before .before .before .loop .inv .0) (c .before .before .before .before .before .loop-test .taken) (c .before .before .before .is-end .ensures) (c .before .before .if1 .taken) (c .before .take-blank .ensures) (c .next-start .ensures),
-  c .before .before .before .before .before .before .loop .inv .1,
-)
+loop-again c =
+    let b = c .before in
+    let y = b .before in
+    let i = y .before in
+    let t = turned i in
+    let w = t .before .loop .inv in
+    (blank-turn (w .0) (t .loop-test .taken) (i .is-end .ensures) (y .if1 .taken) (b .take-blank .ensures) (c .next-start .ensures), w .1)
 
 plain-end-requires : tie.Need-plain-end-requires Inv-loop μ-loop
-plain-end-requires c κs = c .before .before .before .before .loop .inv .0 .within
+plain-end-requires c κs = turned (c .before) .before .loop .inv .0 .within
 
 record-end-requires : tie.Need-record-end-requires Inv-loop μ-loop
-record-end-requires c κs = first-in (c .before .before .before .before .before .loop .inv .0) (c .plain-end .ensures)
+record-end-requires c κs = first-in (turned (c .before .before) .before .loop .inv .0) (c .plain-end .ensures)
 
 slice-aggregate-take-record : tie.Need-slice-aggregate-take-record Inv-loop μ-loop
-slice-aggregate-take-record c = sym (c .before .before .before .before .before .before .before .before .before .loop .inv .1)
+slice-aggregate-take-record c = sym (reached (ended c) .before .loop .inv .1)
 
 take-record-requires : tie.Need-take-record-requires Inv-loop μ-loop
 take-record-requires c κs =
-    let w = c .before .before .before .before .before .before .before .before .before .loop .inv in
-    let s = loop-spans (w .0) (c .before .before .before .before .plain-end .ensures) (c .before .before .before .record-end .ensures) in
+    let e = ended c in
+    let t = reached e in
+    let w = t .before .loop .inv in
     let m = w .1 in
-    (s, (loop-room (w .0) (c .before .before .before .before .before .before .before .before .loop-test .taken) (s .ends), omega arith))
+    (spans e, (loop-room (w .0) (t .loop-test .taken) (spans e .ends), omega arith))
 
 totals-requires : tie.Need-totals-requires Inv-loop μ-loop
 totals-requires c κs = search needs
 
 same-length : tie.Need-same-length Inv-loop μ-loop
-same-length c = c .before .before .before .before .before .before .before .before .take-record .kept .1 .1 .1 .1 .1 .1 .0 ∙ c .before .before .before .before .before .before .before .before .before .before .before .before .before .before .before .before .before .before .loop .inv .0 .store-length
+same-length c =
+    let k = took (c .before .before .before) in
+    k .take-record .kept .1 .1 .1 .1 .1 .1 .0 ∙ reached (ended (k .before)) .before .loop .inv .0 .store-length
 
 same-length-2 : tie.Need-same-length-2 Inv-loop μ-loop
-same-length-2 c = c .before .before .before .before .before .before .before .before .take-record .kept .1 .1 .1 .1 .1 .1 .1 .0 ∙ c .before .before .before .before .before .before .before .before .before .before .before .before .before .before .before .before .before .before .loop .inv .0 .list-length
+same-length-2 c =
+    let k = took (c .before .before .before) in
+    k .take-record .kept .1 .1 .1 .1 .1 .1 .1 .0 ∙ reached (ended (k .before)) .before .loop .inv .0 .list-length
 
 returns : tie.Need-returns Inv-loop μ-loop
 returns c =
-    let k = c .before .before .before .before .before .before .before .before in
-    let w = k .before .before .before .before .before .before .before .before .before .before .loop .inv .0 in
-    let s = loop-spans w (k .before .before .before .before .before .plain-end .ensures) (k .before .before .before .before .record-end .ensures) in
-    answered _ _ (c .totals .ensures)
-    (loop-stop w (k .before .before .before .before .before .before .before .before .before .loop-test .taken) (s .ends) (k .take-record .ensures) (c .before .before .if2 .taken))
+    let y = c .before .before in
+    let k = took (y .before) in
+    let e = ended (k .before) in
+    let t = reached e in
+    answered _ _ (c .totals .ensures) (loop-stop (t .before .loop .inv .0) (t .loop-test .taken) (spans e .ends) (k .take-record .ensures) (y .if2 .taken))
 
 next-start-requires-2 : tie.Need-next-start-requires-2 Inv-loop μ-loop
 next-start-requires-2 c κs =
-    let k = c .before .before .before .before .before .before in
-    let w = k .before .before .before .before .before .before .before .before .before .before .loop .inv .0 in
-    let s = loop-spans w (k .before .before .before .before .before .plain-end .ensures) (k .before .before .before .before .record-end .ensures) in
-    let i = end-in w (k .before .before .before .before .before .before .before .before .before .loop-test .taken) (s .ends) in
+    let e = ended (took (c .before) .before) in
+    let t = reached e in
+    let i = end-in (t .before .loop .inv .0) (t .loop-test .taken) (spans e .ends) in
     omega (arith, i .1)
 
 loop-less-2 : tie.Need-loop-less-2 Inv-loop μ-loop
 loop-less-2 c =
-    let k = c .before .before .before .before .before .before .before in
-    let w = k .before .before .before .before .before .before .before .before .before .before .loop .inv .0 in
-    let s = loop-spans w (k .before .before .before .before .before .plain-end .ensures) (k .before .before .before .before .record-end .ensures) in
-    turn.loop-less w (k .before .before .before .before .before .before .before .before .before .loop-test .taken) (s .ends) (k .take-record .ensures) (c .next-start2 .ensures)
+    let k = took (c .before .before) in
+    let e = ended (k .before) in
+    let t = reached e in
+    turn.loop-less (t .before .loop .inv .0) (t .loop-test .taken) (spans e .ends) (k .take-record .ensures) (c .next-start2 .ensures)
 
 loop-again-2 : tie.Need-loop-again-2 Inv-loop μ-loop
 loop-again-2 c =
-    let k = c .before .before .before .before .before .before .before in
-    let w = k .before .before .before .before .before .before .before .before .before .before .loop .inv in
-    let s = loop-spans (w .0) (k .before .before .before .before .before .plain-end .ensures) (k .before .before .before .before .record-end .ensures) in (
-      loop-turn (w .0) (k .before .before .before .before .before .before .before .before .before .loop-test .taken) (s .ends) (k .take-record .ensures) (c .next-start2 .ensures)
-          (c .before .if2 .left) (k .take-record .kept .1 .1 .1 .1 .1 .1 .0) (k .take-record .kept .1 .1 .1 .1 .1 .1 .1 .0),
+    let n = c .before in
+    let k = took (n .before) in
+    let e = ended (k .before) in
+    let t = reached e in
+    let w = t .before .loop .inv in (
+      loop-turn (w .0) (t .loop-test .taken) (spans e .ends) (k .take-record .ensures) (c .next-start2 .ensures) (n .if2 .left)
+          (k .take-record .kept .1 .1 .1 .1 .1 .1 .0) (k .take-record .kept .1 .1 .1 .1 .1 .1 .1 .0),
       k .take-record .kept .1 .1 .1 .1 .1 .1 .1 .1 .0 ∙ w .1,
     )
 
 report-requires : tie.Need-report-requires Inv-loop μ-loop
-report-requires c κs = end-room (c .before .before .before .loop .inv .0)
+report-requires c κs = end-room (over c .before .loop .inv .0) _ (omega arith)
 
 totals-requires-2 : tie.Need-totals-requires-2 Inv-loop μ-loop
 totals-requires-2 c κs = search needs
 
 same-length-3 : tie.Need-same-length-3 Inv-loop μ-loop
-same-length-3 c = c .before .before .before .before .before .before .before .loop .inv .0 .store-length
+same-length-3 c = over (closed c .before) .before .loop .inv .0 .store-length
 
 same-length-4 : tie.Need-same-length-4 Inv-loop μ-loop
-same-length-4 c = c .before .before .before .report .kept .0 ∙ c .before .before .before .before .before .before .before .loop .inv .0 .list-length
+same-length-4 c = let r = closed c in r .report .kept .0 ∙ over (r .before) .before .loop .inv .0 .list-length
 
 returns-2 : tie.Need-returns-2 Inv-loop μ-loop
-returns-2 c = answered _ _ (c .totals2 .ensures) (loop-end (c .before .before .before .before .before .before .before .loop .inv .0) (c .before .before .before .before .before .before .loop-test .left) (c .before .before .before .report .ensures))
+returns-2 c =
+    let r = closed c in
+    let o = over (r .before) in
+    answered _ _ (c .totals2 .ensures) (loop-end (o .before .loop .inv .0) (o .loop-test .left) (r .report .ensures))
 
 pub run-spec : {M : Type 1} → statement M
 run-spec =

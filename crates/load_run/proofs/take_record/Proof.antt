@@ -2,30 +2,53 @@
 -- Assumes nothing.
 use Rattle.load_run.proofs.Taking.{Texted, texted-as, spans-in, part-taking, is-long, short-within, short-chars, plain-texted, cleaned-texted}
 use Rattle.load_run.proofs.Taking.{text-taken, text-room, long-taken}
-use lib.ListN.{take, drop}
+use lib.ListN.{length, take, drop}
 use lib.Seq.{length-take-le}
-use Prim.Native.Nat.{_-_}
+use Prim.Native.Nat.{_-_, _≤_}
 use mathlib.Core.Logic.{⊎-elim}
 use mathlib.Core.Path.{sym, _∙_}
 use borrow.Author.Needs.{needs}
 use Rattle.load_run.proofs.take_record.Statement.{statement}
 use Rattle.load_run.proofs.take_record.Tie as tie
 
+-- the places that the answers speak of, each from a later one
+abbrev began : tie.After-slice-known3 → tie.Start
+began c = c .before .before .before .before
+
+abbrev received : tie.After-over-long → tie.After-receive
+received c = c .before .before
+
+abbrev long : tie.After-tell-long → tie.Then1
+long c = c .before .before .before .before
+
+abbrev joined : tie.After-take-text-arg3 → tie.Joined2
+joined c = c .before .before .before .before
+
+abbrev text-told : tie.After-slice-known7 → tie.After-take-text
+text-told c = c .before .before .before .before .before .before
+
 -- where a plain record and another meet
 texted : (c : tie.Joined2)
-    → let s = c .before .before .before .before .before .before .before .before .before in Texted (take (s .args .end - s .args .at) (drop (s .args .at) (s .args .stream .now))) (c .if2 .bytes) (c .if2 .n) (c .if2 .high) (c .if2 .control)
+    → let s = began (received (c .before .before) .before) in Texted (take (s .args .end - s .args .at) (drop (s .args .at) (s .args .stream .now))) (c .if2 .bytes) (c .if2 .n) (c .if2 .high) (c .if2 .control)
 texted c =
-    let r = c .before .before .before .before .receive .ensures in
-    let o = c .before .before .before .over-long .ensures in
-    let l = c .before .before .if1 .left in
-    let s = c .before .before .before .before .before .before .before .before .before in
+    let l = c .before in
+    let o = l .before in
+    let r = received o in
+    let s = began (r .before) in
     ⊎-elim
-    (λ w. texted-as (cleaned-texted _ _ _ (s .pre .0) r o l (w .2 .ensures)) (w .4) (w .5) (w .6) (w .7))
-    (λ w. texted-as (plain-texted _ _ _ (s .pre .0) r o l (w .0 .left)) (w .1) (w .2) (w .3) (w .4))
+    (λ w. texted-as (cleaned-texted _ _ _ (s .pre .0) (r .receive .ensures) (o .over-long .ensures) (l .if1 .left) (w .2 .ensures)) (w .4) (w .5) (w .6) (w .7))
+    (λ w. texted-as (plain-texted _ _ _ (s .pre .0) (r .receive .ensures) (o .over-long .ensures) (l .if1 .left) (w .0 .left)) (w .1) (w .2) (w .3) (w .4))
     (c .if2 .came)
 
+-- the bytes of a record that is not over-long hold its characters
+within : (l : tie.Else1) → let q = received (l .before) .receive .result in q .count ≤ length (q .bytes)
+within l =
+    let o = l .before in
+    let r = received o in
+    short-within _ _ _ (began (r .before) .pre .0) (r .receive .ensures) (o .over-long .ensures) (l .if1 .left)
+
 receive-requires : tie.Need-receive-requires
-receive-requires c κs = spans-in _ _ _ (c .before .before .before .before .pre .0)
+receive-requires c κs = spans-in _ _ _ (began c .pre .0)
 
 over-long-requires : tie.Need-over-long-requires
 over-long-requires c κs = search needs
@@ -38,16 +61,18 @@ same-length c = search needs
 
 returns : tie.Need-returns
 returns c =
-    let r = c .before .before .before .before .before .before .before .before in
-    let s = c .before .before .before .before .before .before .before .before .before .before .before .before .before in
-    long-taken _ (s .args .done) _ _ _ (is-long _ _ _ (s .pre .0) (r .receive .ensures) (c .before .before .before .before .before .before .before .over-long .ensures) (c .before .before .before .before .before .before .if1 .taken)) (s .pre .1 .0 .ready) (c .before .before .tell-long .ensures)
+    let y = c .before .before in
+    let t = long y in
+    let o = t .before in
+    let r = received o in
+    let s = began (r .before) in
+    long-taken _ (s .args .done) _ _ _ (is-long _ _ _ (s .pre .0) (r .receive .ensures) (o .over-long .ensures) (t .if1 .taken)) (s .pre .1 .0 .ready) (y .tell-long .ensures)
 
 array-borrow-prefix-bytes : tie.Need-array-borrow-prefix-bytes
-array-borrow-prefix-bytes c = short-within _ _ _ (c .before .before .before .before .before .before .before .before .before .pre .0) (c .before .before .before .before .receive .ensures) (c .before .before .before .over-long .ensures) (c .before .before .if1 .left)
+array-borrow-prefix-bytes c = within (c .before)
 
 slice-aggregate-clean : tie.Need-slice-aggregate-clean
-slice-aggregate-clean c =
-    sym (length-take-le _ _ (short-within _ _ _ (c .before .before .before .before .before .before .before .before .before .before .pre .0) (c .before .before .before .before .before .receive .ensures) (c .before .before .before .before .over-long .ensures) (c .before .before .before .if1 .left)))
+slice-aggregate-clean c = sym (length-take-le _ _ (within (c .before .before)))
 
 clean-requires : tie.Need-clean-requires
 clean-requires c κs = search needs
@@ -60,9 +85,12 @@ slice-aggregate-take-text c = sym (length-take-le _ _ (texted (c .before) .withi
 
 take-text-requires : tie.Need-take-text-requires
 take-text-requires c κs =
-    let j = c .before .before .before .before in
-    let s = j .before .before .before .before .before .before .before .before .before in
-    let x = text-room (texted j) (short-chars _ _ _ (s .pre .0) (j .before .before .before .before .receive .ensures) (j .before .before .before .over-long .ensures) (j .before .before .if1 .left)) (part-taking _ _ _ (s .pre .0) (s .pre .1 .0)) in
+    let j = joined c in
+    let l = j .before in
+    let o = l .before in
+    let r = received o in
+    let s = began (r .before) in
+    let x = text-room (texted j) (short-chars _ _ _ (s .pre .0) (r .receive .ensures) (o .over-long .ensures) (l .if1 .left)) (part-taking _ _ _ (s .pre .0) (s .pre .1 .0)) in
     (x .0, (x .1, s .pre .1 .1))
 
 same-length-2 : tie.Need-same-length-2
@@ -76,10 +104,14 @@ same-length-4 c = search needs
 
 returns-2 : tie.Need-returns-2
 returns-2 c =
-    let j = c .before .before .before .before .before .before .before .before .before .before .before in
-    let s = j .before .before .before .before .before .before .before .before .before in
-    c .before .before .before .before .before .before .take-text .ensures
-    ∙ text-taken (texted j) _ (s .args .done) _ _ (is-long _ _ _ (s .pre .0) (j .before .before .before .before .receive .ensures) (j .before .before .before .over-long .ensures) (j .before .before .if1 .left))
+    let x = text-told c in
+    let j = joined (x .before) in
+    let l = j .before in
+    let o = l .before in
+    let r = received o in
+    let s = began (r .before) in
+    x .take-text .ensures
+    ∙ text-taken (texted j) _ (s .args .done) _ _ (is-long _ _ _ (s .pre .0) (r .receive .ensures) (o .over-long .ensures) (l .if1 .left))
 
 pub take-record-spec : {M : Type 1} → statement M
 take-record-spec =

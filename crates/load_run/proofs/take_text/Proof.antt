@@ -9,9 +9,19 @@ use borrow.Author.Needs.{needs}
 use Rattle.load_run.proofs.take_text.Statement.{statement}
 use Rattle.load_run.proofs.take_text.Tie as tie
 
+-- the places that the answers speak of, each from a later one
+abbrev began : tie.After-step-arg2 → tie.Start
+began c = c .before .before .before .before .before .before .before
+
+abbrev stepped : tie.After-tell-arg2 → tie.After-step
+stepped c = c .before .before .before .before .before .before .before
+
+abbrev told : tie.After-parted → tie.After-tell
+told c = c .before .before .before
+
 step-requires : tie.Need-step-requires
 step-requires c κs =
-    let s = c .before .before .before .before .before .before .before in
+    let s = began c in
     (record { fitting = s .pre .1 .0 .fitting; short = s .pre .0; ready = s .pre .1 .0 .ready }, s .pre .1 .1)
 
 slice-reshare-prefix-tell : tie.Need-slice-reshare-prefix-tell
@@ -22,8 +32,8 @@ slice-aggregate-tell c = sym (length-take-le _ _ (search needs))
 
 tell-requires : tie.Need-tell-requires
 tell-requires c κs =
-    let k = c .before .before .before .before .before .before .before in
-    let s = c .before .before .before .before .before .before .before .before .before .before .before .before .before .before .before in
+    let k = stepped c in
+    let s = began (k .before) in
     let t = s .pre .1 .0 in
     (t .countable, step-room _ _ _ (k .step .ensures .0) (step-small _ _ _ _) (k .step .ensures .1) (s .pre .1 .1) _ _ (s .args .high) (s .args .control) (t .countable) (t .room) (text-said _ _ _ _))
 
@@ -44,9 +54,11 @@ same-length-3 c = search needs
 
 returns : tie.Need-returns
 returns c =
-    let k = c .before .before .before .before .before .before .before .before .before .before .before .before in
-    let s = c .before .before .before .before .before .before .before .before .before .before .before .before .before .before .before .before .before .before .before .before in
-    step-taken _ _ _ (k .step .ensures .0) (step-small _ _ _ _) (k .step .ensures .1) (s .pre .1 .1) _ _ (ignoredBy (s .args .high) (s .args .control)) (c .before .parted .ensures) (c .before .before .before .before .tell .ensures) (c .stops .ensures)
+    let p = c .before in
+    let t = told p in
+    let k = stepped (t .before) in
+    let s = began (k .before) in
+    step-taken _ _ _ (k .step .ensures .0) (step-small _ _ _ _) (k .step .ensures .1) (s .pre .1 .1) _ _ (ignoredBy (s .args .high) (s .args .control)) (p .parted .ensures) (t .tell .ensures) (c .stops .ensures)
 
 pub take-text-spec : {M : Type 1} → statement M
 take-text-spec =

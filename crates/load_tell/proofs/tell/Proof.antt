@@ -15,6 +15,19 @@ use borrow.Author.Needs.{needs}
 use Rattle.load_tell.proofs.tell.Statement.{statement}
 use Rattle.load_tell.proofs.tell.Tie as tie
 
+-- the places that the answers speak of, each from a later one: what was told of each group
+abbrev began : tie.After-tally → tie.Start
+began c = c .before .before .before
+
+abbrev high-told : tie.After-report-if-arg2 → tie.After-report-if
+high-told c = c .before .before .before
+
+abbrev control-told : tie.After-report-outcome-arg → tie.After-report-if2
+control-told c = c .before .before .before
+
+abbrev outcome-told : tie.After-report-faults-arg → tie.After-report-outcome
+outcome-told c = c .before .before .before
+
 -- the four groups of conditions
 abbrev highs : tie.Start → List ℕ
 highs s = oneIf (s .args .high) ignoredHigh
@@ -49,37 +62,46 @@ tally-requires c κs = search needs
 report-if-requires : tie.Need-report-if-requires
 report-if-requires c κs =
     let k = c .before in
-    let s = k .before .before .before in
+    let s = began k in
     room-a (room s (k .tally .ensures)) (omega (arith, long s)) (search (small s))
 
 report-if-requires-2 : tie.Need-report-if-requires-2
 report-if-requires-2 c κs =
-    let k = c .before .before .before .before .before in
-    let s = k .before .before .before in
-    room-b (room s (k .tally .ensures)) _ _ (c .before .before .before .report-if .ensures) (omega (arith, long s)) (search (small s))
+    let h = high-told c in
+    let k = h .before .before in
+    let s = began k in
+    room-b (room s (k .tally .ensures)) _ _ (h .report-if .ensures) (omega (arith, long s)) (search (small s))
 
 report-outcome-requires : tie.Need-report-outcome-requires
 report-outcome-requires c κs =
-    let k = c .before .before .before .before .before .before .before .before .before in
-    let s = k .before .before .before in
-    room-c (room s (k .tally .ensures)) _ _ _ (c .before .before .before .before .before .before .before .report-if .ensures) (c .before .before .before .report-if2 .ensures) (omega (arith, long s)) (small s .2)
+    let t = control-told c in
+    let h = high-told (t .before) in
+    let k = h .before .before in
+    let s = began k in
+    room-c (room s (k .tally .ensures)) _ _ _ (h .report-if .ensures) (t .report-if2 .ensures) (omega (arith, long s)) (small s .2)
 
 report-faults-requires : tie.Need-report-faults-requires
 report-faults-requires c κs =
-    let k = c .before .before .before .before .before .before .before .before .before .before .before .before .before in
-    let s = k .before .before .before in
-    room-d (room s (k .tally .ensures)) _ _ _ (c .before .before .before .before .before .before .before .before .before .before .before .report-if .ensures) (c .before .before .before .before .before .before .before .report-if2 .ensures) _ (c .before .before .before .report-outcome .ensures) (omega (arith, long s)) (small s .3)
+    let o = outcome-told c in
+    let t = control-told (o .before) in
+    let h = high-told (t .before) in
+    let k = h .before .before in
+    let s = began k in
+    room-d (room s (k .tally .ensures)) _ _ _ (h .report-if .ensures) (t .report-if2 .ensures) _ (o .report-outcome .ensures) (omega (arith, long s)) (small s .3)
 
 same-length : tie.Need-same-length
 same-length c = search needs
 
 returns : tie.Need-returns
 returns c =
-    let k = c .before .before .before .before .before .before .before .before .before .before .before .before .before .before .before .before in
-    let s = k .before .before .before in
+    let f = c .before .before in
+    let o = outcome-told (f .before) in
+    let t = control-told (o .before) in
+    let h = high-told (t .before) in
+    let k = h .before .before in
+    let s = began k in
     all-from _ _
-    (told-groups _ (highs s) (controls s) (outcomes s) (drops s) _ (c .before .before .before .before .before .before .before .before .before .before .before .before .before .before .report-if .ensures) (c .before .before .before .before .before .before .before .before .before .before .report-if2 .ensures)
-    (c .before .before .before .before .before .before .report-outcome .ensures) (c .before .before .report-faults .ensures))
+    (told-groups _ (highs s) (controls s) (outcomes s) (drops s) _ (h .report-if .ensures) (t .report-if2 .ensures) (o .report-outcome .ensures) (f .report-faults .ensures))
     (k .tally .ensures)
 
 pub tell-spec : {M : Type 1} → statement M

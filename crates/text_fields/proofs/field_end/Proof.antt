@@ -18,6 +18,10 @@ Inv-loop text at i₀ i = (i ≤ length text) × (endFrom text i ≡ endFrom tex
 abbrev μ-loop : tie.MeasureT-loop
 μ-loop text at i₀ i = length text - i
 
+-- the turn in which a character was looked at
+abbrev turned : tie.After-is-delimiter Inv-loop μ-loop → tie.In-loop Inv-loop μ-loop
+turned c = c .before .before
+
 loop-holds : tie.Need-loop-holds Inv-loop μ-loop
 loop-holds c = (c .before .pre, refl)
 
@@ -28,7 +32,10 @@ is-delimiter-requires : tie.Need-is-delimiter-requires Inv-loop μ-loop
 is-delimiter-requires c κs = search needs
 
 returns : tie.Need-returns Inv-loop μ-loop
-returns c = scan-stop isWord _ _ (c .before .before .before .loop-test .taken) refl (ap not (sym (c .before .is-delimiter .ensures) ∙ c .if1 .taken)) (c .before .before .before .before .loop .inv .1)
+returns c =
+    let d = c .before in
+    let t = turned d in
+    scan-stop isWord _ _ (t .loop-test .taken) refl (ap not (sym (d .is-delimiter .ensures) ∙ c .if1 .taken)) (t .before .loop .inv .1)
 
 add-i : tie.Need-add-i Inv-loop μ-loop
 add-i c = search needs
@@ -37,7 +44,10 @@ loop-less : tie.Need-loop-less Inv-loop μ-loop
 loop-less c = search needs
 
 loop-again : tie.Need-loop-again Inv-loop μ-loop
-loop-again c = (omega arith, scan-turn isWord _ _ (c .before .before .before .loop-test .taken) refl (ap not (sym (c .before .is-delimiter .ensures) ∙ c .if1 .left)) (c .before .before .before .before .loop .inv .1))
+loop-again c =
+    let d = c .before in
+    let t = turned d in
+    (omega arith, scan-turn isWord _ _ (t .loop-test .taken) refl (ap not (sym (d .is-delimiter .ensures) ∙ c .if1 .left)) (t .before .loop .inv .1))
 
 returns-2 : tie.Need-returns-2 Inv-loop μ-loop
 returns-2 c = scan-end isWord _ _ (c .loop-test .left) (c .before .loop .inv .1)

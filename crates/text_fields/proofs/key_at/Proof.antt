@@ -15,6 +15,14 @@ Inv-loop text at key₀ unit₀ i₀ key unit i = Keying text at key unit i
 abbrev μ-loop : tie.MeasureT-loop
 μ-loop text at key₀ unit₀ i₀ key unit i = length text - i
 
+-- the turn in which a character was looked at
+abbrev turned : tie.After-is-delimiter Inv-loop μ-loop → tie.In-loop Inv-loop μ-loop
+turned c = c .before .before
+
+-- a letter's turn
+abbrev lettered : tie.After-letter Inv-loop μ-loop → tie.In-loop Inv-loop μ-loop
+lettered c = turned (c .before .before .before)
+
 loop-holds : tie.Need-loop-holds Inv-loop μ-loop
 loop-holds c = keying-start _ _ (c .before .pre)
 
@@ -25,16 +33,19 @@ is-delimiter-requires : tie.Need-is-delimiter-requires Inv-loop μ-loop
 is-delimiter-requires c κs = search needs
 
 returns : tie.Need-returns Inv-loop μ-loop
-returns c = keying-stop (c .before .before .before .before .loop .inv) (c .before .before .before .loop-test .taken) (c .before .is-delimiter .ensures) (c .if1 .taken)
+returns c =
+    let d = c .before in
+    let t = turned d in
+    keying-stop (t .before .loop .inv) (t .loop-test .taken) (d .is-delimiter .ensures) (c .if1 .taken)
 
 letter-requires : tie.Need-letter-requires Inv-loop μ-loop
 letter-requires c κs = search needs
 
 mul-key : tie.Need-mul-key Inv-loop μ-loop
-mul-key c = omega (arith, letter-product _ (c .before .before .before .before .before .before .loop .inv) (c .letter .ensures))
+mul-key c = omega (arith, letter-product _ (lettered c .before .loop .inv) (c .letter .ensures))
 
 add-key : tie.Need-add-key Inv-loop μ-loop
-add-key c = omega (arith, key-turn-low _ (c .before .before .before .before .before .before .loop .inv) (c .letter .ensures))
+add-key c = omega (arith, key-turn-low _ (lettered c .before .loop .inv) (c .letter .ensures))
 
 mul-unit : tie.Need-mul-unit Inv-loop μ-loop
 mul-unit c = search needs
@@ -47,9 +58,12 @@ loop-less c = search needs
 
 loop-again : tie.Need-loop-again Inv-loop μ-loop
 loop-again c =
+    let y = c .before in
+    let d = y .before in
+    let t = turned d in
     ⊎-elim
-    (λ w. keying-turn (c .before .before .before .before .before .loop .inv) (c .before .before .before .before .loop-test .taken) (c .before .before .is-delimiter .ensures) (c .before .if1 .left) (w .0 .taken) (w .1 .ensures) (w .2) (w .3))
-    (λ w. keying-past (c .before .before .before .before .before .loop .inv) (c .before .before .before .before .loop-test .taken) (c .before .before .is-delimiter .ensures) (c .before .if1 .left) (w .0 .left) (w .1) (w .2))
+    (λ w. keying-turn (t .before .loop .inv) (t .loop-test .taken) (d .is-delimiter .ensures) (y .if1 .left) (w .0 .taken) (w .1 .ensures) (w .2) (w .3))
+    (λ w. keying-past (t .before .loop .inv) (t .loop-test .taken) (d .is-delimiter .ensures) (y .if1 .left) (w .0 .left) (w .1) (w .2))
     (c .if2 .came)
 
 returns-2 : tie.Need-returns-2 Inv-loop μ-loop

@@ -20,6 +20,10 @@ Inv-loop s other₀ i₀ other i = (i ≤ block) × ((other || has isSpecial (dr
 abbrev μ-loop : tie.MeasureT-loop
 μ-loop s other₀ i₀ other i = block - i
 
+-- the turn in which a character was looked at
+abbrev turned : tie.After-is-other Inv-loop μ-loop → tie.In-loop Inv-loop μ-loop
+turned c = c .before .before
+
 loop-holds : tie.Need-loop-holds Inv-loop μ-loop
 loop-holds c = (omega arith, refl)
 
@@ -37,13 +41,15 @@ loop-less c = search needs
 
 loop-again : tie.Need-loop-again Inv-loop μ-loop
 loop-again c =
-    let s = c .before .before .before .before .before .before .args .s .now in
-    let i = c .before .before .before .before .loop .i in
-    let l : i < length s = omega (arith, c .before .before .before .before .before .before .pre) in (
+    let o = c .before in
+    let l = turned o .before in
+    let s = l .before .before .args .s .now in
+    let i = l .loop .i in
+    let h : i < length s = omega (arith, l .before .before .pre) in (
       omega arith,
       ⊎-elim
-          (λ w. looked-this isSpecial s i (c .before .before .before .before .loop .other) l (c .before .is-other .ensures) (w .0 .taken) (w .1) (c .before .before .before .before .loop .inv .1))
-          (λ w. looked-past isSpecial s i _ l (c .before .is-other .ensures) (w .0 .left) (w .1) (c .before .before .before .before .loop .inv .1))
+          (λ w. looked-this isSpecial s i (l .loop .other) h (o .is-other .ensures) (w .0 .taken) (w .1) (l .loop .inv .1))
+          (λ w. looked-past isSpecial s i _ h (o .is-other .ensures) (w .0 .left) (w .1) (l .loop .inv .1))
           (c .if1 .came),
     )
 

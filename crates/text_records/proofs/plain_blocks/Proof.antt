@@ -16,6 +16,10 @@ Inv-loop stream at i₀ i = (i ≤ length stream) × (plainEnd stream i ≡ plai
 abbrev μ-loop : tie.MeasureT-loop
 μ-loop stream at i₀ i = length stream - i
 
+-- the turn in which a block was looked at
+abbrev turned : tie.After-is-plain Inv-loop μ-loop → tie.In-loop Inv-loop μ-loop
+turned c = c .before .before
+
 loop-holds : tie.Need-loop-holds Inv-loop μ-loop
 loop-holds c = (c .before .pre, refl)
 
@@ -38,17 +42,19 @@ is-plain-requires : tie.Need-is-plain-requires Inv-loop μ-loop
 is-plain-requires c κs = search needs
 
 returns : tie.Need-returns Inv-loop μ-loop
-returns c = c .before .before .before .before .loop .inv
+returns c = turned (c .before) .before .loop .inv
 
 loop-less : tie.Need-loop-less Inv-loop μ-loop
 loop-less c = search needs
 
 loop-again : tie.Need-loop-again Inv-loop μ-loop
 loop-again c =
-    let s = c .before .before .before .before .before .before .args .stream .now in
-    let i = c .before .before .before .before .loop .i in
+    let p = c .before in
+    let l = turned p .before in
+    let s = l .before .before .args .stream .now in
+    let i = l .loop .i in
     let h : i + block ≤ length s = omega arith in
-    (h, block-past s i block h (c .before .is-plain .ensures) (c .if1 .left) (c .before .before .before .before .loop .inv .1))
+    (h, block-past s i block h (p .is-plain .ensures) (c .if1 .left) (l .loop .inv .1))
 
 returns-2 : tie.Need-returns-2 Inv-loop μ-loop
 returns-2 c = c .before .loop .inv

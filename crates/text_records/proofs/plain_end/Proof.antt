@@ -20,6 +20,10 @@ abbrev μ-loop : tie.MeasureT-loop
 plain-blocks-requires : tie.Need-plain-blocks-requires Inv-loop μ-loop
 plain-blocks-requires c κs = search needs
 
+-- the turn in which a character was looked at
+abbrev turned : tie.After-is-other Inv-loop μ-loop → tie.In-loop Inv-loop μ-loop
+turned c = c .before .before
+
 loop-holds : tie.Need-loop-holds Inv-loop μ-loop
 loop-holds c = c .plain-blocks .ensures
 
@@ -30,7 +34,10 @@ is-other-requires : tie.Need-is-other-requires Inv-loop μ-loop
 is-other-requires c κs = search needs
 
 returns : tie.Need-returns Inv-loop μ-loop
-returns c = scan-stop isPlain _ _ (c .before .before .before .loop-test .taken) (ap not (c .before .is-other .ensures)) (ap not (c .if1 .taken)) (c .before .before .before .before .loop .inv .1)
+returns c =
+    let o = c .before in
+    let t = turned o in
+    scan-stop isPlain _ _ (t .loop-test .taken) (ap not (o .is-other .ensures)) (ap not (c .if1 .taken)) (t .before .loop .inv .1)
 
 add-i : tie.Need-add-i Inv-loop μ-loop
 add-i c = search needs
@@ -39,7 +46,10 @@ loop-less : tie.Need-loop-less Inv-loop μ-loop
 loop-less c = search needs
 
 loop-again : tie.Need-loop-again Inv-loop μ-loop
-loop-again c = (omega arith, scan-turn isPlain _ _ (c .before .before .before .loop-test .taken) (ap not (c .before .is-other .ensures)) (ap not (c .if1 .left)) (c .before .before .before .before .loop .inv .1))
+loop-again c =
+    let o = c .before in
+    let t = turned o in
+    (omega arith, scan-turn isPlain _ _ (t .loop-test .taken) (ap not (o .is-other .ensures)) (ap not (c .if1 .left)) (t .before .loop .inv .1))
 
 returns-2 : tie.Need-returns-2 Inv-loop μ-loop
 returns-2 c = scan-end isPlain _ _ (c .loop-test .left) (c .before .loop .inv .1)

@@ -19,6 +19,10 @@ Inv-loop stream at i₀ i = (i ≤ length stream) × (recordEnd stream i ≡ rec
 abbrev μ-loop : tie.MeasureT-loop
 μ-loop stream at i₀ i = length stream - i
 
+-- the turn in which a character was looked at
+abbrev turned : tie.After-is-end Inv-loop μ-loop → tie.In-loop Inv-loop μ-loop
+turned c = c .before .before
+
 loop-holds : tie.Need-loop-holds Inv-loop μ-loop
 loop-holds c = (c .before .pre, refl)
 
@@ -29,7 +33,10 @@ is-end-requires : tie.Need-is-end-requires Inv-loop μ-loop
 is-end-requires c κs = search needs
 
 returns : tie.Need-returns Inv-loop μ-loop
-returns c = scan-stop isText _ _ (c .before .before .before .loop-test .taken) (ap not (c .before .is-end .ensures)) (ap not (c .if1 .taken)) (c .before .before .before .before .loop .inv .1)
+returns c =
+    let e = c .before in
+    let t = turned e in
+    scan-stop isText _ _ (t .loop-test .taken) (ap not (e .is-end .ensures)) (ap not (c .if1 .taken)) (t .before .loop .inv .1)
 
 add-plain-end : tie.Need-add-plain-end Inv-loop μ-loop
 add-plain-end c = search needs
@@ -39,20 +46,24 @@ plain-end-requires c κs = search needs
 
 loop-less : tie.Need-loop-less Inv-loop μ-loop
 loop-less c =
-    let s = c .before .before .before .before .before .before .before .args .stream .now in
-    let i = c .before .before .before .before .before .loop .i in
-    let h = plain-from s (i + 1) in
+    let l = turned (c .before .before) .before in
+    let s = l .before .before .args .stream .now in
+    let h = plain-from s (l .loop .i + 1) in
     let e = c .plain-end .ensures in
     omega arith
 
 loop-again : tie.Need-loop-again Inv-loop μ-loop
 loop-again c =
-    let s = c .before .before .before .before .before .before .before .args .stream .now in
-    let i = c .before .before .before .before .before .loop .i in
-    let l : i < length s = c .before .before .before .before .loop-test .taken in
+    let y = c .before in
+    let e = y .before in
+    let t = turned e in
+    let l = t .before in
+    let s = l .before .before .args .stream .now in
+    let i = l .loop .i in
+    let h : i < length s = t .loop-test .taken in
     let g : i + 1 ≤ length s = omega arith in (
       subst (λ (n : ℕ). n ≤ length s) (sym (c .plain-end .ensures)) (plain-within s (i + 1) g),
-      plain-turn s (i + 1) (c .plain-end .ensures) (scan-turn isText s i l (ap not (c .before .before .is-end .ensures)) (ap not (c .before .if1 .left)) (c .before .before .before .before .before .loop .inv .1)),
+      plain-turn s (i + 1) (c .plain-end .ensures) (scan-turn isText s i h (ap not (e .is-end .ensures)) (ap not (y .if1 .left)) (l .loop .inv .1)),
     )
 
 returns-2 : tie.Need-returns-2 Inv-loop μ-loop
