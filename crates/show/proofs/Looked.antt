@@ -3,7 +3,7 @@
 -- Assumes nothing.
 use mathlib.Core.Path.{_≡_, refl, sym, ap, _∙_, subst}
 use mathlib.Core.List.{List}
-use Prim.Native.Nat.{ℕ, _+_, _*_, _≤_}
+use Prim.Native.Nat.{ℕ, _+_}
 use native.Mathlib.Omega.{arith}
 use denote.Ref.{RefT, ptr, now}
 use lib.ListN.{getD}
@@ -12,7 +12,7 @@ use Rattle.store_desk.specs.declared.Desk.{Desk}
 use Rattle.store_desk.specs.Refusal.{refusalNumber, Reply}
 use Rattle.store_desk.proofs.Reply.{refusal-some}
 use Rattle.store.specs.Slots.{find}
-use Rattle.store.specs.View.{absent, memoryAt}
+use Rattle.store.specs.View.{memoryAt}
 use Rattle.store.specs.Good.{Ready}
 use Rattle.store.proofs.Form.{good-sound, good-complete}
 use Rattle.store.proofs.Find.{kept-absent}
@@ -22,7 +22,7 @@ use Rattle.show.specs.declared.Admission.the-variants.{Admitted, Away}
 use Rattle.show.specs.declared.Placed.{Placed}
 use Rattle.show.specs.declared.Placed.the-variants.{At}
 use Rattle.show.specs.Calls.{admissionOf, cueName, cueKey, Look, lookAt, lookBy, lookCall, LookPromise, findReply, placedAt, findBy, findCall, FindPromise}
-use Rattle.show.specs.Looked.{cueMemory, KeptLevels, LookedShow, FoundPart}
+use Rattle.show.specs.Looked.{LookedShow, FoundPart}
 use Rattle.show.proofs.Laws.{awayNumber, store-away, taken, admitted, kept-memory}
 
 module _ (d : Desk) (s : List ℕ) (page whole tenths : ℕ) where

@@ -6,7 +6,7 @@ use mathlib.Core.List.{List}
 use mathlib.Core.Logic.{_↔_}
 use mathlib.Core.Path.{_≡_}
 use Prim.Native.Nat.{ℕ, _+_}
-use denote.Ref.{RefT, ptr, now}
+use denote.Ref.{RefT, ptr}
 use Rattle.store_desk.specs.declared.Desk.{Desk}
 use Rattle.store.specs.Good.{Ready}
 use Rattle.store.specs.View.{Memory, Kept, absent, kept, memoryOf}

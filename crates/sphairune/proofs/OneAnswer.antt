@@ -6,12 +6,10 @@ use mathlib.Core.List.{List, [], _∷_}
 use Prim.Native.Nat.{ℕ}
 use native.Mathlib.Omega.{arith}
 use lib.ListN.{length, getD}
-use Rattle.store_desk.specs.Refusal.{neededCall}
 use Rattle.store_desk.proofs.Reply.{needed-mute}
 use Rattle.save.specs.Lines.{streamOf}
-use Rattle.show.specs.Calls.{loadCall, writeCall, emptyCall, findCall}
 use Rattle.show.proofs.OneAnswer.{load-kept, write-kept, empty-kept, find-mute}
-use Rattle.sphairune.specs.Calls.{deskOf, notedFrom, Exported, exported, repliedIn, emptiedIn, loadedIn, writtenIn}
+use Rattle.sphairune.specs.Calls.{deskOf, notedFrom, Exported, repliedIn, emptiedIn, loadedIn, writtenIn}
 use Rattle.sphairune.specs.Calls.{NeededExport, EmptyExport, LoadExport, WriteExport, FindExport}
 use Rattle.sphairune.proofs.Laws.{mute-list}
 
