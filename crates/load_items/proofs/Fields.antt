@@ -25,8 +25,8 @@ use Rattle.value.specs.declared.DigitRun.{DigitRun}
 use Rattle.value.specs.declared.Integer.{Integer}
 use Rattle.value.specs.declared.Integer.the-variants.{Malformed, Value}
 use Rattle.value.specs.Integer.{digitOf, integerOf}
-use Rattle.value.specs.Digits.{isDigit, valueFrom, digitsAt}
-use Rattle.value.proofs.Runs.{by-digit, decimal-hex, integer-exact, integer-none, integer-longer}
+use Rattle.value.specs.Digits.{isDigit, digitsAt}
+use Rattle.value.proofs.Runs.{run-end as digits-end, run-value as digits-value, by-digit, decimal-hex, integer-exact, integer-none, integer-longer}
 use Rattle.value_level.specs.declared.Leveled.{Leveled}
 use Rattle.value_level.specs.declared.Leveled.the-variants.{NotPercent, NotHex, Value as IsLevel}
 use Rattle.value_level.specs.declared.Leveling.{Leveling}
@@ -67,16 +67,8 @@ module _ (text : List ℕ) (at : ℕ) where
   digits = span (isDigit 10) (drop at text)
 
   module _ {d : DigitRun} (e : d ≡ digitsAt 10 text at) where
-    digits-end : d .end ≡ at + digits
-    unfolding digitsAt
-    digits-end = ap (λ (x : DigitRun). x .end) e
-
-    digits-value : d .value ≡ valueFrom 10 0 (drop at text)
-    unfolding digitsAt
-    digits-value = ap (λ (x : DigitRun). x .value) e
-
     pub digits-within : at ≤ length text → d .end ≤ length text
-    digits-within h = subst (λ (k : ℕ). k ≤ length text) (sym digits-end) (span-within (isDigit 10) text at h)
+    digits-within h = subst (λ (k : ℕ). k ≤ length text) (sym (digits-end 10 text at e)) (span-within (isDigit 10) text at h)
 
 module _ (limit beyond : ℕ) (text : List ℕ) (at : ℕ) where
   read-by : {i : Integer} {k : ℕ} → integerOf (charsAt text at) ≡ i → endFrom text at ≡ k
@@ -89,12 +81,12 @@ module _ (limit beyond : ℕ) (text : List ℕ) (at : ℕ) where
     unfolding rangedOf rangedRead
     malformed-by {x} m q =
         let g : endFrom text (d .end) ≡ endFrom text at =
-        ap (λ (k : ℕ). endFrom text k) (digits-end text at e) ∙ run-end (isDigit 10) decimal-word text at in
+        ap (λ (k : ℕ). endFrom text k) (digits-end 10 text at e) ∙ run-end (isDigit 10) decimal-word text at in
         q ∙ (λ j. record { value = 0; condition = malformedInteger; end = g j }) ∙ read-by m refl
 
     module _ {b : Bool} (f : b ≡ endsAt text (d .end)) where
       ends-is : {v : Bool} → b ≡ v → endsAt text (at + digits text at) ≡ v
-      ends-is t = ap (λ (k : ℕ). endsAt text k) (sym (digits-end text at e)) ∙ sym f ∙ t
+      ends-is t = ap (λ (k : ℕ). endsAt text k) (sym (digits-end 10 text at e)) ∙ sym f ∙ t
 
       -- it goes on, or has no digit
       pub ranged-longer : {x : Read} → b ≡ false → x ≡ wrongAt text (d .end) malformedInteger → x ≡ rangedAt limit beyond text at
@@ -109,19 +101,19 @@ module _ (limit beyond : ℕ) (text : List ℕ) (at : ℕ) where
 
         pub ranged-empty : {x : Read} → d .end ≤ at → x ≡ wrongAt text (d .end) malformedInteger → x ≡ rangedAt limit beyond text at
         ranged-empty h q =
-            let g : d .end ≡ at + digits text at = digits-end text at e in
+            let g : d .end ≡ at + digits text at = digits-end 10 text at e in
             let z : digits text at ≡ 0 = omega arith in
             malformed-by (ap integerOf whole-chars ∙ integer-none (drop at text) z) q
 
         module _ (h : at < d .end) where
           whole-value : integerOf (charsAt text at) ≡ Value (d .value)
           whole-value =
-              let g : d .end ≡ at + digits text at = digits-end text at e in
+              let g : d .end ≡ at + digits text at = digits-end 10 text at e in
               let n : 0 < digits text at = omega arith in
-              ap integerOf whole-chars ∙ integer-exact (drop at text) n ∙ ap Value (sym (digits-value text at e))
+              ap integerOf whole-chars ∙ integer-exact (drop at text) n ∙ ap Value (sym (digits-value 10 text at e))
 
           whole-read : rangedRead (rangedOf limit beyond (Value (d .value))) (d .end) ≡ rangedAt limit beyond text at
-          whole-read = read-by whole-value (run-ends (isDigit 10) decimal-word text at (ends-is t) ∙ sym (digits-end text at e))
+          whole-read = read-by whole-value (run-ends (isDigit 10) decimal-word text at (ends-is t) ∙ sym (digits-end 10 text at e))
 
           outside : isWithin 1 (d .value) limit ≡ false
               → _≡_ {A = Read} (record { value = 0; condition = beyond; end = d .end }) (rangedAt limit beyond text at)

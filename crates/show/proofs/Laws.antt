@@ -18,8 +18,7 @@ use Rattle.store_desk.specs.Size.{InRange, inRangeOf, storeLength, headLength, 
 use Rattle.store_desk.specs.Name.{Name, okName}
 use Rattle.store_desk.proofs.Size.{in-range, in-range-true}
 use Rattle.store.specs.declared.Place.the-variants.{Nowhere}
-use Rattle.store.specs.Slots.{find, onFound, placeOf, levelsAt}
-use Rattle.store.specs.View.{absent, kept, memoryAt, memoryOf}
+use Rattle.store.specs.Slots.{find, placeOf, levelsAt}
 use Rattle.store.specs.Change.{emptied as emptiedStore}
 use Rattle.store.specs.Form.{goodForm}
 use Rattle.store.proofs.Form.{good-sound}
@@ -199,10 +198,6 @@ unnamed d s n {b} g e f = sym (ap placeOf (none (find d s n) refl))
     none : (a : Found) → find d s n ≡ a → a ≡ nowhere
     none (at i) q = clash (found-ok d s (good-sound d s g) n i q) (sym e ∙ f)
     none nowhere q = refl
-
-pub kept-memory : (d : Desk) (s : List ℕ) (n : Name) (i : ℕ) → find d s n ≡ at i → memoryOf d s n ≡ kept (memoryAt d s i)
-unfolding memoryOf onFound
-kept-memory d s n i e = ap (λ (a : Found). onFound a (λ j. kept (memoryAt d s j)) absent) e
 
 pub look-by : (d : Desk) (s : List ℕ) (page whole tenths : ℕ) (a : Admission) → a ≡ admissionOf d s
     → lookBy a d s (cueKey page whole tenths) ≡ lookCall d s page whole tenths

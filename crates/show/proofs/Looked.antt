@@ -23,7 +23,8 @@ use Rattle.show.specs.declared.Placed.{Placed}
 use Rattle.show.specs.declared.Placed.the-variants.{At}
 use Rattle.show.specs.Calls.{admissionOf, cueName, cueKey, Look, lookAt, lookBy, lookCall, LookPromise, findReply, placedAt, findBy, findCall, FindPromise}
 use Rattle.show.specs.Looked.{LookedShow, FoundPart}
-use Rattle.show.proofs.Laws.{awayNumber, store-away, taken, admitted, kept-memory}
+use Rattle.show.proofs.Laws.{awayNumber, store-away, taken, admitted}
+use Rattle.store.proofs.Start.{kept-memory}
 
 module _ (d : Desk) (s : List ℕ) (page whole tenths : ℕ) where
   -- a slot that is found, or none

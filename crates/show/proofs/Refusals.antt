@@ -37,7 +37,7 @@ use Rattle.show.specs.Calls.{mostBytes, admissionOf, LoadCall, loadReply
 use Rattle.show.specs.Calls.{WriteCall, writeReply, putCall, writeBy, writeCall, WritePromise}
 use Rattle.show.specs.Calls.{EmptyCall, emptyReply, emptyCall, EmptyPromise, cueName, cueKey, lookAt, lookBy, lookCall, LookPromise}
 use Rattle.show.specs.Calls.{findReply, placedAt, findBy, findCall, FindPromise}
-use Rattle.show.proofs.Laws.{kept-memory}
+use Rattle.store.proofs.Start.{kept-memory}
 use Rattle.show.specs.Refusals.{Line, Told, r1, r2, r3, r4, r5, r6, notKept}
 use Rattle.show.specs.Refusals.{LoadRefused, WriteRefused, EmptyRefused, NeededRefused, FindRefused}
 

@@ -255,6 +255,11 @@ kept-at d s n m e = cases (find d s n) refl e
 pub kept-ok : (d : Desk) (s : List ℕ) → GoodForm d s → (n : Name) (m : Memory) → memoryOf d s n ≡ kept m → okName d n ≡ true
 kept-ok d s g n m e = let f = kept-at d s n m e in found-ok d s g n (f .0) (f .1)
 
+-- the view, by where a name is found
+pub kept-memory : (d : Desk) (s : List ℕ) (n : Name) (i : ℕ) → find d s n ≡ at i → memoryOf d s n ≡ kept (memoryAt d s i)
+unfolding memoryOf onFound
+kept-memory d s n i e = ap (λ (a : Found). onFound a (λ j. kept (memoryAt d s j)) absent) e
+
 pub absent-at : (d : Desk) (s : List ℕ) (n : Name) → find d s n ≡ nowhere → memoryOf d s n ≡ absent
 unfolding memoryOf onFound
 absent-at d s n e = ap (λ (a : Found). onFound a (λ j. kept (memoryAt d s j)) absent) e

@@ -17,13 +17,13 @@ use Rattle.store.specs.View.{Memory, kept, memoryAt, memoryOf}
 use Rattle.store.specs.Order.{inOrder}
 use Rattle.store.specs.Good.{Ready}
 use Rattle.store.proofs.Find.{kept-inj, kept-absent}
-use Rattle.store.proofs.Start.{absent-at}
+use Rattle.store.proofs.Start.{kept-memory, absent-at}
 use Rattle.store.proofs.Ordered.{keyWord, Among, Rising}
 use Rattle.save_lines.specs.Line.{patchLine, joined}
 use Rattle.save.specs.Lines.{dimmerLines, pageLines, patchLines, memoryLines, slotLines, kindLines, linesOf, streamOf}
 use Rattle.theorem_same_show.specs.Show.{SameShow}
 use Rattle.theorem_same_show.proofs.Keys.{slotKey, order-rising}
-use Rattle.theorem_same_show.proofs.Room.{kept-at, by-found}
+use Rattle.theorem_same_show.proofs.Room.{by-found}
 use Rattle.theorem_same_show.proofs.Loaded.{own, own-kept, in-order-here, found-in-order}
 
 -- ---- lists that rise by a number, and their members
@@ -95,7 +95,7 @@ module _ (d : Desk) (s t : List ℕ) (rs : Ready d s) (rt : Ready d t) (same : (
       let q : memoryOf d t n ≡ kept (memoryAt d s i) = same n ∙ own-kept d s rs k i hi in
       by-found (find d t n)
       (λ j e.
-      let z : kept (memoryAt d t j) ≡ kept (memoryAt d s i) = sym (kept-at d t n j e) ∙ q in
+      let z : kept (memoryAt d t j) ≡ kept (memoryAt d s i) = sym (kept-memory d t n j e) ∙ q in
       let y : m ≡ memoryAt d t j = w .2 ∙ sym (kept-inj z) in
       subst (λ (x : Memory). In x (map (memoryAt d t) (inOrder d t k))) (sym y)
       (in-map (memoryAt d t) (inOrder d t k) j (found-in-order d t rt k n refl j e)))

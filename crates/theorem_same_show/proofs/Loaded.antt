@@ -27,7 +27,7 @@ use Rattle.store.proofs.Places.{slots-end, slot-end, levels-part}
 use Rattle.store.specs.Order.{inOrder}
 use Rattle.store.proofs.Find.{head-fits}
 use Rattle.store.proofs.Form.{used-name, used-values, found-self, placed-found}
-use Rattle.store.proofs.Start.{found-used, absent-at}
+use Rattle.store.proofs.Start.{found-used, kept-memory, absent-at}
 use Rattle.store.proofs.Edits.{Values, values-of}
 use Rattle.store.proofs.Loss.{bytes-take, bytes-drop}
 use Rattle.store.proofs.Ordered.{Among, in-order-used, used-in-order}
@@ -41,7 +41,7 @@ use Rattle.theorem_same_show.proofs.Rebuilt.{editAll, memoryEdits, memo
 use Rattle.theorem_same_show.proofs.Lines.{memory-runs}
 use Rattle.theorem_same_show.proofs.Changed.{Beside, beside-none, beside-next, made-good, made-beside, made-view}
 use Rattle.theorem_same_show.proofs.Keys.{Here, here-slot}
-use Rattle.theorem_same_show.proofs.Room.{kept-at, by-found, Under, room}
+use Rattle.theorem_same_show.proofs.Room.{by-found, Under, room}
 
 -- ---- a used slot of a good store
 module _ (d : Desk) (s : List ℕ) (r : Ready d s) (k : Kind) (i : ℕ) (h : Here d s k i) where
@@ -58,7 +58,7 @@ module _ (d : Desk) (s : List ℕ) (r : Ready d s) (k : Kind) (i : ℕ) (h : Her
   own-found = subst (λ (n : Name). find d s n ≡ at i) own-name (found-self d s (r .form) i (here-slot h) (h .used))
 
   pub own-kept : memoryOf d s own ≡ kept (memoryAt d s i)
-  own-kept = kept-at d s own i own-found
+  own-kept = kept-memory d s own i own-found
 
   own-values : Values k (headAt d s i)
   own-values =

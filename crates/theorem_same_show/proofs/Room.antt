@@ -14,7 +14,7 @@ use Rattle.cells.proofs.Split.{by-bool}
 use Rattle.store_desk.specs.declared.Desk.{Desk}
 use Rattle.store_desk.specs.Name.{Name, eqName, slotCount}
 use Rattle.store_desk.proofs.Name.{eq-name, kind-of}
-use Rattle.store.specs.Slots.{find, onFound}
+use Rattle.store.specs.Slots.{find}
 use Rattle.store.specs.View.{absent, kept, memoryAt, memoryOf}
 use Rattle.store.specs.Change.{seat}
 use Rattle.store.specs.Form.{nameAt}
@@ -23,15 +23,10 @@ use Rattle.store.specs.Good.{Ready}
 use Rattle.store.specs.Fits.{usedCount}
 use Rattle.store.proofs.Form.{found-self}
 use Rattle.store.proofs.Find.{kept-absent}
-use Rattle.store.proofs.Start.{absent-at, kept-room}
+use Rattle.store.proofs.Start.{kept-memory, absent-at, kept-room}
 use Rattle.store.proofs.Used.{used-le, room-left, Apart, Distinct, AllKept, kept-used}
 use Rattle.store.proofs.Ordered.{keyWord, Among, Rising, in-order-used, in-order-length}
 use Rattle.theorem_same_show.proofs.Keys.{slotKey, Here, here-slot, order-rising}
-
--- ---- the view and where a name is found
-pub kept-at : (d : Desk) (s : List ℕ) (n : Name) (i : ℕ) → find d s n ≡ at i → memoryOf d s n ≡ kept (memoryAt d s i)
-unfolding memoryOf onFound
-kept-at d s n i e = ap (λ (f : Found). onFound f (λ j. kept (memoryAt d s j)) absent) e
 
 pub by-found {ℓ} : {X : Type ℓ} (f : Found) → ((i : ℕ) → f ≡ at i → X) → (f ≡ nowhere → X) → X
 by-found (at i) a b = a i refl
@@ -43,7 +38,7 @@ Under d s t = (m : Name) → (memoryOf d t m ≡ memoryOf d s m) ⊎ (memoryOf d
 
 pub under-found : (d : Desk) (s t : List ℕ) → Under d s t → (m : Name) (i : ℕ) → find d t m ≡ at i → (j : ℕ) × (find d s m ≡ at j)
 under-found d s t u m i e =
-    let k : memoryOf d t m ≡ kept (memoryAt d t i) = kept-at d t m i e in
+    let k : memoryOf d t m ≡ kept (memoryAt d t i) = kept-memory d t m i e in
     ⊎-elim
     (λ q.
     by-found (find d s m)

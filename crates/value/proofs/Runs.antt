@@ -140,6 +140,16 @@ value-capped r a (c ∷ s) =
     (λ t. subst (λ (v : ℕ). v ≤ cap) (sym (value-hit r a c s t)) (value-capped r (a * r + digitOf c) s))
     (λ t. subst (λ (v : ℕ). v ≤ cap) (sym (value-miss r a c s t)) (min-le-right a cap))
 
+-- what a run of digits is read as, and where it ends
+module _ (r : ℕ) (text : List ℕ) (at : ℕ) {d : DigitRun} (e : d ≡ digitsAt r text at) where
+  pub run-value : d .value ≡ valueFrom r 0 (drop at text)
+  unfolding digitsAt
+  run-value = ap (λ (x : DigitRun). x .value) e
+
+  pub run-end : d .end ≡ at + span (isDigit r) (drop at text)
+  unfolding digitsAt
+  run-end = ap (λ (x : DigitRun). x .end) e
+
 -- ---- a loop over them, with the invariant `runFrom r value text i ≡ digitsAt r text at`
 unfoldable pub runFrom : ℕ → ℕ → List ℕ → ℕ → DigitRun
 runFrom r a text i = record { value = valueFrom r a (drop i text); end = i + span (isDigit r) (drop i text) }

@@ -17,7 +17,7 @@ use Rattle.value.specs.declared.DigitRun.{DigitRun}
 use Rattle.value.specs.Integer.{integerOf}
 use Rattle.value.specs.Digits.{isDigit, valueFrom, digitsAt}
 use Rattle.value.proofs.Digits.{run-empty}
-use Rattle.value.proofs.Runs.{decimal-hex, run-exact, run-longer, integer-exact, integer-none, integer-longer, hex-two, hex-four}
+use Rattle.value.proofs.Runs.{run-value, run-end, decimal-hex, run-exact, run-longer, integer-exact, integer-none, integer-longer, hex-two, hex-four}
 use Rattle.value_level.specs.declared.Leveled.{Leveled}
 use Rattle.value_level.specs.declared.Leveled.the-variants.{NotPercent, NotHex, Value}
 use Rattle.value_level.specs.declared.Leveling.{Leveling}
@@ -36,36 +36,28 @@ percent-leveling text at d {l} e f =
     ap (λ (x : DigitRun). leveling l (x .end)) e ∙ ap (λ (x : Leveled). leveling x (at + decimals (drop at text))) (sym f)
 
 module _ (text : List ℕ) (at : ℕ) (d : DigitRun) (e : d ≡ digitsAt 10 text at) where
-  value-is : d .value ≡ valueFrom 10 0 (drop at text)
-  unfolding digitsAt
-  value-is = ap (λ (x : DigitRun). x .value) e
-
-  end-is : d .end ≡ at + decimals (drop at text)
-  unfolding digitsAt
-  end-is = ap (λ (x : DigitRun). x .end) e
-
   some : (d .end ≡ at → ⊥) → 0 < decimals (drop at text)
   some f =
-      let q : d .end ≡ at + decimals (drop at text) = end-is in
+      let q : d .end ≡ at + decimals (drop at text) = run-end 10 text at e in
       by-lt 0 (decimals (drop at text)) (λ h. h) (λ h. absurd (f (omega arith)))
 
   pub percent-none : d .end ≡ at → leveling NotPercent (d .end) ≡ percentLeveling text at
   percent-none f =
-      let q : d .end ≡ at + decimals (drop at text) = end-is in
+      let q : d .end ≡ at + decimals (drop at text) = run-end 10 text at e in
       let z : decimals (drop at text) ≡ 0 = omega arith in
       percent-leveling text at d e (percent-malformed (integer-none (drop at text) z))
 
   pub percent-over : (d .end ≡ at → ⊥) → percentMax < d .value → leveling NotPercent (d .end) ≡ percentLeveling text at
   percent-over f h =
       percent-leveling text at d e
-      (percent-large (integer-exact (drop at text) (some f)) (subst (λ (v : ℕ). percentMax < v) value-is h))
+      (percent-large (integer-exact (drop at text) (some f)) (subst (λ (v : ℕ). percentMax < v) (run-value 10 text at e) h))
 
   pub percent-taken : {b : ℕ} → (d .end ≡ at → ⊥) → d .value ≤ percentMax → b ≡ percentByte (min (d .value) 100)
       → leveling (Value b) (d .end) ≡ percentLeveling text at
   percent-taken f h i =
       percent-leveling text at d e
-      (percent-min (integer-exact (drop at text) (some f)) (subst (λ (v : ℕ). v ≤ percentMax) value-is h)
-      ∙ ap (λ (v : ℕ). Value (percentByte (min v 100))) (sym value-is) ∙ ap Value (sym i))
+      (percent-min (integer-exact (drop at text) (some f)) (subst (λ (v : ℕ). v ≤ percentMax) (run-value 10 text at e) h)
+      ∙ ap (λ (v : ℕ). Value (percentByte (min v 100))) (sym (run-value 10 text at e)) ∙ ap Value (sym i))
 
 -- ---- hexadecimal digits, of which there are n
 pub hex-by-none : (v : ℕ) → hexBy 0 v ≡ NotHex
