@@ -5,6 +5,7 @@ use Rattle.store_code.proofs.Laws.{fitting-kept}
 use Rattle.load_items.proofs.Laws.{Going, item-fits, item-noted, item-ended, item-forward, next-less, loop-start, loop-lent, loop-room, loop-turn, loop-end}
 use lib.ListN.{length}
 use Prim.Native.Nat.{_-_}
+use native.Mathlib.Omega.{arith}
 use Rattle.load_items.proofs.take_items.Statement.{statement}
 use Rattle.load_items.proofs.take_items.Tie as tie
 
@@ -59,7 +60,8 @@ loop-less : tie.Need-loop-less Inv-loop μ-loop
 loop-less c =
     let k = read (applied (fault-noted (c .before) .before)) in
     let t = k .before in
-    next-less _ _ (c .next-field .ensures) (item-forward _ _ _ _ (k .item-at .ensures) (t .before .loop .inv .starts) (t .loop-test .taken)) (t .loop-test .taken)
+    let h = t .loop-test .taken in
+    omega (arith, h, next-less _ _ (c .next-field .ensures) (item-forward _ _ _ _ (k .item-at .ensures) (t .before .loop .inv .starts) h) h)
 
 loop-again : tie.Need-loop-again Inv-loop μ-loop
 loop-again c =
