@@ -1,4 +1,5 @@
--- CHAN's pairs and PATCH's triples on one desk: each lies in its range, or its condition fits a report; and two fields at least make one.
+-- CHAN's pairs and PATCH's triples on one desk: each lies in its range, or its condition fits a report and is above 0; and two fields at
+-- least make one.
 -- By cases on each field.
 -- Assumes nothing.
 use mathlib.Core.List.{List, [], _∷_}
@@ -19,6 +20,7 @@ use Rattle.value_level.specs.declared.Leveled.{Leveled}
 use Rattle.value_level.specs.declared.Leveled.the-variants.{NotPercent, NotHex, Value as IsLevel}
 use Rattle.value_level.specs.Level.{levelOf}
 use Rattle.value_level.proofs.Levels.{LevelOk, level-ok}
+use Rattle.load.specs.declared.Fault.{Fault}
 use Rattle.load.specs.declared.Entry.{Entry}
 use Rattle.load.specs.declared.Entry.the-variants.{Level, Patch, Faulty}
 use Rattle.load.specs.declared.Ranged.{Ranged}
@@ -44,6 +46,19 @@ unfolding onLevel
 level-fits P w NotPercent h f percent hex good = percent
 level-fits P w NotHex h f percent hex good = hex
 level-fits P w (IsLevel v) h f percent hex good = good v h
+
+-- the condition of a fault is above 0
+abbrev pub Told : Fault → Type 0
+Told f = 0 < f .condition
+
+abbrev EntryTold : Entry → Type 0
+EntryTold (Level channel v) = Unit {0}
+EntryTold (Patch channel dimmer v) = Unit {0}
+EntryTold (Faulty f) = Told f
+
+abbrev pub EntriesTold : List Entry → Type 0
+EntriesTold [] = Unit {0}
+EntriesTold (e ∷ es) = EntryTold e × EntriesTold es
 
 -- ---- pairs and triples
 module _ (d : Desk) where
@@ -77,6 +92,38 @@ module _ (d : Desk) where
   triples-fit (c ∷ []) = (triple-fits c missing missing, tt)
   triples-fit (c ∷ (m ∷ [])) = (triple-fits c m missing, tt)
   triples-fit (c ∷ (m ∷ (l ∷ ws))) = (triple-fits c m l, triples-fit ws)
+
+  -- ---- a fault's condition is above 0
+  pair-told : (c l : Word) → EntryTold (pairOf d c l)
+  unfolding pairOf
+  pair-told c l =
+      ranged-fits EntryTold (d .channels) badChannel c (integerOf (c .chars)) (λ n. onLevel l (levelOf (l .chars)) (λ v. Level n v))
+      (lit< tt) (lit< tt)
+      (λ n h. level-fits EntryTold l (levelOf (l .chars)) (level-ok (l .chars)) (λ v. Level n v) (lit< tt) (lit< tt) (λ v b. tt))
+
+  triple-told : (c m l : Word) → EntryTold (tripleOf d c m l)
+  unfolding tripleOf
+  triple-told c m l =
+      ranged-fits EntryTold (d .channels) badChannel c (integerOf (c .chars))
+      (λ n. onRanged m (dimmerOf d m) (λ k. onLevel l (levelOf (l .chars)) (λ v. Patch n k v)))
+      (lit< tt) (lit< tt)
+      (λ n h.
+      ranged-fits EntryTold (d .dimmers) badDimmer m (integerOf (m .chars)) (λ k. onLevel l (levelOf (l .chars)) (λ v. Patch n k v))
+      (lit< tt) (lit< tt)
+      (λ k g. level-fits EntryTold l (levelOf (l .chars)) (level-ok (l .chars)) (λ v. Patch n k v) (lit< tt) (lit< tt) (λ v b. tt)))
+
+  pub pairs-told : (ws : List Word) → EntriesTold (pairsOf d ws)
+  unfolding pairsOf
+  pairs-told [] = tt
+  pairs-told (c ∷ []) = (pair-told c missing, tt)
+  pairs-told (c ∷ (l ∷ ws)) = (pair-told c l, pairs-told ws)
+
+  pub triples-told : (ws : List Word) → EntriesTold (triplesOf d ws)
+  unfolding triplesOf
+  triples-told [] = tt
+  triples-told (c ∷ []) = (triple-told c missing missing, tt)
+  triples-told (c ∷ (m ∷ [])) = (triple-told c m missing, tt)
+  triples-told (c ∷ (m ∷ (l ∷ ws))) = (triple-told c m l, triples-told ws)
 
   -- ---- two fields at least make one item, but for the last
   pub pairs-few : (ws : List Word) → 2 * length (pairsOf d ws) ≤ length ws + 1

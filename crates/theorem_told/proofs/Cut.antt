@@ -1,5 +1,5 @@
 -- The records of the front of a stream: those that ended in it, and then what there is of the next one. By induction on the records,
--- each by where the front ends: before its terminator, within it, or past it.
+-- each by where the front ends: before its terminator, within it, or past it. How many ended is counted here, record by record.
 -- Assumes nothing.
 use mathlib.Core.Path.{_≡_, refl, sym, ap, _∙_, subst}
 use mathlib.Core.Bool.{Bool, true, false, cond}
@@ -18,7 +18,20 @@ use Rattle.cells.proofs.Put.{part-of-front}
 use Rattle.cells.proofs.Split.{by-test, by-bool, by-lt, by-le, cond-true, cond-false}
 use Rattle.text_records.specs.Stream.{CR, LF, isEnd, isText, terminated, terminatorOf, recordEnd, pieceLength, piecesIn, piecesOf, bare, recordsOf}
 use Rattle.text_records.proofs.Stream.{terminated-two, terminated-some, piece-shorter, pieces-some, bare-piece, records-at, records-end, start-within}
-use Rattle.theorem_told.specs.Cut.{endsBefore, endedIn, endedBefore, pieceStart, textEnd, startedBefore, ifAny, cutRecord}
+use Rattle.theorem_told.specs.Cut.{pieceStart, textEnd, EndedBefore, startedBefore, ifAny, cutRecord}
+
+-- ---- the count
+-- a record, with its terminator, has a terminator, and the first byte of that lies before place k
+abbrev endsBefore : ℕ → List ℕ → Bool
+endsBefore k piece = ltb (length (bare piece)) (min k (length piece))
+
+-- how many of the records, each with its terminator, end before place k
+unfoldable endedIn : ℕ → List (List ℕ) → ℕ
+endedIn k [] = 0
+endedIn k (p ∷ ps) = let r = suc (endedIn (k - length p) ps) in cond (endsBefore k p) r 0
+
+unfoldable endedBefore : ℕ → List ℕ → ℕ
+endedBefore k stream = endedIn k (piecesOf stream)
 
 -- what is behind the first record and its terminator
 abbrev afterFirst : List ℕ → List ℕ
@@ -221,11 +234,6 @@ cut-in (suc m) [] k h = cut-nil k
 cut-in (suc m) (c ∷ s) k h =
     cut-some (c ∷ s) k (suc-le-suc zero-le) (cut-in m (afterFirst (c ∷ s)) (k - pieceLength (c ∷ s)) (piece-shorter c s (le-of-suc-le-suc h)))
 
--- the records of the first k bytes: those whose terminator's first byte lies before k, and then what there is of the next
-pub records-cut : (stream : List ℕ) (k : ℕ) → recordsOf (take k stream) ≡ take (endedBefore k stream) (recordsOf stream) ++ cutRecord k stream
-unfolding cutRecord
-records-cut stream k = cut-in (length stream) stream k (le-refl (length stream))
-
 -- no more have ended than there are
 ended-in : (k : ℕ) (ps : List (List ℕ)) → endedIn k ps ≤ length ps
 unfolding endedIn
@@ -235,9 +243,9 @@ ended-in k (p ∷ ps) =
     (λ e. suc-le-suc (ended-in (k - length p) ps))
     (λ e. zero-le)
 
-pub ended-few : (stream : List ℕ) (k : ℕ) → endedBefore k stream ≤ length (recordsOf stream)
+count-few : (stream : List ℕ) (k : ℕ) → endedBefore k stream ≤ length (recordsOf stream)
 unfolding endedBefore recordsOf
-ended-few stream k =
+count-few stream k =
     subst (λ (n : ℕ). endedIn k (piecesOf stream) ≤ n) (sym (length-map (piecesOf stream) bare)) (ended-in k (piecesOf stream))
 
 -- ---- which they are: record i has ended exactly if the place behind its characters lies in the stream and before k
@@ -288,11 +296,11 @@ none-are : (k i : ℕ) → EndedAt [] k i
 unfolding endedBefore endedIn piecesOf piecesIn
 none-are k i = ((λ g. absurd (not-suc-le-zero g)), (λ g. absurd (omega arith)))
 
-pub ended-are : (i : ℕ) (stream : List ℕ) (k : ℕ) → (i < endedBefore k stream) ↔ (textEnd stream i < min k (length stream))
-ended-are zero [] k = none-are k 0
-ended-are zero (c ∷ s) k = zero-are (c ∷ s) (suc-le-suc zero-le) k
-ended-are (suc i) [] k = none-are k (suc i)
-ended-are (suc i) (c ∷ s) k = suc-are (c ∷ s) (suc-le-suc zero-le) k i (ended-are i (afterFirst (c ∷ s)) (k - pieceLength (c ∷ s)))
+count-are : (i : ℕ) (stream : List ℕ) (k : ℕ) → EndedAt stream k i
+count-are zero [] k = none-are k 0
+count-are zero (c ∷ s) k = zero-are (c ∷ s) (suc-le-suc zero-le) k
+count-are (suc i) [] k = none-are k (suc i)
+count-are (suc i) (c ∷ s) k = suc-are (c ∷ s) (suc-le-suc zero-le) k i (count-are i (afterFirst (c ∷ s)) (k - pieceLength (c ∷ s)))
 
 -- that place holds the first byte of a terminator
 pub end-byte : (i : ℕ) (stream : List ℕ) → textEnd stream i < length stream → isEnd (getD stream (textEnd stream i) 0) ≡ true
@@ -309,3 +317,28 @@ end-byte (suc i) (c ∷ s) h =
     ap (λ (j : ℕ). isEnd (getD stream j 0)) e
     ∙ ap isEnd (sym (getD-drop (pieceLength stream) stream (textEnd (afterFirst stream) i) 0))
     ∙ end-byte i (afterFirst stream) (omega arith)
+
+-- ---- so many have ended
+-- there is one such number, and no other
+pub ended-some : (stream : List ℕ) (k : ℕ) → (n : ℕ) × EndedBefore stream k n
+ended-some stream k = (endedBefore k stream, λ i. count-are i stream k)
+
+pub ended-one : (stream : List ℕ) (k n m : ℕ) → EndedBefore stream k n → EndedBefore stream k m → n ≡ m
+ended-one stream k n m h g =
+    by-lt n m
+    (λ l. let z : n < n = h n .1 (g n .0 l) in absurd (omega arith))
+    (λ l. by-lt m n (λ b. let z : m < m = g m .1 (h m .0 b) in absurd (omega arith)) (λ b. omega arith))
+
+module _ (stream : List ℕ) (k n : ℕ) (h : EndedBefore stream k n) where
+  counted : endedBefore k stream ≡ n
+  counted = ended-one stream k (endedBefore k stream) n (λ i. count-are i stream k) h
+
+  -- no more than there are
+  pub ended-few : n ≤ length (recordsOf stream)
+  ended-few = subst (λ (m : ℕ). m ≤ length (recordsOf stream)) counted (count-few stream k)
+
+  -- the records of the first k bytes: those that have ended, and then what there is of the next
+  pub records-cut : recordsOf (take k stream) ≡ take n (recordsOf stream) ++ cutRecord k stream n
+  unfolding cutRecord
+  records-cut =
+      cut-in (length stream) stream k (le-refl (length stream)) ∙ ap (λ (m : ℕ). take m (recordsOf stream) ++ ifAny (startedBefore k stream m)) counted

@@ -1,6 +1,9 @@
 pub mod Edges
 pub mod Runs
 pub mod Tallies
+pub mod Classes
+pub mod Closing
+pub mod Reports
 pub mod Lent
 pub mod Untouched
 pub mod Cut

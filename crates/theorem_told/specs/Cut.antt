@@ -1,36 +1,28 @@
--- A stream that breaks off: what is left of its records (paper 01, "Records (§5)", on the last record).
+-- A stream that breaks off: what is left of its records (paper 01, "Records (§5)", on the last record). Records and places are counted from 0.
 -- Assumes nothing.
-use mathlib.Core.Bool.{Bool, cond}
-use mathlib.Core.List.{List, [], _∷_, flatten}
-use Prim.Native.Nat.{ℕ, suc, _+_, _-_, min}
-use lib.Dec.{ltb}
-use lib.ListN.{length, getD, take}
+use mathlib.Core.Path.{_≡_}
+use mathlib.Core.Bool.{false}
+use mathlib.Core.Logic.{_↔_}
+use mathlib.Core.List.{List, [], _∷_, _++_, flatten}
+use Prim.Native.Nat.{ℕ, _+_, _-_, _<_, min}
+use lib.ListN.{length, getD, take, drop}
 use Rattle.store_desk.specs.declared.Desk.{Desk}
-use Rattle.text_records.specs.Stream.{piecesOf, bare, recordsOf}
+use Rattle.text_records.specs.Stream.{piecesOf, recordsOf}
 use Rattle.load.specs.Condition.{noEnddata}
-use Rattle.load.specs.Step.{nothingOpen}
-use Rattle.load.specs.Run.{Run, Report, runFrom}
+use Rattle.load.specs.Run.{Report, loadOf, allReports}
+use Rattle.theorem_told.specs.Classes.{firstRun, goneOn}
 
--- a record, with its terminator, has a terminator, and the first byte of that lies before place k
-abbrev pub endsBefore : ℕ → List ℕ → Bool
-endsBefore k piece = ltb (length (bare piece)) (min k (length piece))
-
--- how many of the records, each with its terminator, end before place k
-unfoldable pub endedIn : ℕ → List (List ℕ) → ℕ
-endedIn k [] = 0
-endedIn k (p ∷ ps) = let r = suc (endedIn (k - length p) ps) in cond (endsBefore k p) r 0
-
--- how many records of the stream have the first byte of their terminator before place k
-unfoldable pub endedBefore : ℕ → List ℕ → ℕ
-endedBefore k stream = endedIn k (piecesOf stream)
-
--- where a record starts; records are counted from 0
+-- where record i starts: behind the records before it and their terminators
 unfoldable pub pieceStart : List ℕ → ℕ → ℕ
-pieceStart stream n = length (flatten (take n (piecesOf stream)))
+pieceStart stream i = length (flatten (take i (piecesOf stream)))
 
--- where its characters end
+-- where its characters end, and its terminator starts if it has one
 abbrev pub textEnd : List ℕ → ℕ → ℕ
-textEnd stream n = pieceStart stream n + length (getD (recordsOf stream) n [])
+textEnd stream i = pieceStart stream i + length (getD (recordsOf stream) i [])
+
+-- the records that have ended before place k are the first n: those whose terminator has its first byte in the stream and before k
+abbrev pub EndedBefore : List ℕ → ℕ → ℕ → Type 0
+EndedBefore stream k n = (i : ℕ) → (i < n) ↔ (textEnd stream i < min k (length stream))
 
 -- the characters of record n that stand before place k
 unfoldable pub startedBefore : ℕ → List ℕ → ℕ → List ℕ
@@ -41,14 +33,21 @@ unfoldable pub ifAny : List ℕ → List (List ℕ)
 ifAny [] = []
 ifAny (c ∷ cs) = (c ∷ cs) ∷ []
 
--- what is left of the record that is under way at place k
-unfoldable pub cutRecord : ℕ → List ℕ → List (List ℕ)
-cutRecord k stream = ifAny (startedBefore k stream (endedBefore k stream))
-
--- the load of the records that end before place k
-unfoldable pub endedLoad : Desk → List ℕ → List ℕ → ℕ → Run
-endedLoad d t stream k = runFrom d 0 nothingOpen t (take (endedBefore k stream) (recordsOf stream))
+-- what is left of record n, which is under way at place k
+unfoldable pub cutRecord : ℕ → List ℕ → ℕ → List (List ℕ)
+cutRecord k stream n = ifAny (startedBefore k stream n)
 
 -- 0100, under the number of records read
 abbrev pub brokenOff : ℕ → Report
 brokenOff n = record { number = n; condition = noEnddata }
+
+-- of a stream's first k bytes, before which n records have ended: those are its records, and then what is left of the next. Loading it is
+-- loading those, and then going on with that one, where the whole stream goes on with the others. Unless a record stopped the load, 0100
+-- comes last, under the number of all of them
+pub record BrokenSaid (d : Desk) (t stream : List ℕ) (k n : ℕ) : Type 0 where
+  pub records : recordsOf (take k stream) ≡ take n (recordsOf stream) ++ cutRecord k stream n
+  pub whole : loadOf d t stream ≡ goneOn d n (firstRun d t stream n) (drop n (recordsOf stream))
+  pub load : loadOf d t (take k stream) ≡ goneOn d n (firstRun d t stream n) (cutRecord k stream n)
+  pub told : loadOf d t (take k stream) .stopped ≡ false
+      → allReports (loadOf d t (take k stream))
+      ≡ loadOf d t (take k stream) .reports ++ (brokenOff (n + length (cutRecord k stream n)) ∷ [])

@@ -2,3 +2,4 @@ pub mod Edges
 pub mod Classes
 pub mod Answer
 pub mod Cut
+pub mod Reports
