@@ -46,7 +46,7 @@ module _ (rs : List Report) where
   closing-error k h =
       let e : lastOf isError 0 rs ≡ reportAt rs k .condition = last-at isError 0 rs k (h .given) (h .error) (h .later) in
       let z : eqb (reportAt rs k .condition) 0 ≡ false = ne-eqb (reportAt rs k .condition) 0 (error-some (reportAt rs k .condition) (h .error)) in
-      rw (closingOf, e, z)
+      rw (closingOf, e) (cond-false (eqb (reportAt rs k .condition) 0) (lastOf (λ c. not (isError c)) 0 rs) (reportAt rs k .condition) z)
 
   closing-warning : (k : ℕ) → NoError rs → length rs ≡ suc k → closingOf rs ≡ reportAt rs k .condition
   unfolding closingOf
