@@ -188,7 +188,7 @@ unfolding keptOf
 kept-again [] = refl
 kept-again (c ∷ r) = kept-by (isMark c) (isHigh c || isControl c) c (keptOf r) (kept-again r) refl refl
 
-pub cleaned-alike : (d : Desk) (s : State) (r t : List ℕ) → isOverLong r ≡ false → CleanedAlike d s r t
+pub cleaned-alike : (d : Desk) (s : State) (r t : List ℕ) → CleanedAlike d s r t
 unfolding recordStep askOf fieldsOf
 cleaned-alike d s r t e =
     let l : length r ≤ longest = ltb-false longest (length r) e in

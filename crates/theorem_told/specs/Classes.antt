@@ -64,9 +64,9 @@ pub record OverLongSaid (r : List ℕ) (x : Step) : Type 0 where
   pub reported : conditionsOf r x ≡ overLongRecord ∷ []
   pub stopped : stops (x .outcome) ≡ true
 
--- 0701 and 0702 change none of it: without its ignored characters the record comes to the same
+-- 0701 and 0702 change none of it: without its ignored characters, and its comment, the record comes to the same
 abbrev pub CleanedAlike : Desk → State → List ℕ → List ℕ → Type 0
-CleanedAlike d s r t = recordStep d s r t ≡ recordStep d s (keptOf r) t
+CleanedAlike d s r t = isOverLong r ≡ false → recordStep d s r t ≡ recordStep d s (keptOf r) t
 
 -- ---- of a load
 

@@ -62,5 +62,6 @@ pub record ReportsSaid (d : Desk) (stream : List ℕ) (n : ℕ) (rs : List Repor
   pub fits : length stream < numberSpan → (k : ℕ) → k < length rs → Fits (reportAt rs k)
   pub words : length stream < numberSpan → (k : ℕ) → k < length rs → WordSaid (reportAt rs k)
 
+-- and the closing number that they come to
 abbrev pub Reported : Desk → List ℕ → Run → Type 0
 Reported d stream x = ReportsSaid d stream (length (x .outcomes)) (allReports x) × ClosingSaid (allReports x) (totalsOf x .closing)
