@@ -16,6 +16,9 @@ said c = c .before .before
 abbrev did : tie.After-slice-known4 → tie.After-obey
 did c = c .before .before .before .before
 
+abbrev heard : tie.After-slice-known4 → tie.After-keyword-at
+heard c = said (did c .before)
+
 field-start-requires : tie.Need-field-start-requires
 field-start-requires c κs = search needs
 
@@ -36,11 +39,7 @@ same-length-2 : tie.Need-same-length-2
 same-length-2 c = search needs
 
 returns : tie.Need-returns
-returns c =
-    let k = said (did c .before) in
-    let y = k .before in
-    let f = y .before in
-    step-told _ _ _ _ _ (began f .pre .0 .short) (asked-all _ _ _ _ (step-as _ (f .field-start .ensures) (k .keyword-at .ensures) _ _ (y .if1 .taken)) (did c .obey .ensures))
+returns c = step-told _ _ _ _ _ (began (heard c .before .before) .pre .0 .short) (asked-all _ _ _ _ (step-as _ (heard c .before .before .field-start .ensures) (heard c .keyword-at .ensures) _ _ (heard c .before .if1 .taken)) (did c .obey .ensures))
 
 ended-requires : tie.Need-ended-requires
 ended-requires c κs = search needs
