@@ -7,29 +7,39 @@ use borrow.Author.Needs.{needs}
 use Rattle.load_items.proofs.apply.Statement.{statement}
 use Rattle.load_items.proofs.apply.Tie as tie
 
+-- the start, from the place where the aims part
+abbrev began : tie.After-slice-known → tie.Start
+began c = c .before
+
 enum-known-aim : tie.Need-enum-known-aim
 enum-known-aim c = search needs
 
 set-level-requires : tie.Need-set-level-requires
-set-level-requires c κs = (c .before .before .before .before .before .pre .0, (subst (AimFits _) (c .before .before .aim .given .1) (c .before .before .before .before .before .pre .1 .0), c .before .before .before .before .before .pre .1 .1))
+set-level-requires c κs =
+    let k = c .before .before in
+    let s = began (k .before .before) in
+    (s .pre .0, (subst (AimFits _) (k .aim .given .1) (s .pre .1 .0), s .pre .1 .1))
 
 enum-known-aim-2 : tie.Need-enum-known-aim-2
 enum-known-aim-2 c = search needs
 
 set-patch-requires : tie.Need-set-patch-requires
-set-patch-requires c κs = (c .before .before .before .before .before .pre .0, (subst (AimFits _) (c .before .before .aim2 .given .1) (c .before .before .before .before .before .pre .1 .0), c .before .before .before .before .before .pre .1 .1))
+set-patch-requires c κs =
+    let k = c .before .before in
+    let s = began (k .before .before) in
+    (s .pre .0, (subst (AimFits _) (k .aim2 .given .1) (s .pre .1 .0), s .pre .1 .1))
 
 same-length : tie.Need-same-length
 same-length c = search needs
 
 returns : tie.Need-returns
-returns c = aimed-as _ _ _ (c .before .before .before .before .before .aim .given .1) (c .before .before .set-level .ensures)
+returns c = let o = c .before .before in aimed-as _ _ _ (o .before .before .before .aim .given .1) (o .set-level .ensures)
 
 same-length-2 : tie.Need-same-length-2
 same-length-2 c = search needs
 
 returns-2 : tie.Need-returns-2
-returns-2 c = aimed-as _ _ _ (c .before .before .before .before .before .aim2 .given .1) (c .before .before .set-patch .ensures)
+returns-2 c = let o = c .before .before in aimed-as _ _ _ (o .before .before .before .aim2 .given .1) (o .set-patch .ensures)
 
 pub apply-spec : {M : Type 1} → statement M
 apply-spec =

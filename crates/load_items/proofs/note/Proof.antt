@@ -9,6 +9,16 @@ use borrow.Author.Needs.{needs}
 use Rattle.load_items.proofs.note.Statement.{statement}
 use Rattle.load_items.proofs.note.Tie as tie
 
+-- the fault known, from the place where its word is made
+abbrev known : tie.After-struct-known → tie.After-e
+known c = c .before .before
+
+place-low : (k : tie.After-e) → k .e .given .0 .0 .place ≤ longest
+place-low k = fault-place (k .e .given .1) (k .before .before .pre .1)
+
+condition-low : (k : tie.After-e) → k .e .given .0 .0 .condition < conditionSpan
+condition-low k = fault-condition (k .e .given .1) (k .before .before .pre .1)
+
 enum-told : tie.Need-enum-told
 enum-told c = search needs
 
@@ -19,16 +29,13 @@ enum-known-e : tie.Need-enum-known-e
 enum-known-e c = search needs
 
 cast-faults : tie.Need-cast-faults
-cast-faults c = let p : (c .before .before .e .given .0 .0 .place) ≤ longest = fault-place (c .before .before .e .given .1) (c .before .before .before .before .pre .1) in omega arith
+cast-faults c = omega (arith, place-low (known c))
 
 mul-faults : tie.Need-mul-faults
-mul-faults c = let p : (c .before .before .e .given .0 .0 .place) ≤ longest = fault-place (c .before .before .e .given .1) (c .before .before .before .before .pre .1) in omega arith
+mul-faults c = omega (arith, place-low (known c))
 
 add-faults : tie.Need-add-faults
-add-faults c =
-    let p : (c .before .before .before .e .given .0 .0 .place) ≤ longest = fault-place (c .before .before .before .e .given .1) (c .before .before .before .before .before .pre .1) in
-    let k : (c .before .before .before .e .given .0 .0 .condition) < conditionSpan = fault-condition (c .before .before .before .e .given .1) (c .before .before .before .before .before .pre .1) in
-    omega arith
+add-faults c = let k = known (c .before) in omega (arith, place-low k, condition-low k)
 
 mul-faults-2 : tie.Need-mul-faults-2
 mul-faults-2 c = search needs
@@ -49,7 +56,7 @@ same-length : tie.Need-same-length
 same-length c = search needs
 
 returns-3 : tie.Need-returns-3
-returns-3 c = note-fault _ _ (c .before .before .before .e .given .1)
+returns-3 c = note-fault _ _ (known (c .before) .e .given .1)
 
 pub note-spec : {M : Type 1} → statement M
 note-spec =

@@ -6,6 +6,10 @@ use borrow.Author.Needs.{needs}
 use Rattle.load_items.proofs.ranged.Statement.{statement}
 use Rattle.load_items.proofs.ranged.Tie as tie
 
+-- the field's end looked at, from the place where it ends with its digits
+abbrev ended : tie.Then2 → tie.After-ends
+ended t = t .before .before
+
 digits-at-requires : tie.Need-digits-at-requires
 digits-at-requires c κs = search needs
 
@@ -13,16 +17,26 @@ ends-requires : tie.Need-ends-requires
 ends-requires c κs = search needs
 
 returns : tie.Need-returns
-returns c = ranged-zero _ _ _ _ (c .before .before .before .before .digits-at .ensures) (c .before .before .before .ends .ensures) (c .before .before .if1 .taken) (c .before .if2 .taken) (c .if3 .taken)
+returns c =
+    let t = c .before in
+    let d = ended t in
+    ranged-zero _ _ _ _ (d .before .digits-at .ensures) (d .ends .ensures) (t .before .if1 .taken) (t .if2 .taken) (c .if3 .taken)
 
 returns-2 : tie.Need-returns-2
-returns-2 c = ranged-high _ _ _ _ (c .before .before .before .before .before .digits-at .ensures) (c .before .before .before .before .ends .ensures) (c .before .before .before .if1 .taken) (c .before .before .if2 .taken) (c .if4 .taken)
+returns-2 c =
+    let t = c .before .before in
+    let d = ended t in
+    ranged-high _ _ _ _ (d .before .digits-at .ensures) (d .ends .ensures) (t .before .if1 .taken) (t .if2 .taken) (c .if4 .taken)
 
 returns-3 : tie.Need-returns-3
-returns-3 c = ranged-within _ _ _ _ (c .before .before .before .before .before .digits-at .ensures) (c .before .before .before .before .ends .ensures) (c .before .before .before .if1 .taken) (c .before .before .if2 .taken) (c .before .if3 .left) (c .if4 .left)
+returns-3 c =
+    let l = c .before in
+    let t = l .before in
+    let d = ended t in
+    ranged-within _ _ _ _ (d .before .digits-at .ensures) (d .ends .ensures) (t .before .if1 .taken) (t .if2 .taken) (l .if3 .left) (c .if4 .left)
 
 wrong-requires : tie.Need-wrong-requires
-wrong-requires c κs = digits-within _ _ (c .before .before .digits-at .ensures) (c .before .before .before .before .pre)
+wrong-requires c κs = let d = c .before .before in digits-within _ _ (d .digits-at .ensures) (d .before .before .pre)
 
 returns-4 : tie.Need-returns-4
 returns-4 c =

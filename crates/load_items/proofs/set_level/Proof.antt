@@ -7,11 +7,18 @@ use borrow.Author.Needs.{needs}
 use Rattle.load_items.proofs.set_level.Statement.{statement}
 use Rattle.load_items.proofs.set_level.Tie as tie
 
+-- the level known, from the place where it is set
+abbrev known : tie.After-edit-arg → tie.After-e
+known c = c .before .before
+
 enum-known-e : tie.Need-enum-known-e
 enum-known-e c = search needs
 
 edit-requires : tie.Need-edit-requires
-edit-requires c κs = (c .before .before .before .before .before .pre .0, (c .before .before .before .before .before .pre .1 .0, record { fits = tt; channel = subst (EntryFits _) (c .before .before .e .given .1) (c .before .before .before .before .before .pre .1 .1) .0 }))
+edit-requires c κs =
+    let k = known c in
+    let s = k .before .before .before in
+    (s .pre .0, (s .pre .1 .0, record { fits = tt; channel = subst (EntryFits _) (k .e .given .1) (s .pre .1 .1) .0 }))
 
 enum-told : tie.Need-enum-told
 enum-told c = search needs
@@ -23,7 +30,7 @@ same-length : tie.Need-same-length
 same-length c = search needs
 
 returns : tie.Need-returns
-returns c = slot-level _ _ _ (c .before .before .before .before .before .e .given .1) (c .before .before .edit .ensures)
+returns c = let o = c .before .before in slot-level _ _ _ (known (o .before) .e .given .1) (o .edit .ensures)
 
 returns-2 : tie.Need-returns-2
 returns-2 c = slot-patch _ _ _ (c .enum-told .given .1)

@@ -5,6 +5,10 @@ use borrow.Author.Needs.{needs}
 use Rattle.load_items.proofs.unlit.Statement.{statement}
 use Rattle.load_items.proofs.unlit.Tie as tie
 
+-- the start, from the place where the marks part
+abbrev began : tie.After-hex-mark → tie.Start
+began m = m .before .before .before .before
+
 field-end-requires : tie.Need-field-end-requires
 field-end-requires c κs = search needs
 
@@ -15,10 +19,16 @@ hex-mark-requires : tie.Need-hex-mark-requires
 hex-mark-requires c κs = search needs
 
 returns : tie.Need-returns
-returns c = unlit-hex (c .before .before .before .before .before .args .text .now) (c .before .before .before .before .before .args .at) (c .before .before .before .before .before .args .end) (c .before .before .before .field-end .ensures) (c .before .before .byte .ensures) (c .before .hex-mark .ensures) (c .if1 .taken)
+returns c =
+    let m = c .before in
+    let s = began m in
+    unlit-hex (s .args .text .now) (s .args .at) (s .args .end) (m .before .before .field-end .ensures) (m .before .byte .ensures) (m .hex-mark .ensures) (c .if1 .taken)
 
 returns-2 : tie.Need-returns-2
-returns-2 c = unlit-percent (c .before .before .before .before .before .args .text .now) (c .before .before .before .before .before .args .at) (c .before .before .before .before .before .args .end) (c .before .before .before .field-end .ensures) (c .before .before .byte .ensures) (c .before .hex-mark .ensures) (c .if1 .left)
+returns-2 c =
+    let m = c .before in
+    let s = began m in
+    unlit-percent (s .args .text .now) (s .args .at) (s .args .end) (m .before .before .field-end .ensures) (m .before .byte .ensures) (m .hex-mark .ensures) (c .if1 .left)
 
 pub unlit-spec : {M : Type 1} → statement M
 unlit-spec =

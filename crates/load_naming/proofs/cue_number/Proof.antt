@@ -5,6 +5,10 @@ use borrow.Author.Needs.{needs}
 use Rattle.load_naming.proofs.cue_number.Statement.{statement}
 use Rattle.load_naming.proofs.cue_number.Tie as tie
 
+-- the start, from the place where the field is read
+abbrev began : tie.After-read-number → tie.Start
+began r = r .before .before .before
+
 word-requires : tie.Need-word-requires
 word-requires c κs = search needs
 
@@ -27,13 +31,19 @@ enum-known-n : tie.Need-enum-known-n
 enum-known-n c = search needs
 
 returns : tie.Need-returns
-returns c = number-malformed (c .before .before .before .before .before .before .args .text .now) (c .before .before .before .before .before .before .args .f) (c .before .before .before .before .word .ensures) (c .before .before .before .read-number .ensures) (c .before .enum-told .given .1) (c .blamed .ensures)
+returns c =
+    let r = c .before .before .before in
+    number-malformed (began r .args .text .now) (began r .args .f) (r .before .word .ensures) (r .read-number .ensures) (c .before .enum-told .given .1) (c .blamed .ensures)
 
 returns-2 : tie.Need-returns-2
-returns-2 c = number-large (c .before .before .before .before .before .before .args .text .now) (c .before .before .before .before .before .before .args .f) (c .before .before .before .before .word .ensures) (c .before .before .before .read-number .ensures) (c .before .enum-told2 .given .1) (c .blamed2 .ensures)
+returns-2 c =
+    let r = c .before .before .before in
+    number-large (began r .args .text .now) (began r .args .f) (r .before .word .ensures) (r .read-number .ensures) (c .before .enum-told2 .given .1) (c .blamed2 .ensures)
 
 returns-3 : tie.Need-returns-3
-returns-3 c = number-good (c .before .before .before .before .before .before .args .text .now) (c .before .before .before .before .before .before .args .f) (c .before .before .before .before .word .ensures) (c .before .before .before .read-number .ensures) (c .before .n .given .1)
+returns-3 c =
+    let r = c .before .before .before in
+    number-good (began r .args .text .now) (began r .args .f) (r .before .word .ensures) (r .read-number .ensures) (c .before .n .given .1)
 
 pub cue-number-spec : {M : Type 1} → statement M
 cue-number-spec =

@@ -15,7 +15,7 @@ returns : tie.Need-returns
 returns c = delay-none _ _ (c .before .before .field-at .ensures) (c .before .is-missing .ensures) (c .if1 .taken)
 
 time-in-requires : tie.Need-time-in-requires
-time-in-requires c κs = field-in (c .before .before .before .before .pre) (c .before .before .field-at .ensures)
+time-in-requires c κs = let f = c .before .before in field-in (f .before .before .pre) (f .field-at .ensures)
 
 returns-2 : tie.Need-returns-2
 returns-2 c = delay-some _ _ (c .before .before .before .field-at .ensures) (c .before .before .is-missing .ensures) (c .before .if1 .left) (c .time-in .ensures)

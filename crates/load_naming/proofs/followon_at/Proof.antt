@@ -6,11 +6,15 @@ use borrow.Author.Needs.{needs}
 use Rattle.load_naming.proofs.followon_at.Statement.{statement}
 use Rattle.load_naming.proofs.followon_at.Tie as tie
 
+-- the start, from the field
+abbrev began : tie.After-field-at → tie.Start
+began f = f .before .before
+
 field-at-requires : tie.Need-field-at-requires
 field-at-requires c κs = search needs
 
 time-in-requires : tie.Need-time-in-requires
-time-in-requires c κs = field-in (c .before .before .pre) (c .field-at .ensures)
+time-in-requires c κs = field-in (began c .pre) (c .field-at .ensures)
 
 enum-known-time : tie.Need-enum-known-time
 enum-known-time c = search needs
@@ -19,13 +23,19 @@ enum-told : tie.Need-enum-told
 enum-told c = search needs
 
 blamed-requires : tie.Need-blamed-requires
-blamed-requires c κs = start-low (field-in (c .before .before .before .before .before .pre) (c .before .before .before .field-at .ensures))
+blamed-requires c κs = let f = c .before .before .before in start-low (field-in (began f .pre) (f .field-at .ensures))
 
 returns : tie.Need-returns
-returns c = followon-wrong (c .before .before .before .before .before .before .pre) (c .before .before .before .before .field-at .ensures) (c .before .before .before .time-in .ensures) (c .before .enum-told .given .1) (c .blamed .ensures)
+returns c =
+    let t = c .before .before .before in
+    let f = t .before in
+    followon-wrong (began f .pre) (f .field-at .ensures) (t .time-in .ensures) (c .before .enum-told .given .1) (c .blamed .ensures)
 
 returns-2 : tie.Need-returns-2
-returns-2 c = followon-good (c .before .before .before .before .before .before .pre) (c .before .before .before .before .field-at .ensures) (c .before .before .before .time-in .ensures) (c .before .time .given .1)
+returns-2 c =
+    let t = c .before .before .before in
+    let f = t .before in
+    followon-good (began f .pre) (f .field-at .ensures) (t .time-in .ensures) (c .before .time .given .1)
 
 pub followon-at-spec : {M : Type 1} → statement M
 followon-at-spec =

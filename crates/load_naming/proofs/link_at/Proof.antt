@@ -6,11 +6,15 @@ use borrow.Author.Needs.{needs}
 use Rattle.load_naming.proofs.link_at.Statement.{statement}
 use Rattle.load_naming.proofs.link_at.Tie as tie
 
+-- the start, from the field
+abbrev began : tie.After-field-at → tie.Start
+began f = f .before .before
+
 field-at-requires : tie.Need-field-at-requires
 field-at-requires c κs = search needs
 
 cue-number-requires : tie.Need-cue-number-requires
-cue-number-requires c κs = field-in (c .before .before .pre) (c .field-at .ensures)
+cue-number-requires c κs = field-in (began c .pre) (c .field-at .ensures)
 
 enum-known-fault : tie.Need-enum-known-fault
 enum-known-fault c = search needs
@@ -19,10 +23,16 @@ enum-known-whole : tie.Need-enum-known-whole
 enum-known-whole c = search needs
 
 returns : tie.Need-returns
-returns c = link-wrong (c .before .before .before .before .before .before .pre) (c .before .before .before .before .field-at .ensures) (c .before .before .before .cue-number .ensures) (c .before .fault .given .1)
+returns c =
+    let n = c .before .before .before in
+    let f = n .before in
+    link-wrong (began f .pre) (f .field-at .ensures) (n .cue-number .ensures) (c .before .fault .given .1)
 
 returns-2 : tie.Need-returns-2
-returns-2 c = link-good (c .before .before .before .before .before .before .pre) (c .before .before .before .before .field-at .ensures) (c .before .before .before .cue-number .ensures) (c .before .whole .given .1)
+returns-2 c =
+    let n = c .before .before .before in
+    let f = n .before in
+    link-good (began f .pre) (f .field-at .ensures) (n .cue-number .ensures) (c .before .whole .given .1)
 
 pub link-at-spec : {M : Type 1} → statement M
 link-at-spec =

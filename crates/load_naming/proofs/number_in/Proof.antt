@@ -5,6 +5,10 @@ use borrow.Author.Needs.{needs}
 use Rattle.load_naming.proofs.number_in.Statement.{statement}
 use Rattle.load_naming.proofs.number_in.Tie as tie
 
+-- the start, from the place where the kinds part
+abbrev began : tie.After-shared-slice-known → tie.Start
+began c = c .before
+
 enum-told : tie.Need-enum-told
 enum-told c = search needs
 
@@ -24,13 +28,13 @@ sub-number-requires : tie.Need-sub-number-requires
 sub-number-requires c κs = search needs
 
 returns : tie.Need-returns
-returns c = numeral-cue _ (c .before .before .before .before .args .text .now) (c .before .before .before .before .args .f) (c .before .enum-told .given .1) (c .cue-number .ensures)
+returns c = let s = began (c .before .before .before) in numeral-cue _ (s .args .text .now) (s .args .f) (c .before .enum-told .given .1) (c .cue-number .ensures)
 
 returns-2 : tie.Need-returns-2
-returns-2 c = numeral-group _ (c .before .before .before .before .args .text .now) (c .before .before .before .before .args .f) (c .before .enum-told2 .given .1) (c .cue-number2 .ensures)
+returns-2 c = let s = began (c .before .before .before) in numeral-group _ (s .args .text .now) (s .args .f) (c .before .enum-told2 .given .1) (c .cue-number2 .ensures)
 
 returns-3 : tie.Need-returns-3
-returns-3 c = numeral-sub _ (c .before .before .before .before .args .text .now) (c .before .before .before .before .args .f) (c .before .enum-told3 .given .1) (c .sub-number .ensures)
+returns-3 c = let s = began (c .before .before .before) in numeral-sub _ (s .args .text .now) (s .args .f) (c .before .enum-told3 .given .1) (c .sub-number .ensures)
 
 pub number-in-spec : {M : Type 1} → statement M
 number-in-spec =

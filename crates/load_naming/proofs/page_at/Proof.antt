@@ -15,13 +15,15 @@ returns : tie.Need-returns
 returns c = page-none _ _ (c .before .before .field-at .ensures) (c .before .is-missing .ensures) _ _ (c .if1 .taken)
 
 word-requires : tie.Need-word-requires
-word-requires c κs = field-lent (field-in (c .before .before .before .before .pre) (c .before .before .field-at .ensures))
+word-requires c κs = let f = c .before .before in field-lent (field-in (f .before .before .pre) (f .field-at .ensures))
 
 read-page-requires : tie.Need-read-page-requires
 read-page-requires c κs = search needs
 
 returns-2 : tie.Need-returns-2
-returns-2 c = page-some _ _ (c .before .before .before .before .field-at .ensures) (c .before .before .before .is-missing .ensures) _ _ (c .before .before .if1 .left) (c .before .word .ensures) (c .read-page .ensures)
+returns-2 c =
+    let n = c .before .before in
+    page-some _ _ (n .before .before .field-at .ensures) (n .before .is-missing .ensures) _ _ (n .if1 .left) (c .before .word .ensures) (c .read-page .ensures)
 
 pub page-at-spec : {M : Type 1} → statement M
 page-at-spec =

@@ -8,11 +8,21 @@ use borrow.Author.Needs.{needs}
 use Rattle.load_naming.proofs.up_at.Statement.{statement}
 use Rattle.load_naming.proofs.up_at.Tie as tie
 
+-- the places that the answers speak of, each from a later one: the field, the fade read, the fade known
+abbrev began : tie.After-field-at → tie.Start
+began f = f .before .before
+
+abbrev timed : tie.After-fade → tie.After-time-in
+timed k = k .before .before
+
+abbrev known : tie.After-delay-at → tie.After-fade
+known d = d .before .before
+
 field-at-requires : tie.Need-field-at-requires
 field-at-requires c κs = search needs
 
 time-in-requires : tie.Need-time-in-requires
-time-in-requires c κs = field-in (c .before .before .pre) (c .field-at .ensures)
+time-in-requires c κs = field-in (began c .pre) (c .field-at .ensures)
 
 enum-known-fade : tie.Need-enum-known-fade
 enum-known-fade c = search needs
@@ -21,14 +31,17 @@ enum-told : tie.Need-enum-told
 enum-told c = search needs
 
 blamed-requires : tie.Need-blamed-requires
-blamed-requires c κs = start-low (field-in (c .before .before .before .before .before .pre) (c .before .before .before .field-at .ensures))
+blamed-requires c κs = let f = c .before .before .before in start-low (field-in (began f .pre) (f .field-at .ensures))
 
 returns : tie.Need-returns
 unfolding timesOf
-returns c = fade-wrong (c .before .before .before .before .before .before .pre) (c .before .before .before .before .field-at .ensures) (c .before .before .before .time-in .ensures) (λ x y. Up x y) (c .before .enum-told .given .1) (c .blamed .ensures)
+returns c =
+    let t = c .before .before .before in
+    let f = t .before in
+    fade-wrong (began f .pre) (f .field-at .ensures) (t .time-in .ensures) (λ x y. Up x y) (c .before .enum-told .given .1) (c .blamed .ensures)
 
 delay-at-requires : tie.Need-delay-at-requires
-delay-at-requires c κs = line-next (c .before .before .before .before .before .before .pre) (c .before .before .before .before .field-at .ensures)
+delay-at-requires c κs = let f = timed (c .before) .before in line-next (began f .pre) (f .field-at .ensures)
 
 enum-known-delay : tie.Need-enum-known-delay
 enum-known-delay c = search needs
@@ -37,15 +50,27 @@ enum-told-2 : tie.Need-enum-told-2
 enum-told-2 c = search needs
 
 blamed-at-requires : tie.Need-blamed-at-requires
-blamed-at-requires c κs = (line-next (c .before .before .before .before .before .before .before .before .before .pre) (c .before .before .before .before .before .before .before .field-at .ensures) .within, c .before .before .before .before .before .before .before .before .before .pre .short)
+blamed-at-requires c κs =
+    let f = timed (known (c .before .before)) .before in
+    (line-next (began f .pre) (f .field-at .ensures) .within, began f .pre .short)
 
 returns-2 : tie.Need-returns-2
 unfolding timesOf
-returns-2 c = delay-wrong (c .before .before .before .before .before .before .before .before .before .before .pre) (c .before .before .before .before .before .before .before .before .field-at .ensures) (c .before .before .before .before .before .before .before .time-in .ensures) (λ x y. Up x y) (c .before .before .before .before .before .fade .given .1) (c .before .before .before .delay-at .ensures) (c .before .enum-told2 .given .1) (c .blamed-at .ensures)
+returns-2 c =
+    let d = c .before .before .before in
+    let k = known d in
+    let t = timed k in
+    let f = t .before in
+    delay-wrong (began f .pre) (f .field-at .ensures) (t .time-in .ensures) (λ x y. Up x y) (k .fade .given .1) (d .delay-at .ensures) (c .before .enum-told2 .given .1) (c .blamed-at .ensures)
 
 returns-3 : tie.Need-returns-3
 unfolding timesOf
-returns-3 c = delay-good (c .before .before .before .before .before .before .before .before .before .before .pre) (c .before .before .before .before .before .before .before .before .field-at .ensures) (c .before .before .before .before .before .before .before .time-in .ensures) (λ x y. Up x y) (c .before .before .before .before .before .fade .given .1) (c .before .before .before .delay-at .ensures) (c .before .delay .given .1)
+returns-3 c =
+    let d = c .before .before .before in
+    let k = known d in
+    let t = timed k in
+    let f = t .before in
+    delay-good (began f .pre) (f .field-at .ensures) (t .time-in .ensures) (λ x y. Up x y) (k .fade .given .1) (d .delay-at .ensures) (c .before .delay .given .1)
 
 pub up-at-spec : {M : Type 1} → statement M
 up-at-spec =

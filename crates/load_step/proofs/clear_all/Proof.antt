@@ -7,6 +7,10 @@ use borrow.Author.Needs.{needs}
 use Rattle.load_step.proofs.clear_all.Statement.{statement}
 use Rattle.load_step.proofs.clear_all.Tie as tie
 
+-- the start, from the place where the page is read
+abbrev began : tie.After-page-at → tie.Start
+began p = p .before .before .before .before
+
 most-pages-requires : tie.Need-most-pages-requires
 most-pages-requires c κs = search needs
 
@@ -17,7 +21,7 @@ enum-told : tie.Need-enum-told
 enum-told c = search needs
 
 blamed-at-requires : tie.Need-blamed-at-requires
-blamed-at-requires c κs = (c .before .before .before .before .before .before .pre .1 .0 .within, c .before .before .before .before .before .before .pre .1 .0 .short)
+blamed-at-requires c κs = let s = began (c .before .before) in (s .pre .1 .0 .within, s .pre .1 .0 .short)
 
 ended-requires : tie.Need-ended-requires
 ended-requires c κs = search needs
@@ -32,13 +36,20 @@ cleared-requires : tie.Need-cleared-requires
 cleared-requires c κs = search needs
 
 returns : tie.Need-returns
-returns c = asked-as _ _ _ (paged-bad _ _ (c .before .before .enum-told .given .1) (c .before .blamed-at .ensures) ∙ all-as _ _ (c .before .before .before .before .before .most-pages .ensures) (c .before .before .before .before .page-at .ensures)) (rests-as _ _ _ (c .before .before .before .before .before .before .before .before .pre .1 .1) (c .ended .ensures))
+returns c =
+    let e = c .before .before in
+    let p = e .before .before in
+    asked-as _ _ _ (paged-bad _ _ (e .enum-told .given .1) (c .before .blamed-at .ensures) ∙ all-as _ _ (p .before .most-pages .ensures) (p .page-at .ensures)) (rests-as _ _ _ (began p .pre .1 .1) (c .ended .ensures))
 
 same-length : tie.Need-same-length
 same-length c = search needs
 
 returns-2 : tie.Need-returns-2
-returns-2 c = asked-as _ _ _ (paged-good _ _ (c .before .before .before .before .before .before .before .before .page .given .1) ∙ all-as _ _ (c .before .before .before .before .before .before .before .before .before .before .before .most-pages .ensures) (c .before .before .before .before .before .before .before .before .before .before .page-at .ensures)) (clears-as _ _ _ (c .cleared .ensures) _ (c .before .before .before .before .before .clear-tables .ensures))
+returns-2 c =
+    let w = c .before .before .before .before .before in
+    let k = w .before .before .before in
+    let p = k .before .before in
+    asked-as _ _ _ (paged-good _ _ (k .page .given .1) ∙ all-as _ _ (p .before .most-pages .ensures) (p .page-at .ensures)) (clears-as _ _ _ (c .cleared .ensures) _ (w .clear-tables .ensures))
 
 pub clear-all-spec : {M : Type 1} → statement M
 clear-all-spec =

@@ -9,13 +9,19 @@ table-pages-requires : tie.Need-table-pages-requires
 table-pages-requires c κs = search needs
 
 clear-kind-requires : tie.Need-clear-kind-requires
-clear-kind-requires c κs = (c .before .before .before .before .pre, table-page _ _ (c .before .before .before .before .pre .range) (c .before .before .table-pages .ensures) (c .before .if1 .taken))
+clear-kind-requires c κs =
+    let p = c .before .before in
+    let s = p .before .before in
+    (s .pre, table-page _ _ (s .pre .range) (p .table-pages .ensures) (c .before .if1 .taken))
 
 same-length : tie.Need-same-length
 same-length c = search needs
 
 returns : tie.Need-returns
-returns c = table-has _ _ _ _ (c .before .before .before .before .before .table-pages .ensures) (c .before .before .before .before .if1 .taken) (c .before .before .clear-kind .ensures)
+returns c =
+    let w = c .before .before in
+    let y = w .before .before in
+    table-has _ _ _ _ (y .before .table-pages .ensures) (y .if1 .taken) (w .clear-kind .ensures)
 
 returns-2 : tie.Need-returns-2
 returns-2 c = table-lacks _ _ _ _ (c .before .table-pages .ensures) (c .if1 .left)

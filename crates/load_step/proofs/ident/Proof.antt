@@ -5,6 +5,13 @@ use borrow.Author.Needs.{needs}
 use Rattle.load_step.proofs.ident.Statement.{statement}
 use Rattle.load_step.proofs.ident.Tie as tie
 
+-- the places that the answers speak of, each from a later one: the version read, its major number known
+abbrev read : tie.After-major → tie.After-version-at
+read k = k .before .before
+
+abbrev known : tie.Else1 → tie.After-major
+known l = l .before .before
+
 version-at-requires : tie.Need-version-at-requires
 version-at-requires c κs = search needs
 
@@ -24,16 +31,16 @@ mismatch-requires-2 : tie.Need-mismatch-requires-2
 mismatch-requires-2 c κs = search needs
 
 returns-2 : tie.Need-returns-2
-returns-2 c = ident-major _ (c .before .before .before .before .before .version-at .ensures) (c .before .before .before .major .given .1) (c .before .if1 .taken) (c .mismatch2 .ensures)
+returns-2 c = let k = c .before .before .before in ident-major _ (read k .version-at .ensures) (k .major .given .1) (c .before .if1 .taken) (c .mismatch2 .ensures)
 
 mismatch-requires-3 : tie.Need-mismatch-requires-3
 mismatch-requires-3 c κs = search needs
 
 returns-3 : tie.Need-returns-3
-returns-3 c = ident-minor _ (c .before .before .before .before .before .before .version-at .ensures) (c .before .before .before .before .major .given .1) (c .before .if2 .taken) (c .mismatch3 .ensures)
+returns-3 c = let k = known (c .before .before) in ident-minor _ (read k .version-at .ensures) (k .major .given .1) (c .before .if2 .taken) (c .mismatch3 .ensures)
 
 returns-4 : tie.Need-returns-4
-returns-4 c = ident-three _ (c .before .before .before .before .before .version-at .ensures) (c .before .before .before .major .given .1) (c .before .if1 .left) (c .if2 .left)
+returns-4 c = let k = known (c .before) in ident-three _ (read k .version-at .ensures) (k .major .given .1) (c .before .if1 .left) (c .if2 .left)
 
 pub ident-spec : {M : Type 1} → statement M
 ident-spec =

@@ -8,6 +8,22 @@ use borrow.Author.Needs.{needs}
 use Rattle.load_step.proofs.obey.Statement.{statement}
 use Rattle.load_step.proofs.obey.Tie as tie
 
+-- the places that the answers speak of, each from a later one: the secondary answered, and known; the basic keyword answered, and known
+abbrev augmented : tie.After-with-held → tie.After-secondary
+augmented c = c .before .before .before .before .before
+
+abbrev secondary : tie.After-with-held → tie.After-e
+secondary c = augmented c .before .before .before .before
+
+abbrev began : tie.After-with-held → tie.Start
+began c = secondary c .before .before .before .before .before .before
+
+abbrev did : tie.After-slice-known7 → tie.After-obey-basic
+did c = c .before .before .before .before
+
+abbrev basic : tie.After-slice-known7 → tie.After-b
+basic c = did c .before .before .before .before
+
 family-of-requires : tie.Need-family-of-requires
 family-of-requires c κs = search needs
 
@@ -36,7 +52,10 @@ same-length : tie.Need-same-length
 same-length c = search needs
 
 returns : tie.Need-returns
-returns c = asked-all _ _ _ _ (family-primary _ _ _ _ _ (c .before .before .before .before .before .before .before .family-of .ensures) (c .before .before .before .before .before .kind .given .1)) (primary-all _ _ _ _ _ _ _ (c .before .before .primary .ensures))
+returns c =
+    let o = c .before .before in
+    let k = o .before .before .before in
+    asked-all _ _ _ _ (family-primary _ _ _ _ _ (k .before .before .family-of .ensures) (k .kind .given .1)) (primary-all _ _ _ _ _ _ _ (o .primary .ensures))
 
 same-length-2 : tie.Need-same-length-2
 same-length-2 c = search needs
@@ -45,7 +64,7 @@ same-length-3 : tie.Need-same-length-3
 same-length-3 c = search needs
 
 returns-2 : tie.Need-returns-2
-returns-2 c = asked-all _ _ _ _ (family-secondary _ _ _ _ _ (c .before .before .before .before .before .before .before .before .before .before .before .family-of .ensures) (c .before .before .before .before .before .before .before .before .before .e .given .1)) (held-with _ _ _ (secondary-stays _ _ (c .before .before .before .before .before .before .before .before .before .before .before .before .before .before .before .pre .1 .1 .0) (c .before .before .before .before .before .before .before .before .before .before .before .before .before .before .before .pre .0) _ _ _) (c .before .before .before .before .before .secondary .ensures) (c .with-held .ensures))
+returns-2 c = asked-all _ _ _ _ (family-secondary _ _ _ _ _ (secondary c .before .before .family-of .ensures) (secondary c .e .given .1)) (held-with _ _ _ (secondary-stays _ _ (began c .pre .1 .1 .0) (began c .pre .0) _ _ _) (augmented c .secondary .ensures) (c .with-held .ensures))
 
 same-length-4 : tie.Need-same-length-4
 same-length-4 c = search needs
@@ -54,7 +73,7 @@ same-length-5 : tie.Need-same-length-5
 same-length-5 c = search needs
 
 returns-3 : tie.Need-returns-3
-returns-3 c = asked-all _ _ _ _ (family-basic _ _ _ _ _ (c .before .before .before .before .before .before .before .before .before .before .family-of .ensures) (c .before .before .before .before .before .before .before .before .b .given .1)) (c .before .before .before .before .obey-basic .ensures)
+returns-3 c = asked-all _ _ _ _ (family-basic _ _ _ _ _ (basic c .before .before .family-of .ensures) (basic c .b .given .1)) (did c .obey-basic .ensures)
 
 pub obey-spec : {M : Type 1} → statement M
 obey-spec =

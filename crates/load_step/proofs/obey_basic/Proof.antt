@@ -11,6 +11,10 @@ use borrow.Author.Needs.{needs}
 use Rattle.load_step.proofs.obey_basic.Statement.{statement}
 use Rattle.load_step.proofs.obey_basic.Tie as tie
 
+-- the start, from the place where the keywords part
+abbrev began : tie.After-slice-known2 → tie.Start
+began c = c .before .before .before
+
 enum-told : tie.Need-enum-told
 enum-told c = search needs
 
@@ -69,13 +73,17 @@ ended-requires-5 : tie.Need-ended-requires-5
 ended-requires-5 c κs = search needs
 
 returns : tie.Need-returns
-returns c = basic-as _ _ _ _ _ _ (c .before .before .enum-told .given .1) (asked-all _ _ _ _ (basic-ident _ _ _ (c .before .ident .ensures)) (rests-all _ _ _ (c .before .before .before .before .before .before .before .pre .1 .1 .0) (c .ended .ensures) _))
+returns c =
+    let e = c .before .before in
+    basic-as _ _ _ _ _ _ (e .enum-told .given .1) (asked-all _ _ _ _ (basic-ident _ _ _ (c .before .ident .ensures)) (rests-all _ _ _ (began (e .before .before) .pre .1 .1 .0) (c .ended .ensures) _))
 
 same-length : tie.Need-same-length
 same-length c = search needs
 
 returns-2 : tie.Need-returns-2
-returns-2 c = basic-as _ _ _ _ _ _ (c .before .before .before .before .enum-told2 .given .1) (basic-clear _ _ _ _ _ _ (c .before .before .clear .ensures))
+returns-2 c =
+    let k = c .before .before in
+    basic-as _ _ _ _ _ _ (k .before .before .enum-told2 .given .1) (basic-clear _ _ _ _ _ _ (k .clear .ensures))
 
 same-length-2 : tie.Need-same-length-2
 same-length-2 c = search needs
@@ -84,21 +92,29 @@ same-length-3 : tie.Need-same-length-3
 same-length-3 c = search needs
 
 returns-3 : tie.Need-returns-3
-returns-3 c = basic-as _ _ _ _ _ _ (c .before .before .before .before .before .before .before .before .enum-told3 .given .1) (basic-patch _ _ _ _ _ (c .before .before .before .before .before .before .before .before .before .before .before .before .before .pre .1 .1 .0) (c .before .before .before .before .before .before .before .before .before .before .before .before .before .pre .0) (c .before .before .before .before .before .patch .ensures) (c .with-held .ensures))
+returns-3 c =
+    let p = c .before .before .before .before .before in
+    let e = p .before .before .before in
+    let s = began (e .before .before) in
+    basic-as _ _ _ _ _ _ (e .enum-told3 .given .1) (basic-patch _ _ _ _ _ (s .pre .1 .1 .0) (s .pre .0) (p .patch .ensures) (c .with-held .ensures))
 
 returns-4 : tie.Need-returns-4
-returns-4 c = basic-as _ _ _ _ _ _ (c .before .before .enum-told4 .given .1) (asked-all _ _ _ _ (basic-enddata _ _ _ (c .before .blameless .ensures)) (rests-all _ _ _ (c .before .before .before .before .before .before .before .pre .1 .1 .0) (c .ended2 .ensures) _))
+returns-4 c =
+    let e = c .before .before in
+    basic-as _ _ _ _ _ _ (e .enum-told4 .given .1) (asked-all _ _ _ _ (basic-enddata _ _ _ (c .before .blameless .ensures)) (rests-all _ _ _ (began (e .before .before) .pre .1 .1 .0) (c .ended2 .ensures) _))
 
 returns-5 : tie.Need-returns-5
 unfolding basicAsk
-returns-5 c = basic-as _ _ _ _ _ _ (c .before .enum-told5 .given .1) (rests-all _ _ _ (c .before .before .before .before .before .before .pre .1 .1 .0) (c .ended3 .ensures) _)
+returns-5 c = basic-as _ _ _ _ _ _ (c .before .enum-told5 .given .1) (rests-all _ _ _ (began (c .before .before .before) .pre .1 .1 .0) (c .ended3 .ensures) _)
 
 returns-6 : tie.Need-returns-6
 unfolding basicAsk
 returns-6 c = basic-as _ _ _ _ _ _ (c .before .before .enum-told6 .given .1) (skips-all _ _ _ _ (c .ended4 .ensures ∙ ap (λ (h : Held). endedAs h Passed) (c .before .resting .ensures)) _)
 
 returns-7 : tie.Need-returns-7
-returns-7 c = basic-as _ _ _ _ _ _ (c .before .before .enum-told7 .given .1) (asked-all _ _ _ _ (basic-unknown _ _ _ (c .before .blamed-at .ensures)) (rests-all _ _ _ (c .before .before .before .before .before .before .before .pre .1 .1 .0) (c .ended5 .ensures) _))
+returns-7 c =
+    let e = c .before .before in
+    basic-as _ _ _ _ _ _ (e .enum-told7 .given .1) (asked-all _ _ _ _ (basic-unknown _ _ _ (c .before .blamed-at .ensures)) (rests-all _ _ _ (began (e .before .before) .pre .1 .1 .0) (c .ended5 .ensures) _))
 
 pub obey-basic-spec : {M : Type 1} → statement M
 obey-basic-spec =

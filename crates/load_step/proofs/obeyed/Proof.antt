@@ -18,19 +18,29 @@ same-length-2 : tie.Need-same-length-2
 same-length-2 c = search needs
 
 returns : tie.Need-returns
-returns c = obeyed-chan _ _ _ _ _ _ _ (c .before .before .before .before .before .before .before .before .has-items .ensures) (c .before .before .before .before .before .before .before .if1 .taken) (c .before .before .before .before .chan .ensures)
+returns c =
+    let o = c .before .before .before .before in
+    let y = o .before .before .before in
+    obeyed-chan _ _ _ _ _ _ _ (y .before .has-items .ensures) (y .if1 .taken) (o .chan .ensures)
 
 change-at-requires : tie.Need-change-at-requires
 change-at-requires c κs = search needs
 
 changed-requires : tie.Need-changed-requires
-changed-requires c κs = (c .before .before .before .before .before .before .before .pre .0, (c .before .before .before .before .before .before .before .pre .1 .1 .0, (c .before .before .before .before .before .before .before .pre .1 .1 .1 .0, times-fit _ _ _ (c .before .change-at .ensures))))
+changed-requires c κs =
+    let r = c .before in
+    let s = r .before .before .before .before .before .before in
+    (s .pre .0, (s .pre .1 .1 .0, (s .pre .1 .1 .1 .0, times-fit _ _ _ (r .change-at .ensures))))
 
 same-length-3 : tie.Need-same-length-3
 same-length-3 c = search needs
 
 returns-2 : tie.Need-returns-2
-returns-2 c = obeyed-change _ _ _ _ _ _ _ (c .before .before .before .before .before .before .has-items .ensures) (c .before .before .before .before .before .if1 .left) (c .before .before .before .before .change-at .ensures) (c .before .before .changed .ensures)
+returns-2 c =
+    let o = c .before .before in
+    let r = o .before .before in
+    let l = r .before in
+    obeyed-change _ _ _ _ _ _ _ (l .before .has-items .ensures) (l .if1 .left) (r .change-at .ensures) (o .changed .ensures)
 
 pub obeyed-spec : {M : Type 1} → statement M
 obeyed-spec =

@@ -6,6 +6,13 @@ use borrow.Author.Needs.{needs}
 use Rattle.load_step.proofs.primary.Statement.{statement}
 use Rattle.load_step.proofs.primary.Tie as tie
 
+-- the places that the answers speak of, each from a later one: the kind supported, the name known
+abbrev supported : tie.After-name-at → tie.Then1
+supported n = n .before
+
+abbrev known : tie.After-opened-arg → tie.After-key
+known c = c .before .before
+
 supports-requires : tie.Need-supports-requires
 supports-requires c κs = search needs
 
@@ -19,19 +26,34 @@ refused-requires : tie.Need-refused-requires
 refused-requires c κs = search needs
 
 returns : tie.Need-returns
-returns c = asked-as _ _ _ (primary-refused _ _ _ _ (c .before .before .before .before .before .before .supports .ensures) (c .before .before .before .before .before .if1 .taken) (c .before .before .before .before .name-at .ensures) (c .before .before .fault .given .1)) (skips-as _ _ _ _ (c .refused .ensures))
+returns c =
+    let f = c .before .before in
+    let n = f .before .before in
+    let y = supported n in
+    asked-as _ _ _ (primary-refused _ _ _ _ (y .before .supports .ensures) (y .if1 .taken) (n .name-at .ensures) (f .fault .given .1)) (skips-as _ _ _ _ (c .refused .ensures))
 
 enum-known-key : tie.Need-enum-known-key
 enum-known-key c = search needs
 
 opened-requires : tie.Need-opened-requires
-opened-requires c κs = (c .before .before .before .before .before .before .before .before .before .pre .0, primary-ok _ _ _ (c .before .before .before .before .before .before .supports .ensures) (c .before .before .before .before .before .if1 .taken) (c .before .before .before .before .name-at .ensures) (c .before .before .before .before .before .before .before .before .before .pre .0 .range) (c .before .before .key .given .1))
+opened-requires c κs =
+    let k = known c in
+    let n = k .before .before in
+    let y = supported n in
+    let u = y .before in
+    let s = u .before .before .before in
+    (s .pre .0, primary-ok _ _ _ (u .supports .ensures) (y .if1 .taken) (n .name-at .ensures) (s .pre .0 .range) (k .key .given .1))
 
 same-length : tie.Need-same-length
 same-length c = search needs
 
 returns-2 : tie.Need-returns-2
-returns-2 c = asked-as _ _ _ (primary-opened _ _ _ _ (c .before .before .before .before .before .before .before .before .before .supports .ensures) (c .before .before .before .before .before .before .before .before .if1 .taken) (c .before .before .before .before .before .before .before .name-at .ensures) (c .before .before .before .before .before .key .given .1)) (c .before .before .opened .ensures)
+returns-2 c =
+    let o = c .before .before in
+    let k = known (o .before) in
+    let n = k .before .before in
+    let y = supported n in
+    asked-as _ _ _ (primary-opened _ _ _ _ (y .before .supports .ensures) (y .if1 .taken) (n .name-at .ensures) (k .key .given .1)) (o .opened .ensures)
 
 unsupported-requires : tie.Need-unsupported-requires
 unsupported-requires c κs = search needs
@@ -43,7 +65,10 @@ refused-requires-2 : tie.Need-refused-requires-2
 refused-requires-2 c κs = search needs
 
 returns-3 : tie.Need-returns-3
-returns-3 c = asked-as _ _ _ (primary-unsupported _ _ _ _ (c .before .before .before .before .supports .ensures) (c .before .before .before .if1 .left) (c .before .before .unsupported .ensures) (c .before .blamed-at .ensures)) (skips-as _ _ _ _ (c .refused2 .ensures))
+returns-3 c =
+    let b = c .before in
+    let l = b .before .before in
+    asked-as _ _ _ (primary-unsupported _ _ _ _ (l .before .supports .ensures) (l .if1 .left) (b .before .unsupported .ensures) (b .blamed-at .ensures)) (skips-as _ _ _ _ (c .refused2 .ensures))
 
 pub primary-spec : {M : Type 1} → statement M
 primary-spec =

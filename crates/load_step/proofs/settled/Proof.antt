@@ -5,6 +5,10 @@ use Rattle.load_step.proofs.Holding.{settle-nothing, settle-skipping, s
 use Rattle.load_step.proofs.settled.Statement.{statement}
 use Rattle.load_step.proofs.settled.Tie as tie
 
+-- the memory open, from the place where it is looked for
+abbrev known : tie.After-find → tie.After-open
+known f = f .before .before
+
 enum-told : tie.Need-enum-told
 enum-told c = search needs
 
@@ -33,10 +37,10 @@ returns-2 : tie.Need-returns-2
 returns-2 c = settle-skipping _ _ _ (c .enum-told2 .given .1)
 
 returns-3 : tie.Need-returns-3
-returns-3 c = settle-found _ _ _ (c .before .before .before .before .before .«open» .given .1) (c .before .before .before .find .ensures) (c .before .slot .given .1)
+returns-3 c = let f = c .before .before .before in settle-found _ _ _ (known f .«open» .given .1) (f .find .ensures) (c .before .slot .given .1)
 
 returns-4 : tie.Need-returns-4
-returns-4 c = settle-gone _ _ _ (c .before .before .before .before .before .«open» .given .1) (c .before .before .before .find .ensures) (c .before .enum-told3 .given .1) (c .resting .ensures)
+returns-4 c = let f = c .before .before .before in settle-gone _ _ _ (known f .«open» .given .1) (f .find .ensures) (c .before .enum-told3 .given .1) (c .resting .ensures)
 
 pub settled-spec : {M : Type 1} → statement M
 settled-spec =

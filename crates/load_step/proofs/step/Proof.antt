@@ -6,6 +6,19 @@ use borrow.Author.Needs.{needs}
 use Rattle.load_step.proofs.step.Statement.{statement}
 use Rattle.load_step.proofs.step.Tie as tie
 
+-- the places that the answers speak of, each from a later one: the first field, its keyword, the record obeyed
+abbrev began : tie.After-field-start → tie.Start
+began f = f .before .before .before .before
+
+abbrev said : tie.After-obey-arg2 → tie.After-keyword-at
+said c = c .before .before
+
+abbrev did : tie.After-slice-known4 → tie.After-obey
+did c = c .before .before .before .before
+
+abbrev heard : tie.After-slice-known4 → tie.After-keyword-at
+heard c = said (did c .before)
+
 field-start-requires : tie.Need-field-start-requires
 field-start-requires c κs = search needs
 
@@ -13,7 +26,11 @@ keyword-at-requires : tie.Need-keyword-at-requires
 keyword-at-requires c κs = search needs
 
 obey-requires : tie.Need-obey-requires
-obey-requires c κs = (c .before .before .before .before .before .before .before .before .pre .0 .fitting, (step-line _ (c .before .before .before .before .field-start .ensures) (c .before .before .keyword-at .ensures) (c .before .before .before .before .before .before .before .before .pre .0 .short), (c .before .before .before .before .before .before .before .before .pre .0 .ready, c .before .before .before .before .before .before .before .before .pre .1)))
+obey-requires c κs =
+    let k = said c in
+    let f = k .before .before in
+    let s = began f in
+    (s .pre .0 .fitting, (step-line _ (f .field-start .ensures) (k .keyword-at .ensures) (s .pre .0 .short), (s .pre .0 .ready, s .pre .1)))
 
 same-length : tie.Need-same-length
 same-length c = search needs
@@ -22,13 +39,16 @@ same-length-2 : tie.Need-same-length-2
 same-length-2 c = search needs
 
 returns : tie.Need-returns
-returns c = step-told _ _ _ _ _ (c .before .before .before .before .before .before .before .before .before .before .before .before .before .pre .0 .short) (asked-all _ _ _ _ (step-as _ (c .before .before .before .before .before .before .before .before .before .field-start .ensures) (c .before .before .before .before .before .before .before .keyword-at .ensures) _ _ (c .before .before .before .before .before .before .before .before .if1 .taken)) (c .before .before .before .before .obey .ensures))
+returns c = step-told _ _ _ _ _ (began (heard c .before .before) .pre .0 .short) (asked-all _ _ _ _ (step-as _ (heard c .before .before .field-start .ensures) (heard c .keyword-at .ensures) _ _ (heard c .before .if1 .taken)) (did c .obey .ensures))
 
 ended-requires : tie.Need-ended-requires
 ended-requires c κs = search needs
 
 returns-2 : tie.Need-returns-2
-returns-2 c = step-told _ _ _ _ _ (c .before .before .before .before .before .before .pre .0 .short) (asked-all _ _ _ _ (step-blank _ _ _ (c .before .before .field-start .ensures) (c .before .if1 .left)) (rests-all _ _ _ (c .before .before .before .before .before .before .pre .0 .ready) (c .ended .ensures) _))
+returns-2 c =
+    let f = c .before .before in
+    let s = began f in
+    step-told _ _ _ _ _ (s .pre .0 .short) (asked-all _ _ _ _ (step-blank _ _ _ (f .field-start .ensures) (c .before .if1 .left)) (rests-all _ _ _ (s .pre .0 .ready) (c .ended .ensures) _))
 
 pub step-spec : {M : Type 1} → statement M
 step-spec =

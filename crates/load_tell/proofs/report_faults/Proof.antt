@@ -17,6 +17,10 @@ Inv-loop reports₀ faults n₀ i₀ reports n i =
 abbrev μ-loop : tie.MeasureT-loop
 μ-loop reports₀ faults n₀ i₀ reports n i = length faults - i
 
+-- the turn, from the place where its fault is told
+abbrev turned : tie.After-shared-slice-known2 Inv-loop μ-loop → tie.In-loop Inv-loop μ-loop
+turned c = c .before .before
+
 loop-holds : tie.Need-loop-holds Inv-loop μ-loop
 loop-holds c = (omega arith, told-none _, refl)
 
@@ -28,7 +32,9 @@ shared-slice-read-report c = search needs
 
 report-requires : tie.Need-report-requires Inv-loop μ-loop
 report-requires c κs =
-    turn-room _ _ _ _ (c .before .before .loop-test .taken) (c .before .before .before .loop .inv .1) (c .before .before .before .before .before .before .pre)
+    let t = turned c in
+    let w = t .before in
+    turn-room _ _ _ _ (t .loop-test .taken) (w .loop .inv .1) (w .before .before .before .pre)
 
 add-i : tie.Need-add-i Inv-loop μ-loop
 add-i c = omega arith
@@ -39,9 +45,10 @@ loop-less c = omega arith
 loop-again : tie.Need-loop-again Inv-loop μ-loop
 loop-again c =
     let k = c .before .before in
-    let w = c .before .before .before .before .before .before in (
+    let t = turned (k .before) in
+    let w = t .before in (
       omega arith,
-      turn-told _ _ _ (c .before .before .before .before .before .loop-test .taken) (w .loop .inv .1) (k .report .ensures),
+      turn-told _ _ _ (t .loop-test .taken) (w .loop .inv .1) (k .report .ensures),
       k .report .kept .0 ∙ w .loop .inv .2,
     )
 

@@ -7,6 +7,13 @@ use borrow.Author.Needs.{needs}
 use Rattle.load_tell.proofs.report_outcome.Statement.{statement}
 use Rattle.load_tell.proofs.report_outcome.Tie as tie
 
+-- the fault known, from the place where it is told: of a record that is dropped, of one that stops the load
+abbrev dropped : tie.After-report-arg → tie.After-outcome
+dropped c = c .before .before
+
+abbrev stopped : tie.After-struct-known → tie.After-outcome2
+stopped c = c .before .before .before
+
 enum-told : tie.Need-enum-told
 enum-told c = search needs
 
@@ -18,7 +25,7 @@ enum-known-outcome c = search needs
 
 report-requires : tie.Need-report-requires
 unfolding outcomeReports
-report-requires c κs = tellable-of outcomeReports (c .before .before .outcome .given .1) (c .before .before .before .before .before .pre)
+report-requires c κs = let k = dropped c in tellable-of outcomeReports (k .outcome .given .1) (k .before .before .before .pre)
 
 enum-told-3 : tie.Need-enum-told-3
 enum-told-3 c = search needs
@@ -28,7 +35,7 @@ enum-known-outcome-2 c = search needs
 
 report-if-requires : tie.Need-report-if-requires
 unfolding outcomeReports
-report-if-requires c κs = tellable-of outcomeReports (c .before .before .before .outcome2 .given .1) (c .before .before .before .before .before .before .pre)
+report-if-requires c κs = let k = stopped c in tellable-of outcomeReports (k .outcome2 .given .1) (k .before .before .before .pre)
 
 returns : tie.Need-returns
 unfolding outcomeReports
@@ -43,7 +50,7 @@ same-length c = search needs
 
 returns-3 : tie.Need-returns-3
 unfolding outcomeReports
-returns-3 c = rw (c .before .before .before .before .before .outcome .given .1) (c .before .before .report .ensures ∙ told-single _ _)
+returns-3 c = let o = c .before .before in rw (dropped (o .before) .outcome .given .1) (o .report .ensures ∙ told-single _ _)
 
 returns-4 : tie.Need-returns-4
 unfolding outcomeReports
@@ -54,7 +61,7 @@ same-length-2 c = search needs
 
 returns-5 : tie.Need-returns-5
 unfolding outcomeReports
-returns-5 c = rw (c .before .before .before .before .before .before .outcome2 .given .1) (c .before .before .report-if .ensures)
+returns-5 c = let o = c .before .before in rw (stopped (o .before) .outcome2 .given .1) (o .report-if .ensures)
 
 pub report-outcome-spec : {M : Type 1} → statement M
 report-outcome-spec =

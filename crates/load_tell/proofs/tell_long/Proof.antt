@@ -20,7 +20,7 @@ same-length : tie.Need-same-length
 same-length c = search needs
 
 returns : tie.Need-returns
-returns c = told-from _ _ (c .before .before .report .ensures) (stopped-by _ (c .before .before .before .before .tally .ensures) (c .before .before .before .before .before .blameless .ensures))
+returns c = let o = c .before .before in told-from _ _ (o .report .ensures) (stopped-by _ (o .before .before .tally .ensures) (o .before .before .before .blameless .ensures))
 
 pub tell-long-spec : {M : Type 1} → statement M
 tell-long-spec = tie.close (tie.spec blameless-requires tally-requires report-requires same-length returns)
