@@ -276,7 +276,7 @@ familyOf key.Local = Basically Local
 familyOf key.Comment = Basically PassedOver
 familyOf key.Unknown = Basically Unknown
 
--- $ keywords are passed over, and what follows with them
+-- a keyword with a single `$` is passed over as the others are, and starts skipping
 unfoldable pub basicAsk : Desk → Basic → Word → List Word → Ask
 basicAsk d Ident w ws = rests (identOutcome (headOf ws) (versionOf (headOf ws .chars)))
 basicAsk d Clear w ws = clearAsk d w ws
