@@ -28,10 +28,10 @@ abbrev pub AllFit : Desk → List Entry → Type 0
 AllFit d [] = Unit {0}
 AllFit d (e ∷ es) = EntryFits d e × AllFit d es
 
--- conditions that fit a report
-unfoldable pub Small : List ℕ → Type 0
+-- faults whose conditions fit a report
+unfoldable pub Small : List Fault → Type 0
 Small [] = Unit {0}
-Small (c ∷ cs) = (c < conditionSpan) × Small cs
+Small (f ∷ fs) = (f .condition < conditionSpan) × Small fs
 
 -- the highest page that a table has: CLEAR ALL finds a table for a page up to it, and none beyond (law `all-ask`)
 unfoldable pub highestPage : Desk → ℕ

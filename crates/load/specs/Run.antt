@@ -1,30 +1,37 @@
 -- The load: one step a record, until a record stops it; then reports, tallies and the closing number of what was read (paper 01,
--- "Keywords and conditions", ENDDATA; "Reports, tallies, closing number"; §4.2, §5.3).
+-- "Keywords and conditions", ENDDATA; "Reports, tallies, closing number"; §4.2, §5.3; paper 02, C-11).
 -- Assumes nothing.
 use mathlib.Core.Bool.{Bool, true, false, cond, not}
 use mathlib.Core.List.{List, [], _∷_, _++_, map}
-use Prim.Native.Nat.{ℕ, suc, _+_, _*_}
+use Prim.Native.Nat.{ℕ, suc, _+_, _*_, _/_, _%_}
 use lib.Dec.{eqb}
 use lib.ListN.{length, take}
 use Rattle.cells.specs.Put.{put}
 use Rattle.store_desk.specs.declared.Desk.{Desk}
 use Rattle.text_records.specs.Stream.{recordsOf}
+use Rattle.text_records.specs.Cleaning.{columnOf}
+use Rattle.load.specs.declared.Fault.{Fault}
 use Rattle.load.specs.declared.State.{State}
 use Rattle.load.specs.declared.Outcome.{Outcome}
 use Rattle.load.specs.declared.Totals.{Totals}
 use Rattle.load.specs.declared.Outcome.the-variants.{Blank, Passed, Dropped, Obeyed, Stopped}
 use Rattle.load.specs.Condition.{noEnddata, isError}
-use Rattle.load.specs.Step.{Step, recordStep, conditionsOf, nothingOpen}
+use Rattle.load.specs.Step.{Step, recordStep, reportedOf, nothingOpen}
 
 -- ---- the fold
 
--- a report: the number of the record, from 1, and the condition
+-- a report: the number of the record, from 1, the condition, and the column of the field that is blamed, from 1 (0: none is)
 pub record Report : Type 0 where
   pub number : ℕ
   pub condition : ℕ
+  pub column : ℕ
 
-abbrev pub reportsAt : ℕ → List ℕ → List Report
-reportsAt n conditions = map (λ (c : ℕ). record { number = n; condition = c }) conditions
+-- of a fault of record n, with the characters r as received: a place in its text is told as its column
+abbrev pub reportOf : ℕ → List ℕ → Fault → Report
+reportOf n r f = record { number = n; condition = f .condition; column = columnOf r (f .place) }
+
+abbrev pub reportsAt : ℕ → List ℕ → List Fault → List Report
+reportsAt n r fs = map (λ (f : Fault). reportOf n r f) fs
 
 unfoldable pub stops : Outcome → Bool
 stops Blank = false
@@ -53,7 +60,7 @@ only n r x =
       store = x .store;
       stopped = true;
       outcomes = x .outcome ∷ [];
-      reports = reportsAt n (conditionsOf r x);
+      reports = reportsAt n r (reportedOf r x);
     }
 
 -- record r of number n, and what comes after it
@@ -64,7 +71,7 @@ andThen n r x rest =
       store = rest .store;
       stopped = rest .stopped;
       outcomes = x .outcome ∷ rest .outcomes;
-      reports = reportsAt n (conditionsOf r x) ++ rest .reports;
+      reports = reportsAt n r (reportedOf r x) ++ rest .reports;
     }
 
 -- records after n others
@@ -81,9 +88,10 @@ loadOf d t stream = runFrom d 0 nothingOpen t (recordsOf stream)
 
 -- ---- what a run is told as
 
--- a stream that ends before ENDDATA, with no 0091 or 0099, gives 0100 under the number of records read
+-- a stream that ends before ENDDATA, with no 0091 or 0099, gives 0100 under the number of records read, and blames no field
 unfoldable pub allReports : Run → List Report
-allReports r = cond (r .stopped) (r .reports) (r .reports ++ (record { number = length (r .outcomes); condition = noEnddata } ∷ []))
+allReports r =
+    cond (r .stopped) (r .reports) (r .reports ++ (record { number = length (r .outcomes); condition = noEnddata; column = 0 } ∷ []))
 
 -- each record read is in one tally; ENDDATA is obeyed, and what 0091 or 0099 stopped is dropped
 pub data Class : Type 0 where
@@ -123,12 +131,28 @@ closingOf rs =
     let w = lastOf (λ c. not (isError c)) 0 rs in
     cond (eqb e 0) w e
 
--- a report in 32 bits: the record number in the upper 18, the condition in the lower 14
+-- a report in 64 bits (C-11): the record number in the upper 18, then 14 of the condition, 7 of the column, and 25 that are zero
 abbrev pub conditionSpan : ℕ
-conditionSpan = 16384
+conditionSpan = 16_384
+
+abbrev pub columnSpan : ℕ
+columnSpan = 128
+
+abbrev pub zeroSpan : ℕ
+zeroSpan = 33_554_432
 
 unfoldable pub reportWord : Report → ℕ
-reportWord r = r .number * conditionSpan + r .condition
+reportWord r = ((r .number * conditionSpan + r .condition) * columnSpan + r .column) * zeroSpan
+
+-- and what a word says
+abbrev pub numberIn : ℕ → ℕ
+numberIn w = w / zeroSpan / columnSpan / conditionSpan
+
+abbrev pub conditionIn : ℕ → ℕ
+conditionIn w = w / zeroSpan / columnSpan % conditionSpan
+
+abbrev pub columnIn : ℕ → ℕ
+columnIn w = w / zeroSpan % columnSpan
 
 -- the lent list afterwards: as many reports as it has room for, and the entries not stored to as they were
 unfoldable pub storedIn : List ℕ → List Report → List ℕ

@@ -1,7 +1,7 @@
 -- One record's step: what it asks for, done to the store (paper 01, "Keywords and conditions"; "The store").
 -- Assumes nothing.
 use mathlib.Core.Bool.{Bool, cond}
-use mathlib.Core.List.{List, [], _∷_, _++_, map}
+use mathlib.Core.List.{List, [], _∷_, _++_}
 use Prim.Native.Nat.{ℕ}
 use lib.Dec.{ltb}
 use Rattle.store_desk.specs.declared.Desk.{Desk}
@@ -86,24 +86,21 @@ recordStep d s r t = acted d s t (askOf d s r)
 
 -- ---- what is reported of it
 
--- ignored characters are reported at most once a record, 0701 first; an over-long record's are not
-abbrev pub oneIf : Bool → ℕ → List ℕ
-oneIf b c = cond b (c ∷ []) []
+-- ignored characters are reported at most once a record, 0701 first; an over-long record's are not. No field is blamed for them
+abbrev pub oneIf : Bool → Fault → List Fault
+oneIf b f = cond b (f ∷ []) []
 
-unfoldable pub ignoredIn : List ℕ → List ℕ
-ignoredIn r = oneIf (has isHigh r) ignoredHigh ++ oneIf (has isControl r) ignoredControl
+unfoldable pub ignoredIn : List ℕ → List Fault
+ignoredIn r = oneIf (has isHigh r) (blameNone ignoredHigh) ++ oneIf (has isControl r) (blameNone ignoredControl)
 
-unfoldable pub outcomeReports : Outcome → List ℕ
-outcomeReports Blank = []
-outcomeReports Passed = []
-outcomeReports (Dropped f) = f .condition ∷ []
-outcomeReports Obeyed = []
-outcomeReports (Stopped f) = oneIf (ltb 0 (f .condition)) (f .condition)
+-- ENDDATA stops a load with nothing to report
+unfoldable pub outcomeFaults : Outcome → List Fault
+outcomeFaults Blank = []
+outcomeFaults Passed = []
+outcomeFaults (Dropped f) = f ∷ []
+outcomeFaults Obeyed = []
+outcomeFaults (Stopped f) = oneIf (ltb 0 (f .condition)) f
 
--- of a fault its condition is reported, and not its place
-unfoldable pub faultReports : List Fault → List ℕ
-faultReports fs = map (λ (f : Fault). f .condition) fs
-
--- the conditions of a record, in the order in which they are reported
-unfoldable pub conditionsOf : List ℕ → Step → List ℕ
-conditionsOf r x = cond (isOverLong r) [] (ignoredIn r) ++ (outcomeReports (x .outcome) ++ faultReports (x .faults))
+-- the faults of a record, in the order in which they are reported
+unfoldable pub reportedOf : List ℕ → Step → List Fault
+reportedOf r x = cond (isOverLong r) [] (ignoredIn r) ++ (outcomeFaults (x .outcome) ++ x .faults)

@@ -11,7 +11,8 @@ use Rattle.text_records.specs.Stream.{recordEnd}
 use Rattle.text_records.specs.Window.{plainEnd}
 use Rattle.text_fields.specs.Words.{wordsOf}
 use Rattle.store_code.specs.Fits.{Fitting}
-use Rattle.load.specs.Step.{Step, stepOf, recordStep, outcomeReports, faultReports, conditionsOf}
+use Rattle.load.specs.Step.{Step, stepOf, recordStep, outcomeFaults, reportedOf}
+use Rattle.load.specs.declared.Fault.{Fault}
 use Rattle.load.specs.declared.Outcome.the-variants.{Blank}
 use Rattle.load.specs.Run.{stops}
 use Rattle.load_step.specs.Held.{heldOf, HeldReady}
@@ -28,10 +29,10 @@ pub record Took : Type 0 where
 abbrev pub taken : Progress → List ℕ → List ℕ → Took
 taken p t reps = record { done = p; store = t; reports = reps }
 
--- after a step and its conditions
-unfoldable pub takenBy : Desk → Count → List ℕ → Step → List ℕ → Took
-takenBy d n reps x cs =
-    let y = toldAll (told (tallied n (x .outcome)) reps) cs in
+-- after a step of the record with the characters r, and its faults
+unfoldable pub takenBy : Desk → Count → List ℕ → List ℕ → Step → List Fault → Took
+takenBy d n r reps x fs =
+    let y = toldAll r (told (tallied n (x .outcome)) reps) fs in
     taken
     (record { held = heldOf d (x .store) (x .state); count = y .count; stopped = stops (x .outcome) })
     (x .store)
@@ -41,13 +42,13 @@ takenBy d n reps x cs =
 abbrev pub recordTaken : Desk → Progress → List ℕ → List ℕ → List ℕ → Took
 recordTaken d p r t reps =
     let x = recordStep d (p .held .state) r t in
-    takenBy d (p .count) reps x (conditionsOf r x)
+    takenBy d (p .count) r reps x (reportedOf r x)
 
 -- after a record that is not over-long, from its text and the sorts of ignored characters in it
-abbrev pub textTaken : Desk → Progress → List ℕ → Bool → Bool → List ℕ → List ℕ → Took
-textTaken d p text high control t reps =
+abbrev pub textTaken : Desk → Progress → List ℕ → List ℕ → Bool → Bool → List ℕ → List ℕ → Took
+textTaken d p r text high control t reps =
     let x = stepOf d (p .held .state) (wordsOf 0 text) t in
-    takenBy d (p .count) reps x (ignoredBy high control ++ (outcomeReports (x .outcome) ++ faultReports (x .faults)))
+    takenBy d (p .count) r reps x (ignoredBy high control ++ (outcomeFaults (x .outcome) ++ x .faults))
 
 -- after a record with no character
 abbrev pub blankTaken : Progress → Progress

@@ -48,28 +48,37 @@ fn parted(held: Held) -> Held
     }
 }
 
-// A record that is not over-long, from its text. What its faults leave in the lent list is no one's to read afterwards.
+// A record that is not over-long, from its text; where something is reported, its column is sought in the record as received. What its faults leave in the lent list is no one's to read afterwards.
 fn take_text(
     desk: Desk,
     done: Progress,
+    received: &[u8],
     text: &[u8],
     high: bool,
     control: bool,
     store: &mut [u8],
-    reports: &mut [u32],
+    reports: &mut [u64],
     faults: &mut [u32],
 ) -> Progress
-    requires { ⌜ length (now text) ≤ longest ⌝ }
+    requires { ⌜ (length (now text) ≤ longest) × (length (now received) ≤ longest) ⌝ }
     requires { ⌜ Taking desk done (length (now text)) (now store) ⌝ }
     requires { ⌜ Room (now faults) ⌝ }
-    ensures { λ r. ⌜ taken r (now (store .exit)) (now (reports .exit)) ≡ textTaken desk done (now (text .entry)) high control (now (store .entry)) (now (reports .entry)) ⌝ }
+    ensures { λ r. ⌜ taken r (now (store .exit)) (now (reports .exit)) ≡ textTaken desk done (now (received .entry)) (now (text .entry)) high control (now (store .entry)) (now (reports .entry)) ⌝ }
 {
     let held = done.held;
     let s = load_step::step(desk, held, text, store, &mut *faults);
     let count = done.count;
     let outcome = s.outcome;
     let n = s.faults;
-    let count = load_tell::tell(reports, count, high, control, outcome, &faults[..n]);
+    let count = load_tell::tell(
+        reports,
+        count,
+        received,
+        high,
+        control,
+        outcome,
+        &faults[..n],
+    );
     let held = parted(s.held);
     Progress {
         held,
@@ -87,7 +96,7 @@ fn take_record(
     end: usize,
     plain: bool,
     store: &mut [u8],
-    reports: &mut [u32],
+    reports: &mut [u64],
     faults: &mut [u32],
 ) -> Progress
     requires { ⌜ Spans (now stream) at end plain ⌝ }
@@ -103,7 +112,7 @@ fn take_record(
         let count = done.count;
         return Progress {
             held,
-            count: load_tell::tell_long(reports, count),
+            count: load_tell::tell_long(reports, count, &stream[at..end]),
             stopped: true,
         };
     }
@@ -119,6 +128,7 @@ fn take_record(
     take_text(
         desk,
         done,
+        &stream[at..end],
         &bytes[..n],
         high,
         control,
@@ -167,7 +177,7 @@ fn begun() -> Progress
 }
 
 // Loads a stream: record after record until one stops the load; a stream that ends before gives 0100.
-pub fn run(desk: Desk, store: &mut [u8], stream: &[u8], reports: &mut [u32]) -> Totals
+pub fn run(desk: Desk, store: &mut [u8], stream: &[u8], reports: &mut [u64]) -> Totals
     requires { ⌜ Fitting desk (now store) ⌝ }
     requires { ⌜ length (now stream) ≤ mostRecords ⌝ }
     ensures { λ r. ⌜ runLoaded r (now (store .exit)) (now (reports .exit)) ≡ loadedOf (loadOf desk (now (store .entry)) (now (stream .entry))) (now (reports .entry)) ⌝ }
@@ -201,5 +211,6 @@ pub fn run(desk: Desk, store: &mut [u8], stream: &[u8], reports: &mut [u32]) -> 
         at = text_records::next_start(stream, end);
     }
     let count = done.count;
-    load_tell::totals(load_tell::report(reports, count, NO_ENDDATA))
+    let fault = load::blameless(NO_ENDDATA);
+    load_tell::totals(load_tell::report(reports, count, &stream[at..], fault))
 }

@@ -3,15 +3,18 @@
 -- Assumes nothing.
 use mathlib.Core.Bool.{Bool, cond, not}
 use mathlib.Core.List.{List, [], _∷_, _++_, map}
-use Prim.Native.Nat.{ℕ, _+_, _%_, _≤_, _<_}
+use Prim.Native.Nat.{ℕ, _+_, _/_, _%_, _≤_, _<_}
 use lib.Dec.{eqb}
 use lib.ListN.{length, set}
+use Rattle.text_records.specs.Received.{longest}
+use Rattle.text_records.specs.Cleaning.{columnOf}
+use Rattle.load.specs.declared.Fault.{Fault}
 use Rattle.load.specs.declared.Outcome.{Outcome}
 use Rattle.load.specs.declared.Totals.{Totals}
 use Rattle.load.specs.Condition.{isError, ignoredHigh, ignoredControl}
-use Rattle.load.specs.Step.{oneIf, outcomeReports}
-use Rattle.load.specs.Run.{Report, Class, blank, passed, dropped, obeyed, classOf, eqClass, tallyOf, lastOf, conditionSpan, reportWord}
-use Rattle.load.specs.Fits.{Small}
+use Rattle.load.specs.Item.{blameNone}
+use Rattle.load.specs.Step.{oneIf, outcomeFaults}
+use Rattle.load.specs.Run.{Report, reportOf, Class, blank, passed, dropped, obeyed, classOf, eqClass, tallyOf, lastOf, conditionSpan, reportWord}
 use Rattle.load_tell.specs.declared.Count.{Count}
 
 -- ---- what the counters are after the outcomes and the reports so far
@@ -74,9 +77,6 @@ counted n c =
       warning = cond (not (isError c)) c (n .warning);
     }
 
-abbrev pub reportWordOf : ℕ → ℕ → ℕ
-reportWordOf number condition = reportWord (record { number = number; condition = condition })
-
 -- the counters and the lent list
 pub record Told : Type 0 where
   pub count : Count
@@ -85,27 +85,31 @@ pub record Told : Type 0 where
 abbrev pub told : Count → List ℕ → Told
 told n reps = record { count = n; list = reps }
 
--- a full list stores no more, but the count goes on: past its end `set` changes nothing
-unfoldable pub toldOne : Told → ℕ → Told
-toldOne x c = told (counted (x .count) c) (set (x .list) (x .count .reports) (reportWordOf (x .count .records) c))
+-- a fault of the record with the characters r. A full list stores no more, but the count goes on: past its end `set` changes nothing
+unfoldable pub toldOne : List ℕ → Told → Fault → Told
+toldOne r x f =
+    told (counted (x .count) (f .condition)) (set (x .list) (x .count .reports) (reportWord (reportOf (x .count .records) r f)))
 
-unfoldable pub toldAll : Told → List ℕ → Told
-toldAll x [] = x
-toldAll x (c ∷ cs) = toldAll (toldOne x c) cs
+unfoldable pub toldAll : List ℕ → Told → List Fault → Told
+toldAll r x [] = x
+toldAll r x (f ∷ fs) = toldAll r (toldOne r x f) fs
 
--- the conditions of ignored characters, 0701 first
-abbrev pub ignoredBy : Bool → Bool → List ℕ
-ignoredBy high control = oneIf high ignoredHigh ++ oneIf control ignoredControl
+-- ignored characters, 0701 first
+abbrev pub ignoredBy : Bool → Bool → List Fault
+ignoredBy high control = oneIf high (blameNone ignoredHigh) ++ oneIf control (blameNone ignoredControl)
 
--- the conditions of faults as words: below the place
-unfoldable pub conditionsIn : List ℕ → List ℕ
-conditionsIn ws = map (λ (w : ℕ). w % conditionSpan) ws
+-- a fault as a word: its place above the condition
+abbrev pub faultIn : ℕ → Fault
+faultIn w = record { condition = w % conditionSpan; place = w / conditionSpan }
 
--- the conditions of a record, in the order in which they are reported
-abbrev pub saidOf : Bool → Bool → Outcome → List ℕ → List ℕ
-saidOf high control o ws = ignoredBy high control ++ (outcomeReports o ++ conditionsIn ws)
+unfoldable pub faultsAs : List ℕ → List Fault
+faultsAs ws = map faultIn ws
 
--- ---- what fits 32 bits: a record number has 18 bits and a condition 14
+-- the faults of a record, in the order in which they are reported
+abbrev pub saidOf : Bool → Bool → Outcome → List ℕ → List Fault
+saidOf high control o ws = ignoredBy high control ++ (outcomeFaults o ++ faultsAs ws)
+
+-- ---- what fits 64 bits: a record number has 18 bits, a condition 14, a column 7
 abbrev pub mostRecords : ℕ
 mostRecords = 262143
 
@@ -113,11 +117,16 @@ mostRecords = 262143
 abbrev pub mostReports : ℕ
 mostReports = 1048576
 
--- counters that can take these conditions
-pub record Tellable (n : Count) (cs : List ℕ) : Type 0 where
+-- faults, of a record with the characters r, that fit a report
+unfoldable pub Fit : List ℕ → List Fault → Type 0
+Fit r [] = Unit {0}
+Fit r (f ∷ fs) = (f .condition < conditionSpan) × (columnOf r (f .place) ≤ longest) × Fit r fs
+
+-- counters that can take these
+pub record Tellable (n : Count) (r : List ℕ) (fs : List Fault) : Type 0 where
   pub numbered : n .records ≤ mostRecords
-  pub room : n .reports + length cs ≤ mostReports
-  pub small : Small cs
+  pub room : n .reports + length fs ≤ mostReports
+  pub fit : Fit r fs
 
 -- counters that can take one more record
 pub record Countable (n : Count) : Type 0 where

@@ -1,16 +1,18 @@
 // What becomes of a record's outcome: the counters of a load, and the reports in the lent list (paper 01, "Reports, tallies, closing
-// number"; §4.2). Every load counts and tells with these.
+// number"; §4.2; paper 02, C-11). Every load counts and tells with these.
 ghost use mathlib.Core.Path.{_≡_};
 ghost use mathlib.Core.List.{[], _∷_};
 ghost use Prim.Native.Nat.{_≤_, _<_};
 ghost use lib.ListN.{set};
+ghost use Rattle.text_records.specs.Received.{longest};
 ghost use Rattle.load.specs.Condition.{isError, overLongRecord};
 ghost use Rattle.load.specs.Item.{blameNone};
-ghost use Rattle.load.specs.Step.{oneIf, outcomeReports};
-ghost use Rattle.load.specs.Run.{stops as stopsAt};
+ghost use Rattle.load.specs.Step.{oneIf, outcomeFaults};
+ghost use Rattle.load.specs.Run.{stops as stopsAt, conditionSpan, reportWord};
 ghost use Rattle.load_tell.specs.Count.{countOf, closingBy, totalsBy, tallied, counted as countedOf, told, toldOne, toldAll};
-ghost use Rattle.load_tell.specs.Count.{conditionsIn, saidOf, mostRecords, mostReports, Tellable, Countable};
+ghost use Rattle.load_tell.specs.Count.{faultIn, faultsAs, saidOf, mostRecords, mostReports, Tellable, Countable};
 use cells::place;
+use load::Fault;
 use load::Outcome;
 use load::Totals;
 
@@ -32,8 +34,15 @@ const IGNORED_CONTROL: u32 = 702;
 
 const OVER_LONG_RECORD: u32 = 91;
 
-// The record number stands in the upper 18 bits of a report.
-const CONDITION_SPAN: u32 = 16384;
+// A report's condition, its column, and the bits below that are zero.
+const CONDITION_SPAN: u64 = 16384;
+
+const COLUMN_SPAN: u64 = 128;
+
+const ZERO_SPAN: u64 = 33554432;
+
+// A fault's place stands above its condition.
+const FAULT_SPAN: u32 = 16384;
 
 // Before the first record.
 pub fn nothing_read() -> Count
@@ -80,7 +89,7 @@ fn counted(count: Count, condition: u32) -> Count
 }
 
 // A full list stores no more; entries not stored to keep their old values.
-fn store_word(reports: &mut [u32], at: usize, word: u32)
+fn store_word(reports: &mut [u64], at: usize, word: u64)
     ensures { λ _. ⌜ now (reports .exit) ≡ set (now (reports .entry)) at word ⌝ }
 {
     if at < reports.len() {
@@ -88,49 +97,71 @@ fn store_word(reports: &mut [u32], at: usize, word: u32)
     }
 }
 
-// The one place where a report is made and written.
-pub fn report(reports: &mut [u32], count: Count, condition: u32) -> Count
-    requires { ⌜ Tellable count (condition ∷ []) ⌝ }
-    ensures { λ r. ⌜ told r (now (reports .exit)) ≡ toldOne (told count (now (reports .entry))) condition ⌝ }
+// 18 bits, 14, 7, and 25 that are zero.
+fn report_word(number: u32, condition: u32, column: usize) -> u64
+    requires { ⌜ (number ≤ mostRecords) × (condition < conditionSpan) × (column ≤ longest) ⌝ }
+    ensures { λ r. ⌜ r ≡ reportWord (record { number = number; condition = condition; column = column }) ⌝ }
 {
-    let word = count.records * CONDITION_SPAN + condition;
-    store_word(reports, place(count.reports), word);
-    counted(count, condition)
+    let number = number as u64;
+    let condition = condition as u64;
+    let column = column as u64;
+    ((number * CONDITION_SPAN + condition) * COLUMN_SPAN + column) * ZERO_SPAN
 }
 
-fn report_if(reports: &mut [u32], count: Count, so: bool, condition: u32) -> Count
-    requires { ⌜ Tellable count (oneIf so condition) ⌝ }
-    ensures { λ r. ⌜ told r (now (reports .exit)) ≡ toldAll (told count (now (reports .entry))) (oneIf so condition) ⌝ }
+// The one place where a report is made and written: a place in the text is told as its column in the record as received.
+pub fn report(reports: &mut [u64], count: Count, received: &[u8], fault: Fault) -> Count
+    requires { ⌜ Tellable count (now received) (fault ∷ []) ⌝ }
+    ensures { λ r. ⌜ told r (now (reports .exit)) ≡ toldOne (now (received .entry)) (told count (now (reports .entry))) fault ⌝ }
+{
+    let column = text_records::column(received, fault.place);
+    let word = report_word(count.records, fault.condition, column);
+    store_word(reports, place(count.reports), word);
+    counted(count, fault.condition)
+}
+
+fn report_if(reports: &mut [u64], count: Count, received: &[u8], so: bool, fault: Fault) -> Count
+    requires { ⌜ Tellable count (now received) (oneIf so fault) ⌝ }
+    ensures { λ r. ⌜ told r (now (reports .exit)) ≡ toldAll (now (received .entry)) (told count (now (reports .entry))) (oneIf so fault) ⌝ }
 {
     if so {
-        return report(reports, count, condition);
+        return report(reports, count, received, fault);
     }
     count
 }
 
 // ENDDATA stops a load without a report.
-fn report_outcome(reports: &mut [u32], count: Count, outcome: Outcome) -> Count
-    requires { ⌜ Tellable count (outcomeReports outcome) ⌝ }
-    ensures { λ r. ⌜ told r (now (reports .exit)) ≡ toldAll (told count (now (reports .entry))) (outcomeReports outcome) ⌝ }
+fn report_outcome(reports: &mut [u64], count: Count, received: &[u8], outcome: Outcome) -> Count
+    requires { ⌜ Tellable count (now received) (outcomeFaults outcome) ⌝ }
+    ensures { λ r. ⌜ told r (now (reports .exit)) ≡ toldAll (now (received .entry)) (told count (now (reports .entry))) (outcomeFaults outcome) ⌝ }
 {
     match outcome {
         Outcome::Blank => count,
         Outcome::Passed => count,
-        Outcome::Dropped(f) => report(reports, count, f.condition),
+        Outcome::Dropped(f) => report(reports, count, received, f),
         Outcome::Obeyed => count,
-        Outcome::Stopped(f) => report_if(reports, count, 0 < f.condition, f.condition),
+        Outcome::Stopped(f) => report_if(reports, count, received, 0 < f.condition, f),
     }
 }
 
-// The conditions of the items that a record dropped.
-fn report_faults(reports: &mut [u32], count: Count, faults: &[u32]) -> Count
-    requires { ⌜ Tellable count (conditionsIn (now faults)) ⌝ }
-    ensures { λ r. ⌜ told r (now (reports .exit)) ≡ toldAll (told count (now (reports .entry))) (conditionsIn (now (faults .entry))) ⌝ }
+// A fault in one word: its place above the condition's 14 bits.
+fn fault_in(word: u32) -> Fault
+    ensures { λ r. ⌜ r ≡ faultIn word ⌝ }
+{
+    Fault {
+        condition: word % FAULT_SPAN,
+        place: (word / FAULT_SPAN) as usize,
+    }
+}
+
+// The items that a record dropped.
+fn report_faults(reports: &mut [u64], count: Count, received: &[u8], faults: &[u32]) -> Count
+    requires { ⌜ Tellable count (now received) (faultsAs (now faults)) ⌝ }
+    ensures { λ r. ⌜ told r (now (reports .exit)) ≡ toldAll (now (received .entry)) (told count (now (reports .entry))) (faultsAs (now (faults .entry))) ⌝ }
 {
     let mut n = count;
     let mut i = 0;
     while i < faults.len() {
-        n = report(reports, n, faults[i] % CONDITION_SPAN);
+        n = report(reports, n, received, fault_in(faults[i]));
         i += 1;
     }
     n
@@ -211,32 +242,40 @@ pub fn stops(outcome: Outcome) -> bool
     }
 }
 
-// A record's outcome tallied, and its conditions reported: ignored characters, the outcome's, the dropped items'.
+// A record's outcome tallied, and its faults reported: ignored characters, the outcome's, the dropped items'.
 pub fn tell(
-    reports: &mut [u32],
+    reports: &mut [u64],
     count: Count,
+    received: &[u8],
     high: bool,
     control: bool,
     outcome: Outcome,
     faults: &[u32],
 ) -> Count
     requires { ⌜ Countable count ⌝ }
-    requires { ⌜ Tellable (tallied count outcome) (saidOf high control outcome (now faults)) ⌝ }
-    ensures { λ r. ⌜ told r (now (reports .exit)) ≡ toldAll (told (tallied count outcome) (now (reports .entry))) (saidOf high control outcome (now (faults .entry))) ⌝ }
+    requires { ⌜ Tellable (tallied count outcome) (now received) (saidOf high control outcome (now faults)) ⌝ }
+    ensures { λ r. ⌜ told r (now (reports .exit)) ≡ toldAll (now (received .entry)) (told (tallied count outcome) (now (reports .entry))) (saidOf high control outcome (now (faults .entry))) ⌝ }
 {
     let a = tally(count, outcome);
-    let b = report_if(reports, a, high, IGNORED_HIGH);
-    let c = report_if(reports, b, control, IGNORED_CONTROL);
-    let d = report_outcome(reports, c, outcome);
-    report_faults(reports, d, faults)
+    let b = report_if(reports, a, received, high, load::blameless(IGNORED_HIGH));
+    let c = report_if(
+        reports,
+        b,
+        received,
+        control,
+        load::blameless(IGNORED_CONTROL),
+    );
+    let d = report_outcome(reports, c, received, outcome);
+    report_faults(reports, d, received, faults)
 }
 
 // An over-long record stops the load, whatever its characters are.
-pub fn tell_long(reports: &mut [u32], count: Count) -> Count
+pub fn tell_long(reports: &mut [u64], count: Count, received: &[u8]) -> Count
     requires { ⌜ Countable count ⌝ }
     requires { ⌜ count .reports ≤ mostRecords ⌝ }
-    ensures { λ r. ⌜ told r (now (reports .exit)) ≡ toldOne (told (tallied count (Outcome.Stopped (blameNone overLongRecord))) (now (reports .entry))) overLongRecord ⌝ }
+    ensures { λ r. ⌜ told r (now (reports .exit)) ≡ toldOne (now (received .entry)) (told (tallied count (Outcome.Stopped (blameNone overLongRecord))) (now (reports .entry))) (blameNone overLongRecord) ⌝ }
 {
-    let n = tally(count, Outcome::Stopped(load::blameless(OVER_LONG_RECORD)));
-    report(reports, n, OVER_LONG_RECORD)
+    let fault = load::blameless(OVER_LONG_RECORD);
+    let n = tally(count, Outcome::Stopped(fault));
+    report(reports, n, received, fault)
 }

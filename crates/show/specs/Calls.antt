@@ -1,6 +1,6 @@
--- What each public call answers and what it leaves in every lent list, and its promise by name (paper 01, "Calls turned away"). The
--- refusals are tested in the paper's order, and each leaves all lent memory as it was. An answer is told by the paper's number and by what
--- it tells beside it (`Reply` of `store_desk`); the promise of `needed` stands there too.
+-- What each public call answers and what it leaves in every lent list, and its promise by name (paper 01, "Calls turned away"; paper 02,
+-- C-11). The refusals are tested in the paper's order, and each leaves all lent memory as it was. An answer is told by the paper's number, by
+-- the place of what is out of form, and by what it tells beside them (`Reply` of `store_desk`); the promise of `needed` stands there too.
 -- Assumes nothing.
 use mathlib.Core.Bool.{cond}
 use mathlib.Core.List.{List, [], _∷_}
@@ -14,13 +14,15 @@ use Rattle.cells.specs.Search.{Found, at, nowhere}
 use Rattle.store_desk.specs.declared.Desk.{Desk}
 use Rattle.store_desk.specs.declared.Key.{Key}
 use Rattle.store_desk.specs.declared.Kind.the-variants.{Cue}
-use Rattle.store_desk.specs.declared.Refusal.the-variants.{R1, R2, R3, R4, R5, R6}
+use Rattle.store_desk.specs.declared.Refusal.the-variants.{R1, R2, R3, R4a, R4b, R4c, R5, R6}
 use Rattle.store_desk.specs.Size.{inRangeOf, storeLength, headLength, slotLength}
 use Rattle.store_desk.specs.Name.{Name}
-use Rattle.store_desk.specs.Refusal.{Reply, replied, refused, refusalNumber}
+use Rattle.store_desk.specs.Refusal.{Reply, replied, refused, refusalWord}
 use Rattle.store.specs.Slots.{find, levelsAt}
 use Rattle.store.specs.Change.{emptied as emptiedStore}
-use Rattle.store.specs.Form.{goodForm}
+use Rattle.store.specs.declared.Form.{Form}
+use Rattle.store.specs.declared.Form.the-variants.{Good, BadSlot, Repeated, BadEntry}
+use Rattle.store.specs.Form.{formOf}
 use Rattle.load.specs.declared.Totals.{Totals}
 use Rattle.load.specs.Run.{Run, loadOf, totalsOf, storedIn, allReports}
 use Rattle.save.specs.Lines.{streamOf}
@@ -39,9 +41,16 @@ use Rattle.show.specs.declared.Emptied.the-variants.{Away as EmptyAway, 
 abbrev pub mostBytes : ℕ
 mostBytes = 262143
 
--- R2, a limit outside its range; R3, a store shorter than the desk needs; R4, a store not in good form
+-- R4a, a slot out of form; R4b, a slot used twice for one memory; R4c, a patch entry out of form; each with its place, from 1
+unfoldable pub formAdmission : Form → Admission
+formAdmission Good = Admitted
+formAdmission (BadSlot i) = Away (R4a (i + 1))
+formAdmission (Repeated i) = Away (R4b (i + 1))
+formAdmission (BadEntry i) = Away (R4c (i + 1))
+
+-- R2, a limit outside its range; R3, a store shorter than the desk needs; then the store's form
 unfoldable pub admissionOf : Desk → List ℕ → Admission
-admissionOf d s = cond (inRangeOf d) (cond (leb (storeLength d) (length s)) (cond (goodForm d s) Admitted (Away R4)) (Away R3)) (Away R2)
+admissionOf d s = cond (inRangeOf d) (cond (leb (storeLength d) (length s)) (formAdmission (formOf d s)) (Away R3)) (Away R2)
 
 -- ---- load
 
@@ -132,12 +141,12 @@ EmptyPromise d s a t = emptiedAs (emptyReply a) t ≡ emptyCall d s
 
 -- ---- look-up: the very level bytes of a kept cue
 
--- the answer word: 0 kept, 1 not kept, else the refusal's number
+-- the answer word: 0 kept, 255 not kept, which is no refusal's number; else the refusal's number and place
 abbrev pub keptWord : ℕ
 keptWord = 0
 
 abbrev pub notKeptWord : ℕ
-notKeptWord = 1
+notKeptWord = 255
 
 -- the word, where in the store the part begins, and its bytes; the part is empty, at the store's start, where there is none
 pub record Look : Type 0 where
@@ -160,7 +169,7 @@ lookAt d s nowhere = look notKeptWord 0 []
 
 unfoldable pub lookBy : Admission → Desk → List ℕ → Key → Look
 lookBy Admitted d s key = lookAt d s (find d s (cueName key))
-lookBy (Away r) d s key = look (refusalNumber r) 0 []
+lookBy (Away r) d s key = look (refusalWord r) 0 []
 
 unfoldable pub lookCall : Desk → List ℕ → ℕ → ℕ → ℕ → Look
 lookCall d s page whole tenths = lookBy (admissionOf d s) d s (cueKey page whole tenths)
@@ -178,14 +187,17 @@ LookPromise d s page whole tenths r answer = LookedUp s r answer (lookCall d (no
 
 -- ---- find: the same as a number
 
+abbrev pub notKept : Reply
+notKept = record { number = notKeptWord; place = 0; told = [] }
+
 abbrev pub findReply : Placed → Reply
 findReply (FindAway r) = refused r
-findReply NotKept = record { number = notKeptWord; told = [] }
+findReply NotKept = notKept
 findReply (PlacedAt n) = replied (n ∷ [])
 
 unfoldable pub placedAt : Desk → Found → Reply
 placedAt d (at i) = replied ((i * slotLength d + headLength) ∷ [])
-placedAt d nowhere = record { number = notKeptWord; told = [] }
+placedAt d nowhere = notKept
 
 unfoldable pub findBy : Admission → Desk → List ℕ → Key → Reply
 findBy Admitted d s key = placedAt d (find d s (cueName key))
@@ -194,9 +206,6 @@ findBy (Away r) d s key = refused r
 unfoldable pub findCall : Desk → List ℕ → ℕ → ℕ → ℕ → Reply
 findCall d s page whole tenths = findBy (admissionOf d s) d s (cueKey page whole tenths)
 
--- its number is a refusal's, 1 for a cue that is not kept, or 0; no stream is read, so that R1 is never the answer
-abbrev pub PlacedAs : Reply → Placed → Type 0
-PlacedAs x a = (findReply a ≡ x) × (a ≡ FindAway R1 → ⊥)
-
+-- its number is a refusal's, 255 for a cue that is not kept, or 0
 abbrev pub FindPromise : Desk → List ℕ → ℕ → ℕ → ℕ → Placed → Type 0
-FindPromise d s page whole tenths a = PlacedAs (findCall d s page whole tenths) a
+FindPromise d s page whole tenths a = findReply a ≡ findCall d s page whole tenths

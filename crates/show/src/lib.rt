@@ -1,6 +1,7 @@
 // The public calls (paper 01, "Calls turned away"). None has a `requires`: every desk, store, stream and output gets an answer, and a
 // call that is turned away changes no lent byte; but the word that `look_up` is lent for its answer always has it.
 use load::Totals;
+use store::Form;
 use store::Place;
 use store_desk::Desk;
 use store_desk::Key;
@@ -11,7 +12,7 @@ ghost use mathlib.Core.Bool.{true};
 ghost use Rattle.store_code.specs.Fits.{Fitting};
 ghost use Rattle.store.specs.Form.{goodForm};
 ghost use Rattle.save.specs.Lines.{streamOf};
-ghost use Rattle.show.specs.Calls.{admissionOf, LoadPromise, writeReply, writtenAs, putCall, WritePromise, EmptyPromise, LookedUp, lookAt, LookPromise, cueName, placedAt, PlacedAs, FindPromise};
+ghost use Rattle.show.specs.Calls.{admissionOf, LoadPromise, writeReply, writtenAs, putCall, WritePromise, EmptyPromise, LookedUp, lookAt, LookPromise, cueName, findReply, placedAt, FindPromise};
 ghost use Rattle.store.specs.Slots.{find as findSlot, placeOf};
 
 // The longest stream that is read or written, in bytes.
@@ -23,7 +24,7 @@ pub enum Admission {
     Away(Refusal),
 }
 
-// What `load` answers: R1 to R4, or the totals.
+// What `load` answers: R1 to R4c, or the totals.
 pub enum Loaded {
     Away(Refusal),
     Done(Totals),
@@ -41,7 +42,7 @@ pub enum Emptied {
     Done,
 }
 
-// R2, R3, R4 in that order.
+// R2, R3, R4a, R4b, R4c in that order. A place is told from 1.
 fn turned_away(desk: Desk, store: &[u8]) -> Admission
     ensures { λ r. ⌜ r ≡ admissionOf desk (now (store .entry)) ⌝ }
 {
@@ -51,14 +52,16 @@ fn turned_away(desk: Desk, store: &[u8]) -> Admission
     if store.len() < desk.store_length() {
         return Admission::Away(Refusal::R3);
     }
-    if store_form::good_form(desk, store) {
-        return Admission::Admitted;
+    match store_form::form(desk, store) {
+        Form::Good => Admission::Admitted,
+        Form::BadSlot(slot) => Admission::Away(Refusal::R4a(slot + 1)),
+        Form::Repeated(slot) => Admission::Away(Refusal::R4b(slot + 1)),
+        Form::BadEntry(entry) => Admission::Away(Refusal::R4c(entry + 1)),
     }
-    Admission::Away(Refusal::R4)
 }
 
 // Reads a stream into a store.
-pub fn load(desk: Desk, store: &mut [u8], stream: &[u8], reports: &mut [u32]) -> Loaded
+pub fn load(desk: Desk, store: &mut [u8], stream: &[u8], reports: &mut [u64]) -> Loaded
     ensures { λ r. ⌜ LoadPromise desk (now (store .entry)) (now (reports .entry)) (now (stream .entry)) r (now (store .exit)) (now (reports .exit)) ⌝ }
 {
     if MOST_BYTES < stream.len() {
@@ -110,17 +113,17 @@ pub fn empty(desk: Desk, store: &mut [u8]) -> Emptied
     Emptied::Done
 }
 
-// Where a cue's levels stand, as a number: for callers that take no part of a slice; or R2 to R4.
+// Where a cue's levels stand, as a number: for callers that take no part of a slice; or R2 to R4c.
 pub enum Placed {
     Away(Refusal),
     NotKept,
     At(usize),
 }
 
-// The answer words of a look-up; a refusal is its own number.
+// The answer words of a look-up; a refusal is its own word. No refusal has the number of "not kept".
 pub const KEPT: u32 = 0;
 
-pub const NOT_KEPT: u32 = 1;
+pub const NOT_KEPT: u32 = 255;
 
 // Where the levels of a cue stand: the slot that keeps it, in a store in good form.
 fn cue_slot(desk: Desk, store: &[u8], key: Key) -> Place
@@ -165,7 +168,7 @@ pub fn look_up<'a, 'b>(
 {
     match turned_away(desk, store) {
         Admission::Away(refusal) => {
-            *answer = refusal.number();
+            *answer = refusal.word();
             &store[0..0]
         }
         Admission::Admitted => levels_of(
@@ -184,7 +187,7 @@ pub fn look_up<'a, 'b>(
 fn levels_place(desk: Desk, store: &[u8], key: Key) -> Placed
     requires { ⌜ Fitting desk (now store) ⌝ }
     requires { ⌜ goodForm desk (now store) ≡ true ⌝ }
-    ensures { λ r. ⌜ PlacedAs (placedAt desk (findSlot desk (now (store .entry)) (cueName key))) r ⌝ }
+    ensures { λ r. ⌜ findReply r ≡ placedAt desk (findSlot desk (now (store .entry)) (cueName key)) ⌝ }
 {
     match cue_slot(desk, store, key) {
         Place::At(slot) => Placed::At(slot * desk.slot_length() + store_desk::HEAD_LENGTH),

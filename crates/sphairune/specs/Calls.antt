@@ -6,7 +6,7 @@ use mathlib.Core.Path.{_≡_}
 use Prim.Native.Nat.{ℕ, suc}
 use lib.ListN.{getD, set}
 use Rattle.store_desk.specs.declared.Desk.{Desk}
-use Rattle.store_desk.specs.Refusal.{Reply, neededCall}
+use Rattle.store_desk.specs.Refusal.{Reply, replyWord, neededCall}
 use Rattle.show.specs.Calls.{LoadCall, loadCall, WriteCall, writeCall, EmptyCall, emptyCall, findCall}
 
 -- a desk is the list of its nine limits; a limit that the list lacks is 0
@@ -29,29 +29,29 @@ unfoldable pub notedFrom : ℕ → List ℕ → List ℕ → List ℕ
 notedFrom i l [] = l
 notedFrom i l (v ∷ vs) = notedFrom (suc i) (set l i v) vs
 
--- the answer's number, and the lists that the call may write, in the order of its parameters
+-- the answer as one word, and the lists that the call may write, in the order of its parameters
 pub record Exported : Type 0 where
-  pub number : ℕ
+  pub word : ℕ
   pub lent : List (List ℕ)
 
 abbrev pub exported : ℕ → List (List ℕ) → Exported
-exported n ls = record { number = n; lent = ls }
+exported n ls = record { word = n; lent = ls }
 
--- ---- the calls: the answer's number, the lent lists as the public call leaves them, and last the list for what it tells
+-- ---- the calls: the answer's number and place as one word, the lent lists as the public call leaves them, and last the list for what it tells
 
 unfoldable pub repliedIn : Reply → List ℕ → Exported
-repliedIn a l = exported (a .number) (notedFrom 0 l (a .told) ∷ [])
+repliedIn a l = exported (replyWord a) (notedFrom 0 l (a .told) ∷ [])
 
 unfoldable pub emptiedIn : EmptyCall → Exported
-emptiedIn x = exported (x .reply .number) (x .store ∷ [])
+emptiedIn x = exported (replyWord (x .reply)) (x .store ∷ [])
 
 unfoldable pub loadedIn : LoadCall → List ℕ → Exported
-loadedIn x l = exported (x .reply .number) (x .store ∷ x .reports ∷ notedFrom 0 l (x .reply .told) ∷ [])
+loadedIn x l = exported (replyWord (x .reply)) (x .store ∷ x .reports ∷ notedFrom 0 l (x .reply .told) ∷ [])
 
 unfoldable pub writtenIn : WriteCall → List ℕ → Exported
-writtenIn x l = exported (x .reply .number) (x .out ∷ notedFrom 0 l (x .reply .told) ∷ [])
+writtenIn x l = exported (replyWord (x .reply)) (x .out ∷ notedFrom 0 l (x .reply .told) ∷ [])
 
--- ---- the promises: of the number, and each lent list afterwards
+-- ---- the promises: of the word, and each lent list afterwards
 
 abbrev pub NeededExport : List ℕ → List ℕ → ℕ → List ℕ → Type 0
 NeededExport limits l n m = exported n (m ∷ []) ≡ repliedIn (neededCall (deskOf limits)) l

@@ -1,7 +1,8 @@
 // The calls for programs in other languages, with numbers and slices only. A desk is the list of its nine limits, in the order of paper
 // 01's table (channels, dimmers, cues, groups, highest submaster, pages of cues, groups, submasters, patch); a limit that the list lacks
-// is 0, and so out of range where it matters. The answer is 0, or the number of the refusal, which leaves every lent list as it was; but
-// with 6 `sphairune_write` stores the length needed. `sphairune_find` reads no stream: its 1 is not R1, but says that the cue is not kept.
+// is 0, and so out of range where it matters. The answer is one word: 0, or the number of the refusal (R4a, R4b, R4c are 4A, 4B, 4C in
+// hexadecimal) and above its eight bits the place of the slot or patch entry that is out of form, from 1, else 0. A refusal leaves every lent
+// list as it was; but with 6 `sphairune_write` stores the length needed. 255 from `sphairune_find` says that the cue is not kept.
 use load::Totals;
 use show::Emptied;
 use show::Loaded;
@@ -65,7 +66,9 @@ fn note_told(list: &mut [usize], refusal: Refusal)
         Refusal::R1 => {}
         Refusal::R2 => {}
         Refusal::R3 => {}
-        Refusal::R4 => {}
+        Refusal::R4a(_) => {}
+        Refusal::R4b(_) => {}
+        Refusal::R4c(_) => {}
         Refusal::R5 => {}
     }
 }
@@ -93,7 +96,7 @@ pub extern "C" fn sphairune_needed(limits: &[u32], length: &mut [usize]) -> u32
     ensures { λ r. ⌜ NeededExport (now (limits .entry)) (now (length .entry)) r (now (length .exit)) ⌝ }
 {
     match desk_of(limits).needed() {
-        Needed::Away(refusal) => refusal.number(),
+        Needed::Away(refusal) => refusal.word(),
         Needed::Length(n) => {
             note_length(length, n);
             0
@@ -107,26 +110,26 @@ pub extern "C" fn sphairune_empty(limits: &[u32], store: &mut [u8]) -> u32
     ensures { λ r. ⌜ EmptyExport (now (limits .entry)) (now (store .entry)) r (now (store .exit)) ⌝ }
 {
     match show::empty(desk_of(limits), store) {
-        Emptied::Away(refusal) => refusal.number(),
+        Emptied::Away(refusal) => refusal.word(),
         Emptied::Done => 0,
     }
 }
 
 // Reads a stream into a store. In `totals`: the count of reports, then records blank, obeyed, passed, dropped, and the closing number;
-// or 1, 2, 3, 4.
+// or 1, 2, 3, 4A to 4C.
 #[no_mangle]
 pub extern "C" fn sphairune_load(
     limits: &[u32],
     store: &mut [u8],
     stream: &[u8],
-    reports: &mut [u32],
+    reports: &mut [u64],
     totals: &mut [u32],
 ) -> u32
     ensures { λ r. ⌜ LoadExport (now (limits .entry)) (now (store .entry)) (now (stream .entry)) (now (reports .entry)) (now (totals .entry))
         r (now (store .exit)) (now (reports .exit)) (now (totals .exit)) ⌝ }
 {
     match show::load(desk_of(limits), store, stream, reports) {
-        Loaded::Away(refusal) => refusal.number(),
+        Loaded::Away(refusal) => refusal.word(),
         Loaded::Done(t) => {
             note_totals(totals, t);
             0
@@ -134,7 +137,7 @@ pub extern "C" fn sphairune_load(
     }
 }
 
-// Puts a store's show into `out` as one fixed stream; in `length` the length written, or with 6 the length needed; or 2, 3, 4, 5.
+// Puts a store's show into `out` as one fixed stream; in `length` the length written, or with 6 the length needed; or 2, 3, 4A to 4C, 5.
 #[no_mangle]
 pub extern "C" fn sphairune_write(
     limits: &[u32],
@@ -148,7 +151,7 @@ pub extern "C" fn sphairune_write(
     match show::write(desk_of(limits), store, out) {
         Written::Away(refusal) => {
             note_told(length, refusal);
-            refusal.number()
+            refusal.word()
         }
         Written::Done(n) => {
             note_length(length, n);
@@ -157,7 +160,7 @@ pub extern "C" fn sphairune_write(
     }
 }
 
-// Where in the store the levels of a kept cue begin, in `place`; or 1 where it is not kept; or 2, 3, 4.
+// Where in the store the levels of a kept cue begin, in `place`; or 255 where it is not kept; or 2, 3, 4A to 4C.
 #[no_mangle]
 pub extern "C" fn sphairune_find(
     limits: &[u32],
@@ -170,7 +173,7 @@ pub extern "C" fn sphairune_find(
     ensures { λ r. ⌜ FindExport (now (limits .entry)) (now (store .entry)) page whole tenths (now (place .entry)) r (now (place .exit)) ⌝ }
 {
     match show::find(desk_of(limits), store, page, whole, tenths) {
-        Placed::Away(refusal) => refusal.number(),
+        Placed::Away(refusal) => refusal.word(),
         Placed::NotKept => show::NOT_KEPT,
         Placed::At(at) => {
             note_length(place, at);

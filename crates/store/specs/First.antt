@@ -1,5 +1,5 @@
--- Where a store is out of good form: the first slot that does not fit, the first that repeats an earlier one, the first patch entry that
--- does not fit. The test `goodForm` is that there is none (law `good-searched`).
+-- A slot that repeats an earlier one, by the search for its name: where each slot fits by itself this is what `repeats` says (law
+-- `repeats-found`).
 -- Assumes nothing.
 use mathlib.Core.Bool.{Bool, true, false, not, _&&_}
 use mathlib.Core.List.{List}
@@ -18,15 +18,6 @@ isAt i nowhere = false
 -- a used slot that is not the one found under its name
 unfoldable pub repeatsAt : Desk → List ℕ → ℕ → Bool
 repeatsAt d s i = isUsed (headAt d s i) && not (isAt i (find d s (nameAt d s i)))
-
-unfoldable pub badSlot : Desk → List ℕ → Found
-badSlot d s = firstFrom (λ i. not (slotFits d s i)) (slotsOf d) 0
-
-unfoldable pub repeatedSlot : Desk → List ℕ → Found
-repeatedSlot d s = firstFrom (repeatsAt d s) (slotsOf d) 0
-
-unfoldable pub badEntry : Desk → List ℕ → Found
-badEntry d s = firstFrom (λ i. not (entryFits d s i)) (entriesOf d) 0
 
 unfoldable pub isNowhere : Found → Bool
 isNowhere (at i) = false

@@ -1,10 +1,10 @@
--- Good form (paper 01, "The store"). R4 is its failure.
+-- Good form (paper 01, "The store"), and where a store is out of it (paper 02, C-11: R4a, R4b, R4c).
 -- Assumes nothing.
 use mathlib.Core.Bool.{Bool, true, false, cond, not, _&&_}
 use mathlib.Core.List.{List, [], _∷_}
 use Prim.Native.Nat.{ℕ}
 use lib.Dec.{eqb, leb}
-use Rattle.cells.specs.Search.{allFrom}
+use Rattle.cells.specs.Search.{Found, at, nowhere, firstFrom, allFrom}
 use Rattle.value.specs.Time.{timeMax}
 use Rattle.store_desk.specs.declared.Desk.{Desk}
 use Rattle.store_desk.specs.declared.Key.{Key}
@@ -15,6 +15,8 @@ use Rattle.store_desk.specs.Name.{Name, kindAt, eqName, okNumber, okName, subSl
 use Rattle.store_head.specs.declared.Head.{Head}
 use Rattle.store_head.specs.declared.Patch.{Patch}
 use Rattle.store_head.specs.Layout.{decodePatch}
+use Rattle.store.specs.declared.Form.{Form}
+use Rattle.store.specs.declared.Form.the-variants.{Good, BadSlot, Repeated, BadEntry}
 use Rattle.store.specs.Slots.{slotAt, entryAt, headAt, keyOf, isUsed}
 
 -- ---- which values a kind can have (§6.3: CHAN, UP and DOWN, FOLLOWON and LINK)
@@ -87,10 +89,38 @@ patchFits d p = eqb (p .rest) 0 && cond (eqb (p .channel) 0) (eqb (p .level) 0) 
 unfoldable pub entryFits : Desk → List ℕ → ℕ → Bool
 entryFits d s i = patchFits d (decodePatch (entryAt d s i))
 
--- ---- the test: all slots fit, no two share a name, all patch entries fit
+-- ---- the test (R4a, R4b, R4c): tested in that order over the whole store, and each finds the first place; places are counted from 0
+
+-- a slot out of form by itself
+unfoldable pub badSlot : Desk → List ℕ → Found
+badSlot d s = firstFrom (λ i. not (slotFits d s i)) (slotsOf d) 0
+
+-- a slot that repeats an earlier one
+unfoldable pub repeats : Desk → List ℕ → ℕ → Bool
+repeats d s i = not (allFrom (λ j. not (shares d s i j)) i 0)
+
+unfoldable pub repeatedSlot : Desk → List ℕ → Found
+repeatedSlot d s = firstFrom (repeats d s) (slotsOf d) 0
+
+-- a patch entry out of form
+unfoldable pub badEntry : Desk → List ℕ → Found
+badEntry d s = firstFrom (λ i. not (entryFits d s i)) (entriesOf d) 0
+
+unfoldable pub formBy : Found → Found → Found → Form
+formBy (at i) b e = BadSlot i
+formBy nowhere (at i) e = Repeated i
+formBy nowhere nowhere (at i) = BadEntry i
+formBy nowhere nowhere nowhere = Good
+
+unfoldable pub formOf : Desk → List ℕ → Form
+formOf d s = formBy (badSlot d s) (repeatedSlot d s) (badEntry d s)
+
+-- none of the three
+unfoldable pub isGood : Form → Bool
+isGood Good = true
+isGood (BadSlot i) = false
+isGood (Repeated i) = false
+isGood (BadEntry i) = false
 
 unfoldable pub goodForm : Desk → List ℕ → Bool
-goodForm d s =
-    allFrom (slotFits d s) (slotsOf d) 0
-    && allFrom (λ i. allFrom (λ j. not (shares d s i j)) i 0) (slotsOf d) 0
-    && allFrom (entryFits d s) (entriesOf d) 0
+goodForm d s = isGood (formOf d s)

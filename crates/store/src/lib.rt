@@ -14,3 +14,12 @@ pub enum Place {
     At(usize),
     Nowhere,
 }
+
+// The form of a store: good, or the first slot that is out of form by itself, else the first that repeats an earlier one, else the first patch
+// entry that is out of form; counted from 0.
+pub enum Form {
+    Good,
+    BadSlot(usize),
+    Repeated(usize),
+    BadEntry(usize),
+}

@@ -2,7 +2,8 @@
 ghost use mathlib.Core.Path.{_≡_};
 ghost use mathlib.Core.Bool.{_&&_};
 ghost use Rattle.store_desk.specs.Size.{Within, InRange, inRangeOf, isWithin, house, levelWidth, levelsLength, slotLength, subSlots, slotsOf, patchStart, entriesOf, storeLength};
-ghost use Rattle.store_desk.specs.Refusal.{refusalNumber, NeededPromise};
+ghost use Prim.Native.Nat.{_≤_};
+ghost use Rattle.store_desk.specs.Refusal.{refusalNumber, refusalPlace, mostPlaces, refusalWord, NeededPromise};
 ghost use Rattle.store_desk.specs.Name.{firstSlot, slotCount, pagesOf, supported, okNumber, okSub, okWithin, okPage, okName, subSlot, entryOf};
 
 // The nine limits, in the order of the paper's table.
@@ -181,29 +182,61 @@ pub const HEAD_LENGTH: usize = 24;
 
 pub const ENTRY_LENGTH: usize = 3;
 
-// Why a call is turned away: paper 01's table "Calls turned away", R6 with the length needed. Every answer of a call holds it.
+// In an answer that is a word the place stands above the number's eight bits.
+const PLACE_UNIT: u32 = 256;
+
+// Why a call is turned away: paper 01's table "Calls turned away", with C-11's R4a, R4b, R4c in the place of R4. These have the place, from 1,
+// of the slot or patch entry that is out of form, R6 the length needed. Every answer of a call holds it.
 pub enum Refusal {
     R1,
     R2,
     R3,
-    R4,
+    R4a(usize),
+    R4b(usize),
+    R4c(usize),
     R5,
     R6(usize),
 }
 
 impl Refusal {
-    // The paper's number, for answers that are a word.
-    pub fn number(self) -> u32
+    // The paper's number: R4a is 4A in hexadecimal.
+    fn number(self) -> u32
         ensures { λ r. ⌜ r ≡ refusalNumber self ⌝ }
     {
         match self {
             Refusal::R1 => 1,
             Refusal::R2 => 2,
             Refusal::R3 => 3,
-            Refusal::R4 => 4,
+            Refusal::R4a(_) => 0x4A,
+            Refusal::R4b(_) => 0x4B,
+            Refusal::R4c(_) => 0x4C,
             Refusal::R5 => 5,
             Refusal::R6(_) => 6,
         }
+    }
+
+    // The place that it tells, or 0.
+    fn place(self) -> usize
+        ensures { λ r. ⌜ r ≡ refusalPlace self ⌝ }
+    {
+        match self {
+            Refusal::R1 => 0,
+            Refusal::R2 => 0,
+            Refusal::R3 => 0,
+            Refusal::R4a(place) => place,
+            Refusal::R4b(place) => place,
+            Refusal::R4c(place) => place,
+            Refusal::R5 => 0,
+            Refusal::R6(_) => 0,
+        }
+    }
+
+    // Both in one, for answers that are a word.
+    pub fn word(self) -> u32
+        requires { ⌜ refusalPlace self ≤ mostPlaces ⌝ }
+        ensures { λ r. ⌜ r ≡ refusalWord self ⌝ }
+    {
+        self.number() + PLACE_UNIT * (self.place() as u32)
     }
 }
 

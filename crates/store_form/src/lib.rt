@@ -1,5 +1,6 @@
-// Good form of a store (paper 01, "The store", and R4 of "Calls turned away"): a slot out of form by itself, a slot that repeats an earlier
-// one, a patch entry out of form.
+// Good form of a store (paper 01, "The store"), and where it is broken (paper 02, C-11): a slot out of form by itself (R4a), a slot that
+// repeats an earlier one (R4b), a patch entry out of form (R4c).
+use store::Form;
 use store::Place;
 use store_desk::Desk;
 use store_desk::Key;
@@ -13,8 +14,7 @@ ghost use Rattle.cells.specs.Search.{nowhere, firstFrom};
 ghost use Rattle.store_desk.specs.Size.{InRange, slotsOf, entriesOf};
 ghost use Rattle.store_desk.specs.Name.{kindAt, okName};
 ghost use Rattle.store.specs.Slots.{placeOf};
-ghost use Rattle.store.specs.Form.{isZero, timeFits, linkFits, valuesFit, placeFits, usedFits, slotFits, patchFits, entryFits, goodForm};
-ghost use Rattle.store.specs.First.{badSlot, repeatedSlot, badEntry};
+ghost use Rattle.store.specs.Form.{isZero, timeFits, linkFits, valuesFit, placeFits, usedFits, slotFits, patchFits, entryFits, badSlot, repeatedSlot, badEntry, formOf};
 ghost use Rattle.store_code.specs.Fits.{Fitting};
 ghost use Rattle.store_form.specs.Keys.{mostKeys, keyWords, countWord, kindStart, seenBefore, Topped, topOf};
 
@@ -300,19 +300,19 @@ pub fn bad_entry(desk: Desk, store: &[u8]) -> Place
 
 // ---- the test
 
-// The store is in good form (R4 is its failure).
-pub fn good_form(desk: Desk, store: &[u8]) -> bool
+// The form of a store: each search goes over the whole store before the next.
+pub fn form(desk: Desk, store: &[u8]) -> Form
     requires { ⌜ Fitting desk (now store) ⌝ }
-    ensures { λ r. ⌜ r ≡ goodForm desk (now (store .entry)) ⌝ }
+    ensures { λ r. ⌜ r ≡ formOf desk (now (store .entry)) ⌝ }
 {
-    let Place::Nowhere = bad_slot(desk, store) else {
-        return false;
-    };
-    let Place::Nowhere = repeated_slot(desk, store) else {
-        return false;
-    };
-    let Place::Nowhere = bad_entry(desk, store) else {
-        return false;
-    };
-    true
+    if let Place::At(slot) = bad_slot(desk, store) {
+        return Form::BadSlot(slot);
+    }
+    if let Place::At(slot) = repeated_slot(desk, store) {
+        return Form::Repeated(slot);
+    }
+    if let Place::At(entry) = bad_entry(desk, store) {
+        return Form::BadEntry(entry);
+    }
+    Form::Good
 }

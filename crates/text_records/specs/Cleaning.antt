@@ -2,7 +2,7 @@
 -- Assumes nothing.
 use mathlib.Core.Bool.{Bool, false, cond, not, _||_}
 use mathlib.Core.List.{List, [], _∷_}
-use Prim.Native.Nat.{ℕ}
+use Prim.Native.Nat.{ℕ, zero, suc}
 use lib.Dec.{eqb, ltb, leb}
 
 -- 80 hex or above (0701)
@@ -21,6 +21,13 @@ isMark c = eqb c 33
 unfoldable pub keptOf : List ℕ → List ℕ
 keptOf [] = []
 keptOf (c ∷ cs) = let r = keptOf cs in cond (isMark c) [] (cond (isHigh c || isControl c) r (c ∷ r))
+
+-- the column of the n-th of these characters, counted from 1: its place in the record as received, where ignored characters count too. Place 0
+-- is none, and has column 0 (paper 02, C-11)
+unfoldable pub columnOf : List ℕ → ℕ → ℕ
+columnOf xs zero = 0
+columnOf [] (suc n) = 0
+columnOf (c ∷ cs) (suc n) = suc (columnOf cs (cond (isHigh c || isControl c) (suc n) n))
 
 -- whether a character of a sort stands anywhere in the record, its comment with it
 unfoldable pub has : (ℕ → Bool) → List ℕ → Bool

@@ -9,7 +9,7 @@ ghost use lib.ListN.{length, drop};
 ghost use Rattle.cells.specs.Put.{put};
 ghost use Rattle.text_records.specs.Stream.{isEnd, terminated, recordEnd, nextStart};
 ghost use Rattle.text_records.specs.Received.{longest};
-ghost use Rattle.text_records.specs.Cleaning.{isControl, keptOf};
+ghost use Rattle.text_records.specs.Cleaning.{isControl, keptOf, columnOf};
 ghost use Rattle.text_records.specs.Window.{windowOf, overLong, isSpecial, isKept, block, allPlain, plainEnd, controlOf, seenOf, markOf, inFront, cleanedOf};
 use cells::byte;
 
@@ -325,4 +325,42 @@ pub fn clean(s: &mut [u8]) -> Cleaned
         high,
         control,
     }
+}
+
+// ---- columns
+
+// From character to character, until so many were kept.
+fn column_among(received: &[u8], place: usize) -> usize
+    ensures { λ r. ⌜ r ≡ columnOf (now (received .entry)) place ⌝ }
+{
+    let mut left = place;
+    let mut i = 0;
+    while i < received.len() {
+        if left == 0 {
+            return i;
+        }
+        if is_kept(received[i]) {
+            left -= 1;
+        }
+        i += 1;
+    }
+    i
+}
+
+// The column, in the record as received, of the character in a place of its text, both from 1; place 0 has column 0. Where no character up to
+// there is ignored, the column is the place, and this is seen many characters a step.
+pub fn column(received: &[u8], place: usize) -> usize
+    ensures { λ r. ⌜ r ≡ columnOf (now (received .entry)) place ⌝ }
+{
+    if received.len() < place {
+        return column_among(received, place);
+    }
+    let seen = seen_in(&received[..place]);
+    if seen.high {
+        return column_among(received, place);
+    }
+    if seen.control {
+        return column_among(received, place);
+    }
+    place
 }

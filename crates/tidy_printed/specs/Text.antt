@@ -1,20 +1,23 @@
--- The lines that `tidy` prints ahead of the written stream, or in its place (paper 01, "The written stream", the program `tidy`). Each ends in LF.
+-- The lines that `tidy` prints ahead of the written stream, or in its place (paper 01, "The written stream", the program `tidy`; paper 02, C-11). Each
+-- ends in LF.
 -- Assumes nothing.
 use mathlib.Core.List.{List, [], _∷_, _++_}
-use Prim.Native.Nat.{ℕ, _/_, _%_}
+use Prim.Native.Nat.{ℕ}
 use lib.ListN.{take}
 use Rattle.cells.specs.Text.{bytes}
 use Rattle.value_written.specs.Text.{digitsText, integerText}
 use Rattle.load.specs.declared.Totals.{Totals}
-use Rattle.load.specs.Run.{conditionSpan}
+use Rattle.load.specs.Run.{numberIn, conditionIn, columnIn}
 
 abbrev pub lf : List ℕ
 lf = bytes "\n"
 
--- `(00006) 0172`: the record and the condition of a report's word
+-- `(00006:14) 0172`: the record, the column and the condition of a report's word
 unfoldable pub reportText : ℕ → List ℕ
 reportText w =
-    bytes "(" ++ (digitsText 10 5 (w / conditionSpan) ++ (bytes ") " ++ (digitsText 10 4 (w % conditionSpan) ++ lf)))
+    bytes "("
+    ++ (digitsText 10 5 (numberIn w)
+    ++ (bytes ":" ++ (integerText (columnIn w) ++ (bytes ") " ++ (digitsText 10 4 (conditionIn w) ++ lf)))))
 
 -- a line for each report
 unfoldable pub reportsText : List ℕ → List ℕ

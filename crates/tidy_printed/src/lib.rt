@@ -9,8 +9,12 @@ ghost use Rattle.tidy_printed.specs.Part.{fixedText, talliesText};
 
 const DECIMAL: u32 = 10;
 
-// A report's word is the record's number times this, and the condition.
-const CONDITION_SPAN: u32 = 16384;
+// A report's word: the record's number, the condition, the column, and bits that are zero.
+const CONDITION_SPAN: u64 = 16384;
+
+const COLUMN_SPAN: u64 = 128;
+
+const ZERO_SPAN: u64 = 33554432;
 
 const RECORD_DIGITS: usize = 5;
 
@@ -25,22 +29,22 @@ fn put_fixed(out: &mut [u8], at: usize, mark: &[u8], n: u32, count: usize) -> us
     value_written::put_digits(out, digits, n, count, DECIMAL)
 }
 
-pub fn put_report(out: &mut [u8], at: usize, word: u32) -> usize
+// `(00006:14) 0172`.
+pub fn put_report(out: &mut [u8], at: usize, word: u64) -> usize
     requires { ⌜ Room (now out) at (reportText word) ⌝ }
     ensures { λ r. ⌜ wrote r (now (out .exit)) ≡ wroteAt (now (out .entry)) at (reportText word) ⌝ }
 {
-    let condition = put_fixed(out, at, b"(", word / CONDITION_SPAN, RECORD_DIGITS);
-    let end = put_fixed(
-        out,
-        condition,
-        b") ",
-        word % CONDITION_SPAN,
-        CONDITION_DIGITS,
-    );
+    let blame = word / ZERO_SPAN;
+    let fault = blame / COLUMN_SPAN;
+    let number = (fault / CONDITION_SPAN) as u32;
+    let condition = (fault % CONDITION_SPAN) as u32;
+    let column = put_fixed(out, at, b"(", number, RECORD_DIGITS);
+    let next = value_written::put_marked(out, column, b":", (blame % COLUMN_SPAN) as u32);
+    let end = put_fixed(out, next, b") ", condition, CONDITION_DIGITS);
     text_room::put_text(out, end, b"\n")
 }
 
-pub fn put_reports(out: &mut [u8], at: usize, reports: &[u32]) -> usize
+pub fn put_reports(out: &mut [u8], at: usize, reports: &[u64]) -> usize
     requires { ⌜ Room (now out) at (reportsText (now reports)) ⌝ }
     ensures { λ r. ⌜ wrote r (now (out .exit)) ≡ wroteAt (now (out .entry)) at (reportsText (now (reports .entry))) ⌝ }
 {
@@ -81,7 +85,7 @@ fn stored(count: u32, room: usize) -> usize
 }
 
 // What a load is told as: its stored reports, and the END line.
-pub fn put_told(out: &mut [u8], at: usize, reports: &[u32], t: Totals) -> usize
+pub fn put_told(out: &mut [u8], at: usize, reports: &[u64], t: Totals) -> usize
     requires { ⌜ Room (now out) at (toldText (now reports) t) ⌝ }
     ensures { λ r. ⌜ wrote r (now (out .exit)) ≡ wroteAt (now (out .entry)) at (toldText (now (reports .entry)) t) ⌝ }
 {

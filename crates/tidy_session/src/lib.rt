@@ -35,17 +35,19 @@ fn put_shown(out: &mut [u8], at: usize, store: &[u8]) -> usize
             Refusal::R1 => at,
             Refusal::R2 => at,
             Refusal::R3 => at,
-            Refusal::R4 => at,
+            Refusal::R4a(_) => at,
+            Refusal::R4b(_) => at,
+            Refusal::R4c(_) => at,
             Refusal::R5 => at,
         },
     }
 }
 
 // What a load is told as, and the show behind it.
-fn put_answer(out: &mut [u8], t: Totals, reports: &[u32], store: &[u8]) -> usize
+fn put_answer(out: &mut [u8], t: Totals, reports: &[u64], store: &[u8]) -> usize
     requires { ⌜ Ready house (now store) ⌝ }
     requires { ⌜ length (now reports) ≤ 1024 ⌝ }
-    requires { ⌜ 78943 ≤ length (now out) ⌝ }
+    requires { ⌜ 83039 ≤ length (now out) ⌝ }
     ensures { λ r. ⌜ wrote r (now (out .exit))
         ≡ wroteAt (now (out .entry)) 0 (toldText (now (reports .entry)) t ++ shownText (now (store .entry))) ⌝ }
 {
@@ -56,29 +58,29 @@ fn put_answer(out: &mut [u8], t: Totals, reports: &[u32], store: &[u8]) -> usize
 // The load of a stream into an empty house small desk. It is never turned away: the store is long enough and empty, and the stream is short.
 fn put_load(stream: &[u8], out: &mut [u8]) -> usize
     requires { ⌜ length (now stream) ≤ 65535 ⌝ }
-    requires { ⌜ 78943 ≤ length (now out) ⌝ }
+    requires { ⌜ 83039 ≤ length (now out) ⌝ }
     ensures { λ r. ⌜ wrote r (now (out .exit)) ≡ wroteAt (now (out .entry)) 0 (answerText (readIn (now (stream .entry)))) ⌝ }
 {
     let mut store = [0u8; 35136];
-    let mut reports = [0u32; 1024];
+    let mut reports = [0u64; 1024];
     match show::load(Desk::HOUSE, &mut store, stream, &mut reports) {
         Loaded::Done(t) => put_answer(out, t, &reports, &store),
         Loaded::Away(_) => 0,
     }
 }
 
-// Room for all that `tidy` can print: 13 bytes for each of the 1,024 reports that the list holds, 96 for the END line, and 65,535 for the
+// Room for all that `tidy` can print: 17 bytes for each of the 1,024 reports that the list holds (a column of 7 bits has three digits at most), 96 for the END line, and 65,535 for the
 // stream.
-pub fn buffer() -> [u8; 78943]
-    ensures { λ r. ⌜ 78943 ≡ length r ⌝ }
-    ensures { λ r. ⌜ r ≡ replicate 78943 0 ⌝ }
+pub fn buffer() -> [u8; 83039]
+    ensures { λ r. ⌜ 83039 ≡ length r ⌝ }
+    ensures { λ r. ⌜ r ≡ replicate 83039 0 ⌝ }
 {
-    [0; 78943]
+    [0; 83039]
 }
 
 // Writes what `tidy` prints at the start of `out`, and answers its length.
 pub fn tidy(input: &[u8], out: &mut [u8]) -> usize
-    requires { ⌜ 78943 ≤ length (now out) ⌝ }
+    requires { ⌜ 83039 ≤ length (now out) ⌝ }
     ensures { λ r. ⌜ TidyPromise (now (input .entry)) (now (out .entry)) r (now (out .exit)) ⌝ }
 {
     if MOST_INPUT < input.len() {
