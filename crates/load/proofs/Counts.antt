@@ -1,5 +1,5 @@
--- How many: a record has no more conditions than characters, a load no more records than the stream has bytes and no more reports but
--- 0100, and the four tallies sum to the records read. An empty record is blank, with no condition; a text has at most forty faults. By
+-- How many: a record has no more faults than characters, a load no more records than the stream has bytes and no more reports but
+-- 0100, and the four tallies sum to the records read. An empty record is blank, with no fault; a text has at most forty faults. By
 -- induction on the records.
 -- Assumes nothing.
 use mathlib.Core.Path.{_≡_, refl, ap, _∙_}
@@ -19,12 +19,14 @@ use Rattle.text_records.specs.Received.{longest}
 use Rattle.text_records.specs.Cleaning.{isHigh, isControl, has, keptOf}
 use Rattle.text_records.proofs.Stream.{records-count}
 use Rattle.text_fields.specs.Words.{wordsIn, wordsOf, fieldsOf}
+use Rattle.load.specs.declared.Fault.{Fault}
 use Rattle.load.specs.declared.State.{State}
 use Rattle.load.specs.declared.Outcome.{Outcome}
 use Rattle.load.specs.declared.Outcome.the-variants.{Blank}
 use Rattle.load.specs.Condition.{noEnddata, ignoredHigh, ignoredControl}
+use Rattle.load.specs.Item.{blameNone}
 use Rattle.load.specs.Ask.{isOverLong, fieldsAsk, askOf}
-use Rattle.load.specs.Step.{nothingOpen, ended, acted, stepOf, recordStep, conditionsOf, ignoredIn, oneIf, outcomeReports, faultReports}
+use Rattle.load.specs.Step.{nothingOpen, ended, acted, stepOf, recordStep, reportedOf, ignoredIn, oneIf, outcomeFaults}
 use Rattle.load.specs.Run.{conditionSpan, Report, Run, stops, reportsAt, runFrom, loadOf, allReports, Class, blank, passed, dropped, obeyed, classOf, eqClass, tallyOf, storedIn, totalsOf}
 use Rattle.text_records.proofs.Counts.{tell, seen-few, characters-few}
 use Rattle.text_fields.proofs.Counts.{words-few, fields-few}
@@ -32,51 +34,52 @@ use Rattle.load.specs.Fits.{Small}
 use Rattle.load.proofs.Steps.{Modest, step-few, step-said}
 
 -- ---- a record's ignored characters are reported at most once a sort
-one-few : (b : Bool) (c : ℕ) → length (oneIf b c) ≡ tell b
-one-few true c = refl
-one-few false c = refl
+one-few : (b : Bool) (f : Fault) → length (oneIf b f) ≡ tell b
+one-few true f = refl
+one-few false f = refl
 
 ignored-few : (r : List ℕ) → length (ignoredIn r) + length (keptOf r) ≤ length r
 unfolding ignoredIn
 ignored-few r =
-    let a : length (oneIf (has isHigh r) ignoredHigh) ≡ tell (has isHigh r) = one-few (has isHigh r) ignoredHigh in
-    let b : length (oneIf (has isControl r) ignoredControl) ≡ tell (has isControl r) = one-few (has isControl r) ignoredControl in
-    let l : length (oneIf (has isHigh r) ignoredHigh ++ oneIf (has isControl r) ignoredControl)
-    ≡ length (oneIf (has isHigh r) ignoredHigh) + length (oneIf (has isControl r) ignoredControl) =
-    length-append (oneIf (has isHigh r) ignoredHigh) (oneIf (has isControl r) ignoredControl) in
+    let u : List Fault = oneIf (has isHigh r) (blameNone ignoredHigh) in
+    let v : List Fault = oneIf (has isControl r) (blameNone ignoredControl) in
+    let a : length u ≡ tell (has isHigh r) = one-few (has isHigh r) (blameNone ignoredHigh) in
+    let b : length v ≡ tell (has isControl r) = one-few (has isControl r) (blameNone ignoredControl) in
+    let l : length (u ++ v) ≡ length u + length v = length-append u v in
     let h : tell (has isHigh r) + tell (has isControl r) + length (keptOf r) ≤ length r = seen-few r in
     omega arith
 
--- ---- a condition has a character at least
-pub small-join : (cs bs : List ℕ) → Small cs → Small bs → Small (cs ++ bs)
+-- ---- a fault has a character at least
+pub small-join : (fs gs : List Fault) → Small fs → Small gs → Small (fs ++ gs)
 unfolding Small
-small-join [] bs h g = g
-small-join (c ∷ cs) bs h g = (h .0, small-join cs bs (h .1) g)
+small-join [] gs h g = g
+small-join (f ∷ fs) gs h g = (h .0, small-join fs gs (h .1) g)
 
-one-small : (b : Bool) (c : ℕ) → c < conditionSpan → Small (oneIf b c)
+one-small : (b : Bool) (f : Fault) → f .condition < conditionSpan → Small (oneIf b f)
 unfolding Small
-one-small true c h = (h, tt)
-one-small false c h = tt
+one-small true f h = (h, tt)
+one-small false f h = tt
 
-pub ignored-small : (high control : Bool) → Small (oneIf high ignoredHigh ++ oneIf control ignoredControl)
+pub ignored-small : (high control : Bool) → Small (oneIf high (blameNone ignoredHigh) ++ oneIf control (blameNone ignoredControl))
 ignored-small high control =
-    small-join (oneIf high ignoredHigh) (oneIf control ignoredControl) (one-small high ignoredHigh (omega arith)) (one-small control ignoredControl (omega arith))
+    small-join (oneIf high (blameNone ignoredHigh)) (oneIf control (blameNone ignoredControl)) (one-small high (blameNone ignoredHigh) (omega arith))
+    (one-small control (blameNone ignoredControl) (omega arith))
 
-said-join : (n k : ℕ) (cs : List ℕ) {bs : List ℕ} → length cs + n ≤ k → Small cs → Modest n bs → Modest k (cs ++ bs)
-said-join n k cs {bs} h g m =
-    let l : length (cs ++ bs) ≡ length cs + length bs = length-append cs bs in
-    let f : length bs ≤ n = m .few in
-    record { few = omega arith; small = small-join cs bs g (m .small) }
+said-join : (n k : ℕ) (fs : List Fault) {gs : List Fault} → length fs + n ≤ k → Small fs → Modest n gs → Modest k (fs ++ gs)
+said-join n k fs {gs} h g m =
+    let l : length (fs ++ gs) ≡ length fs + length gs = length-append fs gs in
+    let f : length gs ≤ n = m .few in
+    record { few = omega arith; small = small-join fs gs g (m .small) }
 
-long-said : (d : Desk) (s : State) (r t : List ℕ) → isOverLong r ≡ true → Modest (length r) (conditionsOf r (recordStep d s r t))
-unfolding conditionsOf recordStep outcomeReports faultReports Small acted askOf
+long-said : (d : Desk) (s : State) (r t : List ℕ) → isOverLong r ≡ true → Modest (length r) (reportedOf r (recordStep d s r t))
+unfolding reportedOf recordStep outcomeFaults Small acted askOf
 long-said d s r t e =
     let l : longest < length r = ltb-true longest (length r) e in
     let h : 1 ≤ length r = omega arith in
     rw e (record { few = h; small = (omega arith, tt) })
 
-pub record-said : (d : Desk) (s : State) (r t : List ℕ) → Modest (length r) (conditionsOf r (recordStep d s r t))
-unfolding conditionsOf recordStep ignoredIn askOf
+pub record-said : (d : Desk) (s : State) (r t : List ℕ) → Modest (length r) (reportedOf r (recordStep d s r t))
+unfolding reportedOf recordStep ignoredIn askOf
 record-said d s r t =
     by-bool (isOverLong r)
     (λ e. long-said d s r t e)
@@ -91,8 +94,8 @@ pub blank-step : (d : Desk) (s : State) (t : List ℕ) → recordStep d s [] t �
 unfolding recordStep askOf keptOf fieldsOf wordsOf wordsIn fieldsAsk acted
 blank-step d s t = refl
 
-pub blank-said : (s : State) (t : List ℕ) → conditionsOf [] (ended s Blank t) ≡ []
-unfolding conditionsOf ignoredIn has outcomeReports faultReports
+pub blank-said : (s : State) (t : List ℕ) → reportedOf [] (ended s Blank t) ≡ []
+unfolding reportedOf ignoredIn has outcomeFaults
 blank-said s t = refl
 
 -- ---- a text of at most 80 characters has at most forty faults
@@ -119,9 +122,9 @@ module _ (d : Desk) where
   run-reports n s t (r ∷ rs) =
       let x = recordStep d s r t in
       let more = runFrom d (n + 1) (x .state) (x .store) rs .reports in
-      let here : List Report = reportsAt (n + 1) (conditionsOf r x) in
-      let m : length here ≡ length (conditionsOf r x) = length-map (conditionsOf r x) _ in
-      let f : length (conditionsOf r x) ≤ length r = record-said d s r t .few in
+      let here : List Report = reportsAt (n + 1) r (reportedOf r x) in
+      let m : length here ≡ length (reportedOf r x) = length-map (reportedOf r x) _ in
+      let f : length (reportedOf r x) ≤ length r = record-said d s r t .few in
       let l : length (r ++ flatten rs) ≡ length r + length (flatten rs) = length-append r (flatten rs) in
       let ih : length more ≤ length (flatten rs) = run-reports (n + 1) (x .state) (x .store) rs in
       let j : length (here ++ more) ≡ length here + length more = length-append here more in
@@ -151,7 +154,7 @@ all-few x =
     by-test (λ (rs : List Report). length rs ≤ length (x .reports) + 1) (x .stopped) _ _
     (λ e. let h : length (x .reports) ≤ length (x .reports) + 1 = omega arith in h)
     (λ e.
-    let r : Report = record { number = length (x .outcomes); condition = noEnddata } in
+    let r : Report = record { number = length (x .outcomes); condition = noEnddata; column = 0 } in
     let l : length (x .reports ++ (r ∷ [])) ≡ length (x .reports) + 1 = length-append (x .reports) (r ∷ []) in
     let h : length (x .reports ++ (r ∷ [])) ≤ length (x .reports) + 1 = omega arith in
     h)

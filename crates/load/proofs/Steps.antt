@@ -8,7 +8,7 @@ use mathlib.Core.List.{List, [], _∷_, _++_}
 use Prim.Native.Nat.{ℕ, suc, _+_, _*_, _≤_, _<_}
 use native.Mathlib.Omega.{arith}
 use lib.Dec.{ltb}
-use lib.ListN.{length, length-map}
+use lib.ListN.{length}
 use Rattle.cells.specs.Search.{Found, at, nowhere}
 use Rattle.cells.proofs.Split.{by-test}
 use Rattle.store_desk.specs.declared.Desk.{Desk}
@@ -36,7 +36,7 @@ use Rattle.load.specs.declared.Outcome.the-variants.{Blank, Passed, Obey
 use Rattle.load.specs.Condition.{fullOf}
 use Rattle.load.specs.Item.{blameNone, faultsOf, memory, page, done, allDone}
 use Rattle.load.specs.Ask.{Wipe, table, dimmers, Ask, name, primaryAsk, itemAsk, fieldsAsk}
-use Rattle.load.specs.Step.{Step, nothingOpen, wiped, openedBy, acted, stepOf, recordStep, outcomeReports, faultReports}
+use Rattle.load.specs.Step.{Step, nothingOpen, wiped, openedBy, acted, stepOf, recordStep, outcomeFaults}
 use Rattle.load.specs.Fits.{AllFit, Small}
 use Rattle.load.specs.Run.{conditionSpan, Run, stops, only, andThen, runFrom, loadOf}
 use Rattle.load.proofs.Entries.{faults-few}
@@ -171,20 +171,16 @@ module _ (d : Desk) (s : State) (t : List ℕ) where
   item-faults i w ws = faultless _ (deed-few d s 0 t (item-deed d s 0 i w ws))
 
 -- ---- what is reported of a step
-abbrev pub saidBy : Step → List ℕ
-saidBy x = outcomeReports (x .outcome) ++ faultReports (x .faults)
+abbrev pub saidBy : Step → List Fault
+saidBy x = outcomeFaults (x .outcome) ++ x .faults
 
--- conditions that are small, and at most so many
-pub record Modest (n : ℕ) (cs : List ℕ) : Type 0 where
-  pub few : length cs ≤ n
-  pub small : Small cs
+-- faults with small conditions, and at most so many
+pub record Modest (n : ℕ) (fs : List Fault) : Type 0 where
+  pub few : length fs ≤ n
+  pub small : Small fs
 
-reports-length : (fs : List Fault) → length (faultReports fs) ≡ length fs
-unfolding faultReports
-reports-length fs = length-map fs (λ (f : Fault). f .condition)
-
-faults-small : (d : Desk) (es : List Entry) → AllFit d es → Small (faultReports (faultsOf es))
-unfolding faultsOf faultReports Small
+faults-small : (d : Desk) (es : List Entry) → AllFit d es → Small (faultsOf es)
+unfolding faultsOf Small
 faults-small d [] f = tt
 faults-small d (Level n v ∷ es) f = faults-small d es (f .1)
 faults-small d (Patch n k v ∷ es) f = faults-small d es (f .1)
@@ -195,25 +191,23 @@ module _ (d : Desk) (s : State) (n : ℕ) (t : List ℕ) where
   unfolding Small
   none-said m = record { few = omega arith; small = tt }
 
-  one-said : (c : ℕ) → c < conditionSpan → Modest (suc n) (c ∷ [])
+  one-said : (x : Fault) → x .condition < conditionSpan → Modest (suc n) (x ∷ [])
   unfolding Small
-  one-said c h = record { few = omega arith; small = (h, tt) }
+  one-said x h = record { few = omega arith; small = (h, tt) }
 
-  outcome-said : (o : Outcome) → OutcomeFits o → Modest (suc n) (outcomeReports o ++ faultReports [])
-  unfolding outcomeReports faultReports
+  outcome-said : (o : Outcome) → OutcomeFits o → Modest (suc n) (outcomeFaults o ++ [])
+  unfolding outcomeFaults
   outcome-said Blank f = none-said (suc n)
   outcome-said Passed f = none-said (suc n)
-  outcome-said (Dropped x) f = one-said (x .condition) f
+  outcome-said (Dropped x) f = one-said x f
   outcome-said Obeyed f = none-said (suc n)
   outcome-said (Stopped x) f =
-      let c : ℕ = x .condition in
-      by-test (λ (l : List ℕ). Modest (suc n) (l ++ [])) (ltb 0 c) (c ∷ []) [] (λ e. one-said c f) (λ e. none-said (suc n))
+      by-test (λ (l : List Fault). Modest (suc n) (l ++ [])) (ltb 0 (x .condition)) (x ∷ []) [] (λ e. one-said x f) (λ e. none-said (suc n))
 
-  items-said : (es : List Entry) → AllFit d es → 2 * length es ≤ n + 1 → Modest (suc n) (outcomeReports Obeyed ++ faultReports (faultsOf es))
-  unfolding outcomeReports
+  items-said : (es : List Entry) → AllFit d es → 2 * length es ≤ n + 1 → Modest (suc n) (outcomeFaults Obeyed ++ faultsOf es)
+  unfolding outcomeFaults
   items-said es f l =
       let h = faults-few es in
-      let m : length (faultReports (faultsOf es)) ≡ length (faultsOf es) = reports-length (faultsOf es) in
       record { few = omega arith; small = faults-small d es f }
 
   opened-said : (k : Kind) (y : Key) (a : Found) → Modest (suc n) (saidBy (openedBy d k y a t))
@@ -232,21 +226,21 @@ module _ (d : Desk) (s : State) (n : ℕ) (t : List ℕ) where
   deed-said (clearing xs f) = outcome-said Obeyed tt
 
 -- the faults among them
-pub small-behind : (cs bs : List ℕ) → Small (cs ++ bs) → Small bs
+small-behind : (fs gs : List Fault) → Small (fs ++ gs) → Small gs
 unfolding Small
-small-behind [] bs h = h
-small-behind (c ∷ cs) bs h = small-behind cs bs (h .1)
+small-behind [] gs h = h
+small-behind (f ∷ fs) gs h = small-behind fs gs (h .1)
 
-deed-small : (d : Desk) (s : State) (n : ℕ) (t : List ℕ) {a : Ask} → Deed d s n a → Small (faultReports (acted d s t a .faults))
+deed-small : (d : Desk) (s : State) (n : ℕ) (t : List ℕ) {a : Ask} → Deed d s n a → Small (acted d s t a .faults)
 deed-small d s n t {a} x =
     let y : Step = acted d s t a in
-    small-behind (outcomeReports (y .outcome)) (faultReports (y .faults)) (deed-said d s n t x .small)
+    small-behind (outcomeFaults (y .outcome)) (y .faults) (deed-said d s n t x .small)
 
-pub step-small : (d : Desk) (s : State) (ws : List Word) (t : List ℕ) → Small (faultReports (stepOf d s ws t .faults))
+pub step-small : (d : Desk) (s : State) (ws : List Word) (t : List ℕ) → Small (stepOf d s ws t .faults)
 step-small d s ws t = deed-small d s (length (tailOf ws)) t (fields-deed d s ws)
 
 -- a record with no field has none
 pub step-said : (d : Desk) (s : State) (ws : List Word) (t : List ℕ) → Modest (length ws) (saidBy (stepOf d s ws t))
-unfolding fieldsAsk acted outcomeReports faultReports
+unfolding fieldsAsk acted outcomeFaults
 step-said d s [] t = none-said d s 0 t 0
 step-said d s (w ∷ ws) t = deed-said d s (length ws) t (fields-deed d s (w ∷ ws))

@@ -3,3 +3,4 @@ pub mod Received
 pub mod Cleaning
 pub mod Plain
 pub mod Counts
+pub mod Columns

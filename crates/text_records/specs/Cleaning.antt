@@ -2,7 +2,7 @@
 -- Assumes nothing.
 use mathlib.Core.Bool.{Bool, false, cond, not, _||_}
 use mathlib.Core.List.{List, [], _∷_}
-use Prim.Native.Nat.{ℕ, zero, suc}
+use Prim.Native.Nat.{ℕ, suc, _-_}
 use lib.Dec.{eqb, ltb, leb}
 
 -- 80 hex or above (0701)
@@ -25,9 +25,8 @@ keptOf (c ∷ cs) = let r = keptOf cs in cond (isMark c) [] (cond (isHigh c || i
 -- the column of the n-th of these characters, counted from 1: its place in the record as received, where ignored characters count too. Place 0
 -- is none, and has column 0 (paper 02, C-11)
 unfoldable pub columnOf : List ℕ → ℕ → ℕ
-columnOf xs zero = 0
-columnOf [] (suc n) = 0
-columnOf (c ∷ cs) (suc n) = suc (columnOf cs (cond (isHigh c || isControl c) (suc n) n))
+columnOf [] n = 0
+columnOf (c ∷ cs) n = let r = columnOf cs (cond (isHigh c || isControl c) n (n - 1)) in cond (eqb n 0) 0 (suc r)
 
 -- whether a character of a sort stands anywhere in the record, its comment with it
 unfoldable pub has : (ℕ → Bool) → List ℕ → Bool

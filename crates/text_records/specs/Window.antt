@@ -4,7 +4,7 @@
 -- Assumes nothing.
 use mathlib.Core.Bool.{Bool, cond, not, _||_}
 use mathlib.Core.List.{List}
-use Prim.Native.Nat.{ℕ, _+_}
+use Prim.Native.Nat.{ℕ, _+_, _-_}
 use lib.Dec.{eqb, ltb, leb}
 use lib.ListN.{length, take, drop}
 use Rattle.cells.specs.Pad.{padded}
@@ -80,3 +80,9 @@ cleanedOf xs =
     inFront
     (record { count = length (keptOf xs); high = has isHigh xs; control = has isControl xs })
     (put xs 0 (keptOf xs))
+
+-- ---- columns
+
+-- how many characters are still to be kept behind one
+abbrev pub leftBehind : ℕ → ℕ → ℕ
+leftBehind c left = cond (isHigh c || isControl c) left (left - 1)

@@ -10,7 +10,7 @@ ghost use Rattle.cells.specs.Put.{put};
 ghost use Rattle.text_records.specs.Stream.{isEnd, terminated, recordEnd, nextStart};
 ghost use Rattle.text_records.specs.Received.{longest};
 ghost use Rattle.text_records.specs.Cleaning.{isControl, keptOf, columnOf};
-ghost use Rattle.text_records.specs.Window.{windowOf, overLong, isSpecial, isKept, block, allPlain, plainEnd, controlOf, seenOf, markOf, inFront, cleanedOf};
+ghost use Rattle.text_records.specs.Window.{windowOf, overLong, isSpecial, isKept, block, allPlain, plainEnd, controlOf, seenOf, markOf, inFront, cleanedOf, leftBehind};
 use cells::byte;
 
 // How many characters a record may have.
@@ -329,6 +329,17 @@ pub fn clean(s: &mut [u8]) -> Cleaned
 
 // ---- columns
 
+// How many characters are still to be kept behind one.
+fn left_behind(c: u8, left: usize) -> usize
+    requires { ⌜ 0 < left ⌝ }
+    ensures { λ r. ⌜ r ≡ leftBehind c left ⌝ }
+{
+    if is_kept(c) {
+        return left - 1;
+    }
+    left
+}
+
 // From character to character, until so many were kept.
 fn column_among(received: &[u8], place: usize) -> usize
     ensures { λ r. ⌜ r ≡ columnOf (now (received .entry)) place ⌝ }
@@ -339,9 +350,7 @@ fn column_among(received: &[u8], place: usize) -> usize
         if left == 0 {
             return i;
         }
-        if is_kept(received[i]) {
-            left -= 1;
-        }
+        left = left_behind(received[i], left);
         i += 1;
     }
     i
