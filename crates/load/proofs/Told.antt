@@ -1,10 +1,12 @@
 -- What a record comes to if it is neither blank nor passed over: it is obeyed, dropped, or stops the load. On a desk that has cues each
--- condition that is reported is above 0. By what the keyword begins, and by cases on each field.
+-- fault that is reported has a condition above 0 and blames a field of the record, or none. By what the keyword begins, and by cases on each
+-- field.
 -- Assumes nothing.
 use mathlib.Core.Path.{_≡_, refl, sym, ap, _∙_, subst}
 use mathlib.Core.Bool.{Bool, true, false}
 use mathlib.Core.List.{List, [], _∷_, _++_}
 use Prim.Native.Nat.{ℕ, _<_}
+use native.Mathlib.Omega.{arith}
 use lib.Dec.{ltb, lit<}
 use borrow.Author.Tests.{ltb-true, lt-ltb}
 use Rattle.cells.specs.Search.{Found, at, nowhere}
@@ -53,180 +55,219 @@ use Rattle.load.specs.declared.Numeral.{Numeral}
 use Rattle.load.specs.declared.Numeral.the-variants.{Wrong, Number}
 use Rattle.load.specs.declared.Reading.{Reading}
 use Rattle.load.specs.declared.Reading.the-variants.{Wrong as Misread, Change}
-use Rattle.load.specs.Condition.{badSub, fullOf, ignoredHigh, ignoredControl, unsupportedOf, wrongSecondary, identMismatch}
-use Rattle.load.specs.Item.{blame, faultsOf}
+use Rattle.load.specs.Condition.{badNumber, numberTooLarge, badPage, badSub, malformedSub, badTime, badPatchPage, fullOf, ignoredHigh, ignoredControl}
+use Rattle.load.specs.Condition.{unsupportedOf, wrongSecondary, identMismatch, overLongRecord, unknownKeyword, blamesKeyword, blamesNone}
+use Rattle.load.specs.Item.{blame, blameNone, faultsOf}
 use Rattle.load.specs.Ask.{Wipe, table, dimmers, Ask, rests, skips, opens, edits, items, clears, name}
 use Rattle.load.specs.Ask.{numberedBy, subBy, numeralOf, pageAt, namedBy, namedOf, namedAsk, primaryAsk, augments, onTime, delayOf, fadeOf, linkBy, timesOf}
 use Rattle.load.specs.Ask.{changeAsk, obeyedAsk, secondaryAsk, pagedAsk, kindAsk, dimmersAsk, allWipes, wipesAsk, tablesAsk, allAsk, itemAsk, triplesAsk}
 use Rattle.load.specs.Ask.{isThree, identOutcome, familyOf, basicAsk, familyAsk, fieldsAsk, isOverLong, askOf}
-use Rattle.load.specs.Step.{Step, ended, skipping, openedBy, acted, stepOf, recordStep, oneIf, ignoredIn, outcomeReports, faultReports, conditionsOf}
-use Rattle.load.proofs.Entries.{Told, EntriesTold, pairs-told, triples-told}
+use Rattle.load.specs.Step.{Step, ended, skipping, openedBy, acted, stepOf, recordStep, oneIf, ignoredIn, outcomeFaults, reportedOf}
+use Rattle.load.proofs.Faulted.{Blamed, AllBlamed, blamed-join, FieldOf, Fields, behind-fields, head-field, tail-fields}
+use Rattle.load.proofs.Faulted.{field-blamed, keyword-blamed, none-blamed}
+use Rattle.load.proofs.Entries.{EntriesTold, pairs-told, triples-told}
 use Rattle.load.proofs.Steps.{saidBy}
 
 -- ---- what holds of it
 
--- neither blank nor passed, and dropped with a condition above 0 if the desk has cues
-abbrev pub OutcomeTold : Desk → Outcome → Type 0
-OutcomeTold d Blank = ⊥
-OutcomeTold d Passed = ⊥
-OutcomeTold d (Dropped f) = 0 < d .cues → Told f
-OutcomeTold d Obeyed = Unit {0}
-OutcomeTold d (Stopped f) = Unit {0}
+-- neither blank nor passed; where it is reported, and the desk has cues, one of its fields is blamed
+abbrev pub OutcomeTold : Desk → List Word → Outcome → Type 0
+OutcomeTold d fs Blank = ⊥
+OutcomeTold d fs Passed = ⊥
+OutcomeTold d fs (Dropped f) = 0 < d .cues → Blamed fs f
+OutcomeTold d fs Obeyed = Unit {0}
+OutcomeTold d fs (Stopped f) = 0 < f .condition → Blamed fs f
 
-abbrev pub AskTold : Desk → Ask → Type 0
-AskTold d (rests o) = OutcomeTold d o
-AskTold d (skips o) = OutcomeTold d o
-AskTold d (opens k key) = Unit {0}
-AskTold d (edits n e) = Unit {0}
-AskTold d (items target es) = EntriesTold es
-AskTold d (clears ws) = Unit {0}
+abbrev pub AskTold : Desk → List Word → Ask → Type 0
+AskTold d fs (rests o) = OutcomeTold d fs o
+AskTold d fs (skips o) = OutcomeTold d fs o
+AskTold d fs (opens k key) = Unit {0}
+AskTold d fs (edits n e) = Unit {0}
+AskTold d fs (items target es) = EntriesTold fs es
+AskTold d fs (clears ws) = Unit {0}
 
-module _ (d : Desk) where
+module _ (d : Desk) (fs : List Word) where
   -- ---- primaries
   abbrev NumeralTold : Numeral → Type 0
-  NumeralTold (Wrong f) = Told f
+  NumeralTold (Wrong f) = Blamed fs f
   NumeralTold (Number whole fraction) = Unit {0}
 
-  numbered-told : (w : Word) (x : Numbered) → NumeralTold (numberedBy w x)
-  unfolding numberedBy
-  numbered-told w BadNumber = lit< tt
-  numbered-told w TooLarge = lit< tt
-  numbered-told w (IsNumber n) = tt
+  numbered-told : (w : Word) (x : Numbered) → FieldOf fs w → NumeralTold (numberedBy w x)
+  unfolding numberedBy blamesKeyword blamesNone has
+  numbered-told w BadNumber o = field-blamed fs w badNumber o (lit< tt, refl, refl)
+  numbered-told w TooLarge o = field-blamed fs w numberTooLarge o (lit< tt, refl, refl)
+  numbered-told w (IsNumber n) o = tt
 
-  sub-told : (w : Word) (i : Integer) → NumeralTold (subBy d w i)
-  unfolding subBy
-  sub-told w Malformed = lit< tt
-  sub-told w (Value n) = by-test NumeralTold (isWithin 1 n (d .subs)) (Number n 0) (Wrong (blame w badSub)) (λ e. tt) (λ e. lit< tt)
+  sub-told : (w : Word) (i : Integer) → FieldOf fs w → NumeralTold (subBy d w i)
+  unfolding subBy blamesKeyword blamesNone has
+  sub-told w Malformed o = field-blamed fs w malformedSub o (lit< tt, refl, refl)
+  sub-told w (Value n) o =
+      by-test NumeralTold (isWithin 1 n (d .subs)) (Number n 0) (Wrong (blame w badSub))
+      (λ e. tt)
+      (λ e. field-blamed fs w badSub o (lit< tt, refl, refl))
 
-  numeral-told : (k : Kind) (w : Word) → NumeralTold (numeralOf d k w)
+  numeral-told : (k : Kind) (w : Word) → FieldOf fs w → NumeralTold (numeralOf d k w)
   unfolding numeralOf
-  numeral-told Cue w = numbered-told w (numberOf (w .chars))
-  numeral-told Group w = numbered-told w (numberOf (w .chars))
-  numeral-told Sub w = sub-told w (integerOf (w .chars))
+  numeral-told Cue w o = numbered-told w (numberOf (w .chars)) o
+  numeral-told Group w o = numbered-told w (numberOf (w .chars)) o
+  numeral-told Sub w o = sub-told w (integerOf (w .chars)) o
 
-  named-told : (k : Kind) (n : Numeral) (w : Word) (p : Paged) → NumeralTold n → AskTold d (namedAsk k (namedBy n w p))
+  page-blamed : (w : Word) → FieldOf fs w → Blamed fs (blame w badPage)
+  unfolding blamesKeyword blamesNone has
+  page-blamed w o = field-blamed fs w badPage o (lit< tt, refl, refl)
+
+  named-told : (k : Kind) (n : Numeral) (w : Word) (p : Paged) → FieldOf fs w → NumeralTold n → AskTold d fs (namedAsk k (namedBy n w p))
   unfolding namedBy namedAsk
-  named-told k (Wrong f) w p h = λ c. h
-  named-told k (Number whole fraction) w Bad h = λ c. lit< tt
-  named-told k (Number whole fraction) w (IsPage p) h = tt
-
-  -- every desk in range has cues
-  unsupported-told : (k : Kind) (w : Word) → supported d k ≡ false → 0 < d .cues → Told (blame w (unsupportedOf k))
-  unfolding unsupportedOf supported slotCount
-  unsupported-told Cue w e c = clash (lt-ltb 0 (d .cues) c) e
-  unsupported-told Group w e c = lit< tt
-  unsupported-told Sub w e c = lit< tt
-
-  primary-told : (k : Kind) (w : Word) (ws : List Word) → AskTold d (primaryAsk d k w ws)
-  unfolding primaryAsk namedOf
-  primary-told k w ws =
-      by-test (AskTold d) (supported d k) (namedAsk k (namedOf d k ws)) (skips (Dropped (blame w (unsupportedOf k))))
-      (λ e. named-told k (numeralOf d k (headOf ws)) (headOf (tailOf ws)) (pageAt 1 (pagesOf d k) (tailOf ws)) (numeral-told k (headOf ws)))
-      (λ e. unsupported-told k w e)
+  named-told k (Wrong f) w p o h = λ c. h
+  named-told k (Number whole fraction) w Bad o h = λ c. page-blamed w o
+  named-told k (Number whole fraction) w (IsPage p) o h = tt
 
   -- ---- secondaries
   abbrev ReadingTold : Reading → Type 0
-  ReadingTold (Misread f) = Told f
+  ReadingTold (Misread f) = Blamed fs f
   ReadingTold (Change e) = Unit {0}
 
-  time-told : (w : Word) (x : Timed) (f : ℕ → Reading) → ((t : ℕ) → ReadingTold (f t)) → ReadingTold (onTime w x f)
-  unfolding onTime
-  time-told w BadTime f h = lit< tt
-  time-told w (IsTime t) f h = h t
+  time-told : (w : Word) (x : Timed) (f : ℕ → Reading) → FieldOf fs w → ((t : ℕ) → ReadingTold (f t)) → ReadingTold (onTime w x f)
+  unfolding onTime blamesKeyword blamesNone has
+  time-told w BadTime f o h = field-blamed fs w badTime o (lit< tt, refl, refl)
+  time-told w (IsTime t) f o h = h t
 
-  fade-told : (f : ℕ → ℕ → Edit) (ws : List Word) → ReadingTold (fadeOf f ws)
+  fade-told : (f : ℕ → ℕ → Edit) (ws : List Word) → Fields fs ws → ReadingTold (fadeOf f ws)
   unfolding fadeOf
-  fade-told f ws =
+  fade-told f ws o =
       time-told (headOf ws) (timeOf (headOf ws .chars)) (λ fade. onTime (headOf (tailOf ws)) (delayOf (tailOf ws)) (λ delay. Change (f fade delay)))
-      (λ fade. time-told (headOf (tailOf ws)) (delayOf (tailOf ws)) (λ delay. Change (f fade delay)) (λ delay. tt))
+      (head-field fs ws o)
+      (λ fade.
+      time-told (headOf (tailOf ws)) (delayOf (tailOf ws)) (λ delay. Change (f fade delay)) (head-field fs (tailOf ws) (tail-fields fs ws o)) (λ delay. tt))
 
   link-told : (n : Numeral) → NumeralTold n → ReadingTold (linkBy n)
   unfolding linkBy
   link-told (Wrong f) h = h
   link-told (Number whole fraction) h = tt
 
-  change-told : (n : Name) (x : Reading) → ReadingTold x → AskTold d (changeAsk n x)
+  change-told : (n : Name) (x : Reading) → ReadingTold x → AskTold d fs (changeAsk n x)
   unfolding changeAsk
   change-told n (Misread f) h = λ c. h
   change-told n (Change e) h = tt
 
-  obeyed-told : (n : Name) (e : Secondary) (ws : List Word) → AskTold d (obeyedAsk d n e ws)
+  obeyed-told : (n : Name) (e : Secondary) (ws : List Word) → Fields fs ws → AskTold d fs (obeyedAsk d n e ws)
   unfolding obeyedAsk timesOf
-  obeyed-told n Chan ws = pairs-told d ws
-  obeyed-told n Up ws = change-told n (timesOf Up ws) (fade-told _ ws)
-  obeyed-told n Down ws = change-told n (timesOf Down ws) (fade-told _ ws)
-  obeyed-told n Followon ws = change-told n (timesOf Followon ws) (time-told (headOf ws) (timeOf (headOf ws .chars)) _ (λ t. tt))
-  obeyed-told n Link ws =
-      change-told n (timesOf Link ws) (link-told (numberedBy (headOf ws) (numberOf (headOf ws .chars))) (numbered-told (headOf ws) (numberOf (headOf ws .chars))))
+  obeyed-told n Chan ws o = pairs-told d fs ws o
+  obeyed-told n Up ws o = change-told n (timesOf Up ws) (fade-told _ ws o)
+  obeyed-told n Down ws o = change-told n (timesOf Down ws) (fade-told _ ws o)
+  obeyed-told n Followon ws o =
+      change-told n (timesOf Followon ws) (time-told (headOf ws) (timeOf (headOf ws .chars)) _ (head-field fs ws o) (λ t. tt))
+  obeyed-told n Link ws o =
+      change-told n (timesOf Link ws)
+      (link-told (numberedBy (headOf ws) (numberOf (headOf ws .chars))) (numbered-told (headOf ws) (numberOf (headOf ws .chars)) (head-field fs ws o)))
 
   -- ---- CLEAR
-  paged-told : (w : Word) (x : Paged) (f : ℕ → List Wipe) → AskTold d (pagedAsk w x f)
+  paged-told : (w : Word) (x : Paged) (f : ℕ → List Wipe) → FieldOf fs w → AskTold d fs (pagedAsk w x f)
   unfolding pagedAsk
-  paged-told w Bad f = λ c. lit< tt
-  paged-told w (IsPage p) f = tt
+  paged-told w Bad f o = λ c. page-blamed w o
+  paged-told w (IsPage p) f o = tt
 
-  kind-told : (k : Kind) (ws : List Word) → AskTold d (kindAsk d k ws)
+  kind-told : (k : Kind) (ws : List Word) → Fields fs ws → AskTold d fs (kindAsk d k ws)
   unfolding kindAsk
-  kind-told k ws =
-      by-test (AskTold d) (supported d k) (pagedAsk (headOf ws) (pageAt everyPage (pagesOf d k) ws) (λ p. table k p ∷ [])) (rests Obeyed)
-      (λ e. paged-told (headOf ws) (pageAt everyPage (pagesOf d k) ws) (λ p. table k p ∷ []))
+  kind-told k ws o =
+      by-test (AskTold d fs) (supported d k) (pagedAsk (headOf ws) (pageAt everyPage (pagesOf d k) ws) (λ p. table k p ∷ [])) (rests Obeyed)
+      (λ e. paged-told (headOf ws) (pageAt everyPage (pagesOf d k) ws) (λ p. table k p ∷ []) (head-field fs ws o))
       (λ e. tt)
 
-  wipes-told : (w : Word) (xs : List Wipe) → AskTold d (wipesAsk w xs)
+  wipes-told : (w : Word) (xs : List Wipe) → FieldOf fs w → AskTold d fs (wipesAsk w xs)
   unfolding wipesAsk
-  wipes-told w [] = λ c. lit< tt
-  wipes-told w (x ∷ xs) = tt
+  wipes-told w [] o = λ c. page-blamed w o
+  wipes-told w (x ∷ xs) o = tt
 
-  tables-told : (w : Word) (x : Paged) → AskTold d (tablesAsk d w x)
+  tables-told : (w : Word) (x : Paged) → FieldOf fs w → AskTold d fs (tablesAsk d w x)
   unfolding tablesAsk
-  tables-told w Bad = λ c. lit< tt
-  tables-told w (IsPage p) = wipes-told w (allWipes d p)
-
-  item-told : (i : Item) (w : Word) (ws : List Word) → AskTold d (itemAsk d i w ws)
-  unfolding itemAsk allAsk dimmersAsk
-  item-told All w ws = tables-told (headOf ws) (pageAt everyPage cap ws)
-  item-told Cues w ws = kind-told Cue ws
-  item-told Groups w ws = kind-told Group ws
-  item-told Patches w ws = paged-told (headOf ws) (pageAt everyPage (d .«patch_pages») ws) (λ p. dimmers p ∷ [])
-  item-told Subs w ws = kind-told Sub ws
-  item-told LocalItem w ws = tt
-  item-told Other w ws = λ c. lit< tt
+  tables-told w Bad o = λ c. page-blamed w o
+  tables-told w (IsPage p) o = wipes-told w (allWipes d p) o
 
   -- ---- PATCH, IDENT
-  triples-ask-told : (w : Word) (x : Paged) (ws : List Word) → AskTold d (triplesAsk d w x ws)
-  unfolding triplesAsk
-  triples-ask-told w Bad ws = λ c. lit< tt
-  triples-ask-told w (IsPage p) ws = triples-told d ws
+  triples-ask-told : (w : Word) (x : Paged) (ws : List Word) → FieldOf fs w → Fields fs ws → AskTold d fs (triplesAsk d w x ws)
+  unfolding triplesAsk blamesKeyword blamesNone has
+  triples-ask-told w Bad ws o g = λ c. field-blamed fs w badPatchPage o (lit< tt, refl, refl)
+  triples-ask-told w (IsPage p) ws o g = triples-told d fs ws g
 
-  ident-told : (w : Word) (v : Version) → OutcomeTold d (identOutcome w v)
+  ident-blamed : (w : Word) → FieldOf fs w → Blamed fs (blame w identMismatch)
+  unfolding blamesKeyword blamesNone has
+  ident-blamed w o = field-blamed fs w identMismatch o (lit< tt, refl, refl)
+
+  ident-told : (w : Word) (v : Version) → FieldOf fs w → OutcomeTold d fs (identOutcome w v)
   unfolding identOutcome
-  ident-told w BadVersion = tt
-  ident-told w (IsVersion a b) = by-test (OutcomeTold d) (isThree a b) Obeyed (Stopped (blame w identMismatch)) (λ e. tt) (λ e. tt)
+  ident-told w BadVersion o = λ c. ident-blamed w o
+  ident-told w (IsVersion a b) o =
+      by-test (OutcomeTold d fs) (isThree a b) Obeyed (Stopped (blame w identMismatch)) (λ e. tt) (λ e c. ident-blamed w o)
+
+-- ---- what is blamed on the keyword
+module _ (d : Desk) (w : Word) (ws : List Word) where
+  -- every desk in range has cues
+  unsupported-told : (k : Kind) → supported d k ≡ false → 0 < d .cues → Blamed (w ∷ ws) (blame w (unsupportedOf k))
+  unfolding unsupportedOf supported slotCount blamesNone has
+  unsupported-told Cue e c = clash (lt-ltb 0 (d .cues) c) e
+  unsupported-told Group e c = keyword-blamed w ws 51 (lit< tt, refl)
+  unsupported-told Sub e c = keyword-blamed w ws 52 (lit< tt, refl)
+
+  primary-told : (k : Kind) → AskTold d (w ∷ ws) (primaryAsk d k w ws)
+  unfolding primaryAsk namedOf
+  primary-told k =
+      let o = behind-fields w ws in
+      by-test (AskTold d (w ∷ ws)) (supported d k) (namedAsk k (namedOf d k ws)) (skips (Dropped (blame w (unsupportedOf k))))
+      (λ e.
+      named-told d (w ∷ ws) k (numeralOf d k (headOf ws)) (headOf (tailOf ws)) (pageAt 1 (pagesOf d k) (tailOf ws))
+      (head-field (w ∷ ws) (tailOf ws) (tail-fields (w ∷ ws) ws o))
+      (numeral-told d (w ∷ ws) k (headOf ws) (head-field (w ∷ ws) ws o)))
+      (λ e. unsupported-told k e)
+
+  unknown-blamed : Blamed (w ∷ ws) (blame w unknownKeyword)
+  unfolding blamesNone has
+  unknown-blamed = keyword-blamed w ws unknownKeyword (lit< tt, refl)
+
+  secondary-blamed : Blamed (w ∷ ws) (blame w wrongSecondary)
+  unfolding blamesNone has
+  secondary-blamed = keyword-blamed w ws wrongSecondary (lit< tt, refl)
+
+  item-told : (i : Item) (xs : List Word) → Fields (w ∷ ws) xs → AskTold d (w ∷ ws) (itemAsk d i w xs)
+  unfolding itemAsk allAsk dimmersAsk
+  item-told All xs o = tables-told d (w ∷ ws) (headOf xs) (pageAt everyPage cap xs) (head-field (w ∷ ws) xs o)
+  item-told Cues xs o = kind-told d (w ∷ ws) Cue xs o
+  item-told Groups xs o = kind-told d (w ∷ ws) Group xs o
+  item-told Patches xs o =
+      paged-told d (w ∷ ws) (headOf xs) (pageAt everyPage (d .«patch_pages») xs) (λ p. dimmers p ∷ []) (head-field (w ∷ ws) xs o)
+  item-told Subs xs o = kind-told d (w ∷ ws) Sub xs o
+  item-told LocalItem xs o = tt
+  item-told Other xs o = λ c. unknown-blamed
 
   -- ---- the families: passed over, skipped with what follows, skipped, or told
-  module _ {X : Type 0} (s : State) (w : Word) (ws : List Word) where
-    by-open : (o : Open) → s .«open» ≡ o → (e : Secondary) → (s .«open» ≡ Skipping → X) → (AskTold d (secondaryAsk d (s .key) o e w ws) → X) → X
+  module _ {X : Type 0} (s : State) where
+    by-open : (o : Open) → s .«open» ≡ o → (e : Secondary) → (s .«open» ≡ Skipping → X) → (AskTold d (w ∷ ws) (secondaryAsk d (s .key) o e w ws) → X) → X
     unfolding secondaryAsk
-    by-open Nothing h e skipped told = told (λ c. lit< tt)
+    by-open Nothing h e skipped told = told (λ c. secondary-blamed)
     by-open Skipping h e skipped told = skipped h
     by-open (Memory k) h e skipped told =
         told
-        (by-test (AskTold d) (augments k e) (obeyedAsk d (name k (s .key)) e ws) (rests (Dropped (blame w wrongSecondary)))
-        (λ a. obeyed-told (name k (s .key)) e ws)
-        (λ a c. lit< tt))
+        (by-test (AskTold d (w ∷ ws)) (augments k e) (obeyedAsk d (name k (s .key)) e ws) (rests (Dropped (blame w wrongSecondary)))
+        (λ a. obeyed-told d (w ∷ ws) (name k (s .key)) e ws (behind-fields w ws))
+        (λ a c. secondary-blamed))
 
     pub by-family : (f : Family) → (f ≡ Basically PassedOver → X) → (f ≡ Basically Local → X)
-        → ((e : Secondary) → f ≡ Augments e → s .«open» ≡ Skipping → X) → (AskTold d (familyAsk d s f w ws) → X) → X
+        → ((e : Secondary) → f ≡ Augments e → s .«open» ≡ Skipping → X) → (AskTold d (w ∷ ws) (familyAsk d s f w ws) → X) → X
     unfolding familyAsk basicAsk
-    by-family (Primary k) over local skipped told = told (primary-told k w ws)
+    by-family (Primary k) over local skipped told = told (primary-told k)
     by-family (Augments e) over local skipped told = by-open (s .«open») refl e (skipped e refl) told
-    by-family (Basically Ident) over local skipped told = told (ident-told (headOf ws) (versionOf (headOf ws .chars)))
-    by-family (Basically Clear) over local skipped told = told (item-told (itemOf (headOf ws .chars)) w (tailOf ws))
-    by-family (Basically Patch) over local skipped told = told (triples-ask-told (headOf ws) (pageOf (d .«patch_pages») (headOf ws .chars)) (tailOf ws))
-    by-family (Basically Enddata) over local skipped told = told tt
+    by-family (Basically Ident) over local skipped told =
+        told (ident-told d (w ∷ ws) (headOf ws) (versionOf (headOf ws .chars)) (head-field (w ∷ ws) ws (behind-fields w ws)))
+    by-family (Basically Clear) over local skipped told =
+        told (item-told (itemOf (headOf ws .chars)) (tailOf ws) (tail-fields (w ∷ ws) ws (behind-fields w ws)))
+    by-family (Basically Patch) over local skipped told =
+        told
+        (triples-ask-told d (w ∷ ws) (headOf ws) (pageOf (d .«patch_pages») (headOf ws .chars)) (tailOf ws) (head-field (w ∷ ws) ws (behind-fields w ws))
+        (tail-fields (w ∷ ws) ws (behind-fields w ws)))
+    by-family (Basically Enddata) over local skipped told = told (λ h. absurd (omega arith))
     by-family (Basically PassedOver) over local skipped told = over refl
     by-family (Basically Local) over local skipped told = local refl
-    by-family (Basically Unknown) over local skipped told = told (λ c. lit< tt)
+    by-family (Basically Unknown) over local skipped told = told (λ c. unknown-blamed)
 
 -- ---- passed over, or skipped: no report, and no byte changed
 module _ (d : Desk) (s : State) (t : List ℕ) (w : Word) (ws : List Word) {f : Family} where
@@ -245,25 +286,25 @@ module _ (d : Desk) (s : State) (t : List ℕ) (w : Word) (ws : List Word) {f : 
 
 -- ---- what a step that is told comes to
 module _ (d : Desk) (s : State) (t : List ℕ) where
-  full-told : (k : Kind) → 0 < fullOf k
-  unfolding fullOf
-  full-told Cue = lit< tt
-  full-told Group = lit< tt
-  full-told Sub = lit< tt
+  full-blamed : (fs : List Word) (k : Kind) → Blamed fs (blameNone (fullOf k))
+  unfolding fullOf blamesKeyword has
+  full-blamed fs Cue = none-blamed fs 21 (lit< tt, refl)
+  full-blamed fs Group = none-blamed fs 22 (lit< tt, refl)
+  full-blamed fs Sub = none-blamed fs 44 (lit< tt, refl)
 
-  opened-told : (k : Kind) (y : Key) (a : Found) → OutcomeTold d (openedBy d k y a t .outcome)
+  opened-told : (fs : List Word) (k : Kind) (y : Key) (a : Found) → OutcomeTold d fs (openedBy d k y a t .outcome)
   unfolding openedBy
-  opened-told k y (at i) = tt
-  opened-told k y nowhere = λ c. full-told k
+  opened-told fs k y (at i) = tt
+  opened-told fs k y nowhere = λ c. full-blamed fs k
 
-  pub acted-told : (a : Ask) → AskTold d a → OutcomeTold d (acted d s t a .outcome)
+  pub acted-told : (fs : List Word) (a : Ask) → AskTold d fs a → OutcomeTold d fs (acted d s t a .outcome)
   unfolding acted
-  acted-told (rests o) h = h
-  acted-told (skips o) h = h
-  acted-told (opens k y) h = opened-told k y (seat d t (name k y))
-  acted-told (edits n e) h = tt
-  acted-told (items target es) h = tt
-  acted-told (clears ws) h = tt
+  acted-told fs (rests o) h = h
+  acted-told fs (skips o) h = h
+  acted-told fs (opens k y) h = opened-told fs k y (seat d t (name k y))
+  acted-told fs (edits n e) h = tt
+  acted-told fs (items target es) h = tt
+  acted-told fs (clears ws) h = tt
 
   -- only an obeyed record has items, and so faults of its items
   opened-faults : (k : Kind) (y : Key) (a : Found) → openedBy d k y a t .faults ≡ []
@@ -280,73 +321,72 @@ module _ (d : Desk) (s : State) (t : List ℕ) where
   acted-faults (items target es) h = absurd (h refl)
   acted-faults (clears ws) h = refl
 
--- ---- each condition is above 0
-unfoldable pub Above : List ℕ → Type 0
-Above [] = Unit {0}
-Above (c ∷ cs) = (0 < c) × Above cs
+-- ---- each fault that is reported blames a field of its record, or none
+one-blamed : (fs : List Word) (b : Bool) (f : Fault) → (b ≡ true → Blamed fs f) → AllBlamed fs (oneIf b f)
+unfolding AllBlamed
+one-blamed fs true f h = (h refl, tt)
+one-blamed fs false f h = tt
 
-above-join : (cs bs : List ℕ) → Above cs → Above bs → Above (cs ++ bs)
-unfolding Above
-above-join [] bs h g = g
-above-join (c ∷ cs) bs h g = (h .0, above-join cs bs (h .1) g)
-
-one-above : (b : Bool) (c : ℕ) → (b ≡ true → 0 < c) → Above (oneIf b c)
-unfolding Above
-one-above true c h = (h refl, tt)
-one-above false c h = tt
-
-entries-above : (es : List Entry) → EntriesTold es → Above (faultReports (faultsOf es))
-unfolding faultsOf faultReports Above
-entries-above [] h = tt
-entries-above (Level n v ∷ es) h = entries-above es (h .1)
-entries-above (Patched n k v ∷ es) h = entries-above es (h .1)
-entries-above (Faulty f ∷ es) h = (h .0, entries-above es (h .1))
+entries-blamed : (fs : List Word) (es : List Entry) → EntriesTold fs es → AllBlamed fs (faultsOf es)
+unfolding faultsOf AllBlamed
+entries-blamed fs [] h = tt
+entries-blamed fs (Level n v ∷ es) h = entries-blamed fs es (h .1)
+entries-blamed fs (Patched n k v ∷ es) h = entries-blamed fs es (h .1)
+entries-blamed fs (Faulty f ∷ es) h = (h .0, entries-blamed fs es (h .1))
 
 module _ (d : Desk) (cues : 0 < d .cues) (s : State) (t : List ℕ) where
-  outcome-above : (o : Outcome) → OutcomeTold d o → Above (outcomeReports o)
-  unfolding outcomeReports Above
-  outcome-above Blank h = tt
-  outcome-above Passed h = tt
-  outcome-above (Dropped f) h = (h cues, tt)
-  outcome-above Obeyed h = tt
-  outcome-above (Stopped f) h = one-above (ltb 0 (f .condition)) (f .condition) (λ e. ltb-true 0 (f .condition) e)
+  outcome-blamed : (fs : List Word) (o : Outcome) → OutcomeTold d fs o → AllBlamed fs (outcomeFaults o)
+  unfolding outcomeFaults AllBlamed
+  outcome-blamed fs Blank h = tt
+  outcome-blamed fs Passed h = tt
+  outcome-blamed fs (Dropped f) h = (h cues, tt)
+  outcome-blamed fs Obeyed h = tt
+  outcome-blamed fs (Stopped f) h = one-blamed fs (ltb 0 (f .condition)) f (λ e. h (ltb-true 0 (f .condition) e))
 
-  faults-above : (a : Ask) → AskTold d a → Above (faultReports (acted d s t a .faults))
-  unfolding acted faultReports Above
-  faults-above (rests o) h = tt
-  faults-above (skips o) h = tt
-  faults-above (opens k y) h = subst (λ (fs : List Fault). Above (faultReports fs)) (sym (opened-faults d s t k y (seat d t (name k y)))) tt
-  faults-above (edits n e) h = tt
-  faults-above (items target es) h = entries-above es h
-  faults-above (clears ws) h = tt
+  faults-blamed : (fs : List Word) (a : Ask) → AskTold d fs a → AllBlamed fs (acted d s t a .faults)
+  unfolding acted AllBlamed
+  faults-blamed fs (rests o) h = tt
+  faults-blamed fs (skips o) h = tt
+  faults-blamed fs (opens k y) h = subst (AllBlamed fs) (sym (opened-faults d s t k y (seat d t (name k y)))) tt
+  faults-blamed fs (edits n e) h = tt
+  faults-blamed fs (items target es) h = entries-blamed fs es h
+  faults-blamed fs (clears ws) h = tt
 
-  ask-above : (a : Ask) → AskTold d a → Above (saidBy (acted d s t a))
-  ask-above a h =
-      above-join (outcomeReports (acted d s t a .outcome)) (faultReports (acted d s t a .faults)) (outcome-above _ (acted-told d s t a h)) (faults-above a h)
+  ask-blamed : (fs : List Word) (a : Ask) → AskTold d fs a → AllBlamed fs (saidBy (acted d s t a))
+  ask-blamed fs a h =
+      blamed-join fs (outcomeFaults (acted d s t a .outcome)) (acted d s t a .faults) (outcome-blamed fs _ (acted-told d s t fs a h)) (faults-blamed fs a h)
 
-  passed-above : (x : Step) (p : State) → x ≡ ended p Passed t → Above (saidBy x)
-  unfolding outcomeReports faultReports Above
-  passed-above x p e = subst (λ (y : Step). Above (saidBy y)) (sym e) tt
+  passed-blamed : (fs : List Word) (x : Step) (p : State) → x ≡ ended p Passed t → AllBlamed fs (saidBy x)
+  unfolding outcomeFaults AllBlamed
+  passed-blamed fs x p e = subst (λ (y : Step). AllBlamed fs (saidBy y)) (sym e) tt
 
-  fields-above : (ws : List Word) → Above (saidBy (stepOf d s ws t))
-  unfolding fieldsAsk acted outcomeReports faultReports Above
-  fields-above [] = tt
-  fields-above (w ∷ ws) =
+  fields-blamed : (fs : List Word) → AllBlamed fs (saidBy (stepOf d s fs t))
+  unfolding fieldsAsk acted outcomeFaults AllBlamed
+  fields-blamed [] = tt
+  fields-blamed (w ∷ ws) =
       let f : Family = familyOf (keywordOf (w .chars)) in
-      by-family d s w ws f
-      (λ e. passed-above _ s (over-passed d s t w ws e))
-      (λ e. passed-above _ skipping (local-passed d s t w ws e))
-      (λ x e o. passed-above _ s (skipped-passed d s t w ws x e o))
-      (λ h. ask-above (familyAsk d s f w ws) h)
+      by-family d w ws s f
+      (λ e. passed-blamed (w ∷ ws) _ s (over-passed d s t w ws e))
+      (λ e. passed-blamed (w ∷ ws) _ skipping (local-passed d s t w ws e))
+      (λ x e o. passed-blamed (w ∷ ws) _ s (skipped-passed d s t w ws x e o))
+      (λ h. ask-blamed (w ∷ ws) (familyAsk d s f w ws) h)
 
-  pub record-above : (r : List ℕ) → Above (conditionsOf r (recordStep d s r t))
-  unfolding conditionsOf recordStep askOf ignoredIn
-  record-above r =
+  ignored-blamed : (fs : List Word) (r : List ℕ) → AllBlamed fs (ignoredIn r)
+  unfolding ignoredIn blamesKeyword has
+  ignored-blamed fs r =
+      blamed-join fs (oneIf (has isHigh r) (blameNone ignoredHigh)) (oneIf (has isControl r) (blameNone ignoredControl))
+      (one-blamed fs (has isHigh r) (blameNone ignoredHigh) (λ h. none-blamed fs ignoredHigh (lit< tt, refl)))
+      (one-blamed fs (has isControl r) (blameNone ignoredControl) (λ h. none-blamed fs ignoredControl (lit< tt, refl)))
+
+  long-blamed : (fs : List Word) → AllBlamed fs (blameNone overLongRecord ∷ [])
+  unfolding AllBlamed blamesKeyword has
+  long-blamed fs = (none-blamed fs overLongRecord (lit< tt, refl), tt)
+
+  pub record-blamed : (r : List ℕ) → AllBlamed (fieldsOf r) (reportedOf r (recordStep d s r t))
+  unfolding reportedOf recordStep askOf
+  record-blamed r =
       by-bool (isOverLong r)
-      (λ e. unfold acted outcomeReports faultReports Above in rw e (lit< tt, tt))
+      (λ e. unfold acted outcomeFaults in rw e (long-blamed (fieldsOf r)))
       (λ e.
       rw e
-      (above-join (ignoredIn r) (saidBy (stepOf d s (fieldsOf r) t))
-      (above-join (oneIf (has isHigh r) ignoredHigh) (oneIf (has isControl r) ignoredControl) (one-above (has isHigh r) ignoredHigh (λ h. lit< tt))
-      (one-above (has isControl r) ignoredControl (λ h. lit< tt)))
-      (fields-above (fieldsOf r))))
+      (blamed-join (fieldsOf r) (ignoredIn r) (saidBy (stepOf d s (fieldsOf r) t)) (ignored-blamed (fieldsOf r) r) (fields-blamed (fieldsOf r))))

@@ -1,10 +1,13 @@
 -- The conditions, each number once, and their severity (paper 01, "Keywords and conditions"; Appendix B).
 -- Assumes nothing.
 use mathlib.Core.Bool.{Bool}
+use mathlib.Core.List.{[], _∷_}
 use Prim.Native.Nat.{ℕ}
+use lib.Dec.{eqb}
 use Rattle.store_desk.specs.declared.Kind.{Kind}
 use Rattle.store_desk.specs.declared.Kind.the-variants.{Cue, Group, Sub}
 use Rattle.store_desk.specs.Size.{isWithin}
+use Rattle.text_records.specs.Cleaning.{has}
 
 -- §7.2: no integer. §7.3 and §8.6 take over its rule on characters, and its number with it
 abbrev pub malformedInteger : ℕ
@@ -93,6 +96,13 @@ ignoredHigh = 701
 
 abbrev pub ignoredControl : ℕ
 ignoredControl = 702
+
+-- C-11: the conditions that blame the keyword, whatever stands behind it, and those that blame no field
+unfoldable pub blamesKeyword : ℕ → Bool
+blamesKeyword c = has (λ (k : ℕ). eqb c k) (51 ∷ 52 ∷ 151 ∷ 152 ∷ [])
+
+unfoldable pub blamesNone : ℕ → Bool
+blamesNone c = has (λ (k : ℕ). eqb c k) (21 ∷ 22 ∷ 91 ∷ 100 ∷ 701 ∷ 702 ∷ [])
 
 -- Appendix B: 0070 to 0149 are errors, every other condition is a warning
 unfoldable pub isError : ℕ → Bool

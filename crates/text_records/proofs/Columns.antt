@@ -89,13 +89,14 @@ pub column-seen : (xs : List ℕ) (n : ℕ) {v : Seen} → v ≡ seenOf (take n 
 unfolding seenOf
 column-seen xs n e h a b = sym (column-clean xs n h (ap (λ (w : Seen). w .high) (sym e) ∙ a) (ap (λ (w : Seen). w .control) (sym e) ∙ b))
 
--- ---- the character in that column is the n-th kept one
+-- ---- the character in that column is the n-th kept one, and the text goes on from there
 pub record Column (xs : List ℕ) (n column : ℕ) : Type 0 where
   pub index : ℕ
   pub counted : column ≡ suc index
   pub within : index < length xs
   pub same : getD xs index 0 ≡ getD (keptOf xs) n 0
   pub kept : (isHigh (getD xs index 0) || isControl (getD xs index 0)) ≡ false
+  pub text : keptOf (drop index xs) ≡ drop n (keptOf xs)
 
 module _ (c : ℕ) (cs : List ℕ) (m : isMark c ≡ false) where
   kept-past : (isHigh c || isControl c) ≡ true → keptOf (c ∷ cs) ≡ keptOf cs
@@ -115,6 +116,7 @@ module _ (c : ℕ) (cs : List ℕ) (m : isMark c ≡ false) where
         within = suc-le-suc (x .within);
         same = x .same ∙ ap (λ (l : List ℕ). getD l n 0) (sym (kept-past g));
         kept = x .kept;
+        text = x .text ∙ ap (λ (l : List ℕ). drop n l) (sym (kept-past g));
       }
 
   column-first : (isHigh c || isControl c) ≡ false → Column (c ∷ cs) 0 (columnOf (c ∷ cs) 1)
@@ -126,6 +128,7 @@ module _ (c : ℕ) (cs : List ℕ) (m : isMark c ≡ false) where
         within = suc-le-suc zero-le;
         same = ap (λ (l : List ℕ). getD l 0 0) (sym (kept-here g));
         kept = g;
+        text = refl;
       }
 
   column-later : (n : ℕ) → (isHigh c || isControl c) ≡ false → Column cs n (columnOf cs (suc n)) → Column (c ∷ cs) (suc n) (columnOf (c ∷ cs) (suc (suc n)))
@@ -137,6 +140,7 @@ module _ (c : ℕ) (cs : List ℕ) (m : isMark c ≡ false) where
         within = suc-le-suc (x .within);
         same = x .same ∙ ap (λ (l : List ℕ). getD l (suc n) 0) (sym (kept-here g));
         kept = x .kept;
+        text = x .text ∙ ap (λ (l : List ℕ). drop (suc n) l) (sym (kept-here g));
       }
 
 pub column-is : (xs : List ℕ) (n : ℕ) → n < length (keptOf xs) → Column xs n (columnOf xs (suc n))

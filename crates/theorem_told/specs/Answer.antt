@@ -19,4 +19,4 @@ answered d t stream lent =
 
 -- what stands where there is no report; its word is 0
 abbrev pub noReport : Report
-noReport = record { number = 0; condition = 0 }
+noReport = record { number = 0; condition = 0; column = 0 }

@@ -14,13 +14,15 @@ use Rattle.text_fields.specs.Words.{fieldsOf, headOf}
 use Rattle.text_fields.specs.Keywords.{keywordOf}
 use Rattle.load.specs.declared.Basic.the-variants.{Passed, Local}
 use Rattle.load.specs.declared.Family.{Family}
+use Rattle.load.specs.declared.Fault.{Fault}
 use Rattle.load.specs.declared.Family.the-variants.{Augments, Basic}
 use Rattle.load.specs.declared.Open.the-variants.{Skipping}
 use Rattle.load.specs.declared.Secondary.{Secondary}
 use Rattle.load.specs.declared.State.{State}
 use Rattle.load.specs.Condition.{overLongRecord}
+use Rattle.load.specs.Item.{blameNone}
 use Rattle.load.specs.Ask.{familyOf, isOverLong}
-use Rattle.load.specs.Step.{Step, nothingOpen, recordStep, outcomeReports, conditionsOf}
+use Rattle.load.specs.Step.{Step, nothingOpen, recordStep, outcomeFaults, reportedOf}
 use Rattle.load.specs.Run.{Run, Class, blank, passed, dropped, obeyed, classOf, eqClass, stops, runFrom, loadOf}
 
 -- ---- each record read is in one tally
@@ -48,7 +50,7 @@ pub data PassedOver (s : State) (r : List ℕ) : Type 0 where
 
 -- one condition is reported of the record as a whole, whether it stopped the load or not
 abbrev pub ReportedWhole : Step → Type 0
-ReportedWhole x = (c : ℕ) × (outcomeReports (x .outcome) ≡ c ∷ [])
+ReportedWhole x = (f : Fault) × (outcomeFaults (x .outcome) ≡ f ∷ [])
 
 -- of a record r of at most 80 characters, in state s, that came to x. Only an obeyed one has items that are dropped, and so reported, apart
 pub record ClassSaid (s : State) (r : List ℕ) (x : Step) : Type 0 where
@@ -61,7 +63,7 @@ pub record ClassSaid (s : State) (r : List ℕ) (x : Step) : Type 0 where
 -- of a longer one: 0091 and nothing else is reported, and the load stops
 pub record OverLongSaid (r : List ℕ) (x : Step) : Type 0 where
   pub drops : classOf (x .outcome) ≡ dropped
-  pub reported : conditionsOf r x ≡ overLongRecord ∷ []
+  pub reported : reportedOf r x ≡ blameNone overLongRecord ∷ []
   pub stopped : stops (x .outcome) ≡ true
 
 -- 0701 and 0702 change none of it: without its ignored characters, and its comment, the record comes to the same

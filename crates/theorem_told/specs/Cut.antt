@@ -39,7 +39,7 @@ cutRecord k stream n = ifAny (startedBefore k stream n)
 
 -- 0100, under the number of records read
 abbrev pub brokenOff : ℕ → Report
-brokenOff n = record { number = n; condition = noEnddata }
+brokenOff n = record { number = n; condition = noEnddata; column = 0 }
 
 -- of a stream's first k bytes, before which n records have ended: those are its records, and then what is left of the next. Loading it is
 -- loading those, and then going on with that one, where the whole stream goes on with the others. Unless a record stopped the load, 0100

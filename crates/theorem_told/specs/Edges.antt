@@ -11,7 +11,7 @@ use Rattle.store_desk.specs.Size.{storeLength}
 use Rattle.store_desk.specs.Name.{Name}
 use Rattle.store.specs.View.{Kept, absent, kept, memoryOf}
 use Rattle.load.specs.declared.Totals.{Totals}
-use Rattle.load.specs.Run.{Run, conditionSpan, loadOf, allReports, reportWord, totalsOf}
+use Rattle.load.specs.Run.{Run, loadOf, allReports, reportWord, totalsOf}
 
 -- ---- what a row says
 
@@ -27,9 +27,9 @@ pub record Edge : Type 0 where
   -- UP present, its fade and delay, and the levels; nothing where the cue is not kept
   pub kept : List ℕ
 
--- condition c of record n
-abbrev pub word : ℕ → ℕ → ℕ
-word n c = n * conditionSpan + c
+-- condition c of record n, in column k
+abbrev pub word : ℕ → ℕ → ℕ → ℕ
+word n c k = reportWord (record { number = n; condition = c; column = k })
 
 -- ---- the answer of a load
 
@@ -86,16 +86,16 @@ abbrev pub edges : List Edge
 edges =
     -- an empty stream gives 0100 at record 0
     edge (bytes "") (cue 1 0)
-    (word 0 100 ∷ []) (0 ∷ 0 ∷ 0 ∷ 0 ∷ 100 ∷ []) []
+    (word 0 100 0 ∷ []) (0 ∷ 0 ∷ 0 ∷ 0 ∷ 100 ∷ []) []
     -- 80 characters pass
     ∷ edge (bytes "CUE 1" ++ (spaces 75 ++ bytes "\rENDDATA\r")) (cue 1 0)
     [] (0 ∷ 2 ∷ 0 ∷ 0 ∷ 0 ∷ []) (0 ∷ 0 ∷ 0 ∷ 0 ∷ [])
     -- 81 give 0091
     ∷ edge (bytes "CUE 1" ++ (spaces 76 ++ bytes "\rENDDATA\r")) (cue 1 0)
-    (word 1 91 ∷ []) (0 ∷ 0 ∷ 0 ∷ 1 ∷ 91 ∷ []) []
+    (word 1 91 0 ∷ []) (0 ∷ 0 ∷ 0 ∷ 1 ∷ 91 ∷ []) []
     -- CR LF CR ends two records
     ∷ edge (bytes "\r\n\r") (cue 1 0)
-    (word 2 100 ∷ []) (2 ∷ 0 ∷ 0 ∷ 0 ∷ 100 ∷ []) []
+    (word 2 100 0 ∷ []) (2 ∷ 0 ∷ 0 ∷ 0 ∷ 100 ∷ []) []
     -- H9ABC is 9A
     ∷ edge (bytes "CUE 1\rCHAN 1@H9ABC\rENDDATA\r") (cue 1 0)
     [] (0 ∷ 3 ∷ 0 ∷ 0 ∷ 0 ∷ []) (0 ∷ 0 ∷ 0 ∷ 0x9A ∷ [])
@@ -110,7 +110,7 @@ edges =
     [] (0 ∷ 3 ∷ 0 ∷ 0 ∷ 0 ∷ []) (1 ∷ 30 ∷ 0 ∷ 0 ∷ [])
     -- 1:60 is 0241
     ∷ edge (bytes "CUE 1\rUP 1:60\rENDDATA\r") (cue 1 0)
-    (word 2 241 ∷ []) (0 ∷ 2 ∷ 0 ∷ 1 ∷ 241 ∷ []) (0 ∷ 0 ∷ 0 ∷ 0 ∷ [])
+    (word 2 241 4 ∷ []) (0 ∷ 2 ∷ 0 ∷ 1 ∷ 241 ∷ []) (0 ∷ 0 ∷ 0 ∷ 0 ∷ [])
     -- 999:59:59.9 is 35,999,999 tenths
     ∷ edge (bytes "CUE 1\rUP 999:59:59.9\rENDDATA\r") (cue 1 0)
     [] (0 ∷ 3 ∷ 0 ∷ 0 ∷ 0 ∷ []) (1 ∷ 35_999_999 ∷ 0 ∷ 0 ∷ [])
@@ -119,5 +119,5 @@ edges =
     [] (0 ∷ 2 ∷ 0 ∷ 0 ∷ 0 ∷ []) (0 ∷ 0 ∷ 0 ∷ 0 ∷ [])
     -- cue 0 is refused
     ∷ edge (bytes "CUE 0\rENDDATA\r") (cue 0 0)
-    (word 1 41 ∷ []) (0 ∷ 1 ∷ 0 ∷ 1 ∷ 41 ∷ []) []
+    (word 1 41 5 ∷ []) (0 ∷ 1 ∷ 0 ∷ 1 ∷ 41 ∷ []) []
     ∷ []

@@ -3,3 +3,4 @@ pub mod Classes
 pub mod Answer
 pub mod Cut
 pub mod Reports
+pub mod Columns

@@ -4,12 +4,12 @@
 use mathlib.Core.Path.{_≡_}
 use mathlib.Core.Bool.{true, false}
 use mathlib.Core.List.{List, []}
-use Prim.Native.Nat.{ℕ, suc, _*_, _≤_, _<_, _/_, _%_}
+use Prim.Native.Nat.{ℕ, suc, _*_, _≤_, _<_, _%_}
 use lib.ListN.{length, getD}
 use Rattle.store_desk.specs.declared.Desk.{Desk}
 use Rattle.store_desk.specs.Size.{InRange}
 use Rattle.load.specs.Condition.{isError}
-use Rattle.load.specs.Run.{Run, Report, conditionSpan, allReports, reportWord, totalsOf}
+use Rattle.load.specs.Run.{Run, Report, conditionSpan, columnSpan, zeroSpan, allReports, reportWord, numberIn, conditionIn, columnIn, totalsOf}
 use Rattle.theorem_told.specs.Answer.{noReport}
 
 -- report k, counted from 0
@@ -33,7 +33,7 @@ pub record ClosingSaid (rs : List Report) (closing : ℕ) : Type 0 where
   pub warning : (k : ℕ) → NoError rs → length rs ≡ suc k → closing ≡ reportAt rs k .condition
   pub none : rs ≡ [] → closing ≡ 0
 
--- ---- a report is 32 bits: record number 18 (from 1), condition 14
+-- ---- a report is 64 bits: record number 18 (from 1), condition 14, column 7, and 25 zero bits (C-11)
 
 abbrev pub numberSpan : ℕ
 numberSpan = 262_144
@@ -41,12 +41,15 @@ numberSpan = 262_144
 pub record Fits (r : Report) : Type 0 where
   pub number : r .number < numberSpan
   pub condition : r .condition < conditionSpan
+  pub column : r .column < columnSpan
 
 -- what a report's word says of it, and that it says it of no other
 pub record WordSaid (r : Report) : Type 0 where
-  pub short : reportWord r < numberSpan * conditionSpan
-  pub number : reportWord r / conditionSpan ≡ r .number
-  pub condition : reportWord r % conditionSpan ≡ r .condition
+  pub short : reportWord r < numberSpan * conditionSpan * columnSpan * zeroSpan
+  pub zeros : reportWord r % zeroSpan ≡ 0
+  pub number : numberIn (reportWord r) ≡ r .number
+  pub condition : conditionIn (reportWord r) ≡ r .condition
+  pub column : columnIn (reportWord r) ≡ r .column
   pub only : (q : Report) → Fits q → reportWord q ≡ reportWord r → q ≡ r
 
 -- ---- of a load
