@@ -3,7 +3,7 @@
 -- Assumes nothing.
 use mathlib.Core.Bool.{cond}
 use mathlib.Core.List.{List, [], _∷_}
-use Prim.Native.Nat.{ℕ, _+_, _<_, max}
+use Prim.Native.Nat.{ℕ, _+_, _*_, _/_, _%_, _<_, max}
 use Rattle.store_desk.specs.declared.Desk.{Desk}
 use Rattle.store_desk.specs.declared.Kind.the-variants.{Cue, Group, Sub}
 use Rattle.store_desk.specs.Size.{Within}
@@ -27,6 +27,13 @@ EntryFits d (Faulty f) = f .condition < conditionSpan
 abbrev pub AllFit : Desk → List Entry → Type 0
 AllFit d [] = Unit {0}
 AllFit d (e ∷ es) = EntryFits d e × AllFit d es
+
+-- a fault in one word of a lent list: its place above the condition's bits; and back
+abbrev pub faultWord : Fault → ℕ
+faultWord f = f .place * conditionSpan + f .condition
+
+abbrev pub faultIn : ℕ → Fault
+faultIn w = record { condition = w % conditionSpan; place = w / conditionSpan }
 
 -- faults whose conditions fit a report
 unfoldable pub Small : List Fault → Type 0

@@ -1,9 +1,9 @@
--- Faults as words in a lent list: one behind the other, read back as their conditions, and the list's length kept. By the laws of a part
+-- Faults as words in a lent list: one behind the other, read back as they were, and the list's length kept. By the laws of a part
 -- replaced, and by induction on the faults.
 -- Assumes nothing.
 use mathlib.Core.Path.{_≡_, refl, sym, ap, _∙_, subst}
 use mathlib.Core.List.{List, [], _∷_, _++_, map, append-nil, map-append}
-use Prim.Native.Nat.{ℕ, _+_, _%_, _<_, _≤_}
+use Prim.Native.Nat.{ℕ, _+_, _/_, _%_, _<_, _≤_}
 use native.Mathlib.Omega.{arith}
 use lib.ListN.{length, set, take, length-append, length-map}
 use Rattle.cells.specs.Put.{put}
@@ -13,10 +13,9 @@ use Rattle.load.specs.declared.Entry.{Entry}
 use Rattle.load.specs.declared.Entry.the-variants.{Level, Patch, Faulty}
 use Rattle.load.specs.declared.Fault.{Fault}
 use Rattle.load.specs.Item.{faultsOf}
-use Rattle.load.specs.Step.{faultReports}
 use Rattle.load.specs.Run.{conditionSpan}
-use Rattle.load.specs.Fits.{Small}
-use Rattle.load_items.specs.Done.{faultWord, faultsIn, noted, notedIn}
+use Rattle.load.specs.Fits.{faultWord, faultIn, Small}
+use Rattle.load_items.specs.Done.{faultsIn, noted, notedIn}
 use Rattle.load_items.specs.Each.{PlaceFits}
 
 abbrev words : List Fault → List ℕ
@@ -34,23 +33,25 @@ faults-length fs xs h =
     length-put fs 0 (words xs) (omega arith)
 
 -- what is read back
-word-condition : (f : Fault) → f .condition < conditionSpan → faultWord f % conditionSpan ≡ f .condition
-word-condition f h = omega arith
+word-back : (f : Fault) → f .condition < conditionSpan → faultIn (faultWord f) ≡ f
+word-back f h =
+    let c : faultWord f % conditionSpan ≡ f .condition = omega arith in
+    let p : faultWord f / conditionSpan ≡ f .place = omega arith in
+    λ i. record { condition = c i; place = p i }
 
-words-conditions : (xs : List Fault) → Small (faultReports xs) → map (λ (w : ℕ). w % conditionSpan) (words xs) ≡ faultReports xs
-unfolding Small faultReports
-words-conditions [] h = refl
-words-conditions (f ∷ xs) h =
-    let e = word-condition f (h .0) in
-    let r = words-conditions xs (h .1) in
+words-back : (xs : List Fault) → Small xs → map faultIn (words xs) ≡ xs
+unfolding Small
+words-back [] h = refl
+words-back (f ∷ xs) h =
+    let e = word-back f (h .0) in
+    let r = words-back xs (h .1) in
     λ i. e i ∷ r i
 
-pub conditions : (fs : List ℕ) (xs : List Fault) → length xs ≤ length fs → Small (faultReports xs)
-    → map (λ (w : ℕ). w % conditionSpan) (take (length xs) (faultsIn fs xs)) ≡ faultReports xs
+pub faults-back : (fs : List ℕ) (xs : List Fault) → length xs ≤ length fs → Small xs → map faultIn (take (length xs) (faultsIn fs xs)) ≡ xs
 unfolding faultsIn
-conditions fs xs h s =
+faults-back fs xs h s =
     let l : length (words xs) ≡ length xs = length-map xs (λ (f : Fault). faultWord f) in
-    ap (map (λ (w : ℕ). w % conditionSpan)) (part-same fs 0 (words xs) (length xs) (omega arith) l) ∙ words-conditions xs s
+    ap (map faultIn) (part-same fs 0 (words xs) (length xs) (omega arith) l) ∙ words-back xs s
 
 -- ---- one item's fault behind the others
 pub faults-cons : (e : Entry) (es : List Entry) → faultsOf (e ∷ es) ≡ faultsOf (e ∷ []) ++ faultsOf es

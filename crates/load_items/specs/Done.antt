@@ -2,7 +2,7 @@
 -- these.
 -- Assumes nothing.
 use mathlib.Core.List.{List, [], _∷_, map}
-use Prim.Native.Nat.{ℕ, _+_, _*_}
+use Prim.Native.Nat.{ℕ, _+_}
 use lib.ListN.{set}
 use Rattle.cells.specs.Put.{put}
 use Rattle.store_desk.specs.declared.Desk.{Desk}
@@ -13,7 +13,7 @@ use Rattle.load.specs.declared.Entry.{Entry}
 use Rattle.load.specs.declared.Entry.the-variants.{Level, Patch, Faulty}
 use Rattle.load.specs.declared.Fault.{Fault}
 use Rattle.load.specs.Item.{pairsOf, triplesOf}
-use Rattle.load.specs.Run.{conditionSpan}
+use Rattle.load.specs.Fits.{faultWord}
 use Rattle.load_items.specs.declared.Aim.{Aim}
 use Rattle.load_items.specs.declared.Aim.the-variants.{Slot, Page}
 use Rattle.load_items.specs.declared.Group.{Group}
@@ -35,10 +35,6 @@ doneAt d (Page p) t (Faulty f) = t
 unfoldable pub allDoneAt : Desk → Aim → List ℕ → List Entry → List ℕ
 allDoneAt d aim t [] = t
 allDoneAt d aim t (e ∷ es) = allDoneAt d aim (doneAt d aim t e) es
-
--- a fault in one word: its place above the condition's bits
-abbrev pub faultWord : Fault → ℕ
-faultWord f = f .place * conditionSpan + f .condition
 
 -- the lent list with faults at its front
 unfoldable pub faultsIn : List ℕ → List Fault → List ℕ

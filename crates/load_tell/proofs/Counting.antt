@@ -11,14 +11,14 @@ use lib.Seq.{take-all, take-append-le, set-out}
 use Rattle.cells.specs.Put.{put}
 use Rattle.cells.proofs.Put.{length-put, put-push}
 use Rattle.cells.proofs.Split.{by-lt}
+use Rattle.load.specs.declared.Fault.{Fault}
 use Rattle.load.specs.declared.Outcome.{Outcome}
 use Rattle.load.specs.Condition.{isError}
-use Rattle.load.specs.Run.{Report, Run, Class, blank, passed, dropped, obeyed, classOf, eqClass, tallyOf, lastOf, reportsAt, reportWord, storedIn}
+use Rattle.load.specs.Run.{Report, Run, Class, blank, passed, dropped, obeyed, classOf, eqClass, tallyOf, lastOf, reportOf, reportsAt, reportWord, storedIn}
 use Rattle.load.specs.Run.{allReports, closingOf, totalsOf}
-use Rattle.load.specs.Fits.{Small}
 use Rattle.load.proofs.Counts.{tally-few}
 use Rattle.load_tell.specs.Count.{countOf, closingBy, totalsBy, withOne, tallied, counted, Told, told, toldOne, toldAll}
-use Rattle.load_tell.specs.Count.{mostRecords, mostReports, Tellable, Countable}
+use Rattle.load_tell.specs.Count.{mostRecords, mostReports, Fit, Tellable, Countable}
 
 -- ---- one more record
 both-orders : (a b : Bool) (n : ℕ) → cond a (suc (cond b (n + 1) n)) (cond b (n + 1) n) ≡ cond b (cond a (suc n) n + 1) (cond a (suc n) n)
@@ -114,20 +114,20 @@ module _ (os : List Outcome) (reps : List ℕ) where
   abbrev pub after : List Report → Told
   after rs = told (countOf os rs) (storedIn reps rs)
 
-  pub told-one : (rs : List Report) (c : ℕ) → toldOne (after rs) c ≡ after (rs ++ (record { number = length os; condition = c } ∷ []))
+  pub told-one : (r : List ℕ) (rs : List Report) (f : Fault) → toldOne r (after rs) f ≡ after (rs ++ (reportOf (length os) r f ∷ []))
   unfolding toldOne countOf
-  told-one rs c =
-      let r : Report = record { number = length os; condition = c } in
-      λ i. told (count-report os rs r i) (stored-more reps rs r i)
+  told-one r rs f =
+      let q : Report = reportOf (length os) r f in
+      λ i. told (count-report os rs q i) (stored-more reps rs q i)
 
-  pub told-all : (rs : List Report) (cs : List ℕ) → toldAll (after rs) cs ≡ after (rs ++ reportsAt (length os) cs)
+  pub told-all : (r : List ℕ) (rs : List Report) (fs : List Fault) → toldAll r (after rs) fs ≡ after (rs ++ reportsAt (length os) r fs)
   unfolding toldAll
-  told-all rs [] = ap after (sym (append-nil rs))
-  told-all rs (c ∷ cs) =
-      let r : Report = record { number = length os; condition = c } in
-      ap (λ (x : Told). toldAll x cs) (told-one rs c)
-      ∙ told-all (rs ++ (r ∷ [])) cs
-      ∙ ap after (append-assoc rs (r ∷ []) (reportsAt (length os) cs))
+  told-all r rs [] = ap after (sym (append-nil rs))
+  told-all r rs (f ∷ fs) =
+      let q : Report = reportOf (length os) r f in
+      ap (λ (x : Told). toldAll r x fs) (told-one r rs f)
+      ∙ told-all r (rs ++ (q ∷ [])) fs
+      ∙ ap after (append-assoc rs (q ∷ []) (reportsAt (length os) r fs))
 
 -- ---- what they are told as
 pub totals-same : (x : Run) → totalsBy (countOf (x .outcomes) (allReports x)) ≡ totalsOf x
@@ -140,13 +140,13 @@ unfolding countOf
 count-countable os rs h =
     record { below = h; blanks = tally-few blank os; obeys = tally-few obeyed os; passes = tally-few passed os; drops = tally-few dropped os }
 
-pub count-tellable : (os : List Outcome) (rs : List Report) (cs : List ℕ) → length os ≤ mostRecords → length rs + length cs ≤ mostReports → Small cs
-    → Tellable (countOf os rs) cs
+pub count-tellable : (os : List Outcome) (rs : List Report) (r : List ℕ) (fs : List Fault) → length os ≤ mostRecords → length rs + length fs ≤ mostReports
+    → Fit r fs → Tellable (countOf os rs) r fs
 unfolding countOf
-count-tellable os rs cs h g s = record { numbered = h; room = g; small = s }
+count-tellable os rs r fs h g s = record { numbered = h; room = g; fit = s }
 
--- ---- conditions told in two parts
-pub told-join : (x : Told) (cs bs : List ℕ) → toldAll x (cs ++ bs) ≡ toldAll (toldAll x cs) bs
+-- ---- faults told in two parts
+pub told-join : (r : List ℕ) (x : Told) (fs gs : List Fault) → toldAll r x (fs ++ gs) ≡ toldAll r (toldAll r x fs) gs
 unfolding toldAll
-told-join x [] bs = refl
-told-join x (c ∷ cs) bs = told-join (toldOne x c) cs bs
+told-join r x [] gs = refl
+told-join r x (f ∷ fs) gs = told-join r (toldOne r x f) fs gs

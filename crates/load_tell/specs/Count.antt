@@ -3,7 +3,7 @@
 -- Assumes nothing.
 use mathlib.Core.Bool.{Bool, cond, not}
 use mathlib.Core.List.{List, [], _∷_, _++_, map}
-use Prim.Native.Nat.{ℕ, _+_, _/_, _%_, _≤_, _<_}
+use Prim.Native.Nat.{ℕ, _+_, _≤_, _<_}
 use lib.Dec.{eqb}
 use lib.ListN.{length, set}
 use Rattle.text_records.specs.Received.{longest}
@@ -15,6 +15,7 @@ use Rattle.load.specs.Condition.{isError, ignoredHigh, ignoredControl}
 use Rattle.load.specs.Item.{blameNone}
 use Rattle.load.specs.Step.{oneIf, outcomeFaults}
 use Rattle.load.specs.Run.{Report, reportOf, Class, blank, passed, dropped, obeyed, classOf, eqClass, tallyOf, lastOf, conditionSpan, reportWord}
+use Rattle.load.specs.Fits.{faultIn}
 use Rattle.load_tell.specs.declared.Count.{Count}
 
 -- ---- what the counters are after the outcomes and the reports so far
@@ -98,10 +99,7 @@ toldAll r x (f ∷ fs) = toldAll r (toldOne r x f) fs
 abbrev pub ignoredBy : Bool → Bool → List Fault
 ignoredBy high control = oneIf high (blameNone ignoredHigh) ++ oneIf control (blameNone ignoredControl)
 
--- a fault as a word: its place above the condition
-abbrev pub faultIn : ℕ → Fault
-faultIn w = record { condition = w % conditionSpan; place = w / conditionSpan }
-
+-- faults in words
 unfoldable pub faultsAs : List ℕ → List Fault
 faultsAs ws = map faultIn ws
 

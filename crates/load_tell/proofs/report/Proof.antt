@@ -1,15 +1,15 @@
--- `report` meets its contract: a record number of 18 bits and a condition of 14 fit one word, which is stored at the count of reports.
+-- `report` meets its contract: the parts of its word fit their bits, and the word is stored at the count of reports.
 -- Assumes nothing.
-use Rattle.load_tell.proofs.Telling.{report-is, word-fits}
+use Rattle.load_tell.proofs.Telling.{report-is, parts}
 use borrow.Author.Needs.{needs}
 use Rattle.load_tell.proofs.report.Statement.{statement}
 use Rattle.load_tell.proofs.report.Tie as tie
 
-mul-word : tie.Need-mul-word
-mul-word c = search needs
+column-requires : tie.Need-column-requires
+column-requires c κs = search needs
 
-add-word : tie.Need-add-word
-add-word c = record { fits = word-fits (c .before .before .pre) }
+report-word-requires : tie.Need-report-word-requires
+report-word-requires c κs = parts _ (c .column .ensures) (c .before .before .before .pre)
 
 place-requires : tie.Need-place-requires
 place-requires c κs = search needs
@@ -24,14 +24,14 @@ same-length : tie.Need-same-length
 same-length c = search needs
 
 returns : tie.Need-returns
-returns c = report-is _ _ _ (c .before .before .before .store-word .ensures) (c .before .before .before .before .place .ensures) (c .counted .ensures)
+returns c = report-is _ _ _ _ (c .before .before .before .store-word .ensures) (c .before .before .before .before .place .ensures) (c .before .before .before .before .before .before .report-word .ensures) (c .before .before .before .before .before .before .before .column .ensures) (c .counted .ensures)
 
 pub report-spec : {M : Type 1} → statement M
 report-spec =
     tie.close
     (tie.spec
-    mul-word
-    add-word
+    column-requires
+    report-word-requires
     place-requires
     store-word-requires
     counted-requires

@@ -1,14 +1,15 @@
--- `tell` meets its contract: four groups of conditions, told one after the other, are all of the record's.
+-- `tell` meets its contract: four groups of faults, told one after the other, are all of the record's.
 -- Assumes nothing.
-use Rattle.load_tell.proofs.Telling.{tellable-from, groups-length, groups-small, room-a, room-b, room-c, room-d, told-groups, all-from}
+use Rattle.load_tell.proofs.Telling.{tellable-from, tellable-as, groups-length, groups-fit, room-a, room-b, room-c, room-d, told-groups, all-from, all-of}
 use Rattle.load_tell.specs.declared.Count.{Count}
-use Rattle.load_tell.specs.Count.{tallied, conditionsIn, Tellable}
-use Rattle.load.specs.Step.{oneIf, outcomeReports}
+use Rattle.load_tell.specs.Count.{tallied, told, toldAll, faultsAs, Fit, Tellable}
+use Rattle.load.specs.declared.Fault.{Fault}
+use Rattle.load.specs.Item.{blameNone}
+use Rattle.load.specs.Step.{oneIf, outcomeFaults}
 use Rattle.load.specs.Condition.{ignoredHigh, ignoredControl}
-use Rattle.load.specs.Fits.{Small}
 use native.Mathlib.Omega.{arith}
 use lib.ListN.{length}
-use Prim.Native.Nat.{ℕ, _+_}
+use Prim.Native.Nat.{_+_}
 use mathlib.Core.List.{List, _++_}
 use mathlib.Core.Path.{_≡_}
 use borrow.Author.Needs.{needs}
@@ -17,10 +18,13 @@ use Rattle.load_tell.proofs.tell.Tie as tie
 
 -- the places that the answers speak of, each from a later one: what was told of each group
 abbrev began : tie.After-tally → tie.Start
-began c = c .before .before .before
+began c = c .before .before .before .before
 
-abbrev high-told : tie.After-report-if-arg2 → tie.After-report-if
-high-told c = c .before .before .before
+abbrev high-blamed : tie.After-report-if → tie.After-blameless
+high-blamed c = c .before
+
+abbrev high-told : tie.After-blameless2 → tie.After-report-if
+high-told c = c .before .before .before .before
 
 abbrev control-told : tie.After-report-outcome-arg → tie.After-report-if2
 control-told c = c .before .before .before
@@ -28,66 +32,95 @@ control-told c = c .before .before .before
 abbrev outcome-told : tie.After-report-faults-arg → tie.After-report-outcome
 outcome-told c = c .before .before .before
 
--- the four groups of conditions
-abbrev highs : tie.Start → List ℕ
-highs s = oneIf (s .args .high) ignoredHigh
+-- the four groups of faults
+abbrev highs : tie.Start → List Fault
+highs s = oneIf (s .args .high) (blameNone ignoredHigh)
 
-abbrev controls : tie.Start → List ℕ
-controls s = oneIf (s .args .control) ignoredControl
+abbrev controls : tie.Start → List Fault
+controls s = oneIf (s .args .control) (blameNone ignoredControl)
 
-abbrev outcomes : tie.Start → List ℕ
-outcomes s = outcomeReports (s .args .outcome)
+abbrev outcomes : tie.Start → List Fault
+outcomes s = outcomeFaults (s .args .outcome)
 
-abbrev drops : tie.Start → List ℕ
-drops s = conditionsIn (s .args .faults .now)
+abbrev drops : tie.Start → List Fault
+drops s = faultsAs (s .args .faults .now)
 
 -- there is room for all of them, and each group fits
-all : tie.Start → List ℕ
+all : tie.Start → List Fault
 all s = (highs s ++ controls s) ++ (outcomes s ++ drops s)
 
-room : (s : tie.Start) {n : Count} → n ≡ tallied (s .args .count) (s .args .outcome) → Tellable n (all s)
+room : (s : tie.Start) {n : Count} → n ≡ tallied (s .args .count) (s .args .outcome) → Tellable n (s .args .received .now) (all s)
 unfolding all
-room s e = tellable-from e (s .pre .1)
+room s e = tellable-from _ e (s .pre .1)
 
 long : (s : tie.Start) → length (all s) ≡ length (highs s) + length (controls s) + length (outcomes s) + length (drops s)
 unfolding all
-long s = groups-length (highs s) (controls s) (outcomes s) (drops s)
+long s = groups-length (s .args .received .now) (highs s) (controls s) (outcomes s) (drops s)
 
-small : (s : tie.Start) → Small (highs s) × Small (controls s) × Small (outcomes s) × Small (drops s)
-small s = groups-small (highs s) (controls s) (outcomes s) (drops s) (s .pre .1 .small)
+fit : (s : tie.Start) → let r = s .args .received .now in Fit r (highs s) × Fit r (controls s) × Fit r (outcomes s) × Fit r (drops s)
+fit s = groups-fit (s .args .received .now) (highs s) (controls s) (outcomes s) (drops s) (s .pre .1 .fit)
+
+-- what is told of ignored characters blames no field
+highs-told : (h : tie.After-report-if)
+    → let b = high-blamed h in
+    let k = b .before .before in
+    let s = began k in
+    told (h .report-if .result) (h .report-if .last .0) ≡ toldAll (s .args .received .now) (told (k .tally .result) (s .args .reports .now)) (highs s)
+highs-told h =
+    let b = high-blamed h in
+    let s = began (b .before .before) in
+    all-of _ _ (λ (f : Fault). oneIf (s .args .high) f) (h .report-if .ensures) (b .blameless .ensures)
+
+controls-told : (t : tie.After-report-if2)
+    → let b = t .before in
+    let h = high-told b in
+    let s = began (high-blamed h .before .before) in
+    told (t .report-if2 .result) (t .report-if2 .last .0)
+    ≡ toldAll (s .args .received .now) (told (h .report-if .result) (h .report-if .last .0)) (controls s)
+controls-told t =
+    let b = t .before in
+    let s = began (high-blamed (high-told b) .before .before) in
+    all-of _ _ (λ (f : Fault). oneIf (s .args .control) f) (t .report-if2 .ensures) (b .blameless2 .ensures)
 
 tally-requires : tie.Need-tally-requires
 tally-requires c κs = search needs
 
+blameless-requires : tie.Need-blameless-requires
+blameless-requires c κs = search needs
+
 report-if-requires : tie.Need-report-if-requires
 report-if-requires c κs =
-    let k = c .before in
+    let k = c .before .before in
     let s = began k in
-    room-a (room s (k .tally .ensures)) (omega (arith, long s)) (search (small s))
+    tellable-as _ (λ (f : Fault). oneIf (s .args .high) f) (c .blameless .ensures) (room-a _ (room s (k .tally .ensures)) (omega (arith, long s)) (fit s .0))
+
+blameless-requires-2 : tie.Need-blameless-requires-2
+blameless-requires-2 c κs = search needs
 
 report-if-requires-2 : tie.Need-report-if-requires-2
 report-if-requires-2 c κs =
     let h = high-told c in
-    let k = h .before .before in
+    let k = high-blamed h .before .before in
     let s = began k in
-    room-b (room s (k .tally .ensures)) _ _ (h .report-if .ensures) (omega (arith, long s)) (search (small s))
+    tellable-as _ (λ (f : Fault). oneIf (s .args .control) f) (c .blameless2 .ensures)
+    (room-b _ (room s (k .tally .ensures)) _ _ (highs-told h) (omega (arith, long s)) (fit s .1))
 
 report-outcome-requires : tie.Need-report-outcome-requires
 report-outcome-requires c κs =
     let t = control-told c in
     let h = high-told (t .before) in
-    let k = h .before .before in
+    let k = high-blamed h .before .before in
     let s = began k in
-    room-c (room s (k .tally .ensures)) _ _ _ (h .report-if .ensures) (t .report-if2 .ensures) (omega (arith, long s)) (small s .2)
+    room-c _ (room s (k .tally .ensures)) _ _ _ (highs-told h) (controls-told t) (omega (arith, long s)) (fit s .2)
 
 report-faults-requires : tie.Need-report-faults-requires
 report-faults-requires c κs =
     let o = outcome-told c in
     let t = control-told (o .before) in
     let h = high-told (t .before) in
-    let k = h .before .before in
+    let k = high-blamed h .before .before in
     let s = began k in
-    room-d (room s (k .tally .ensures)) _ _ _ (h .report-if .ensures) (t .report-if2 .ensures) _ (o .report-outcome .ensures) (omega (arith, long s)) (small s .3)
+    room-d _ (room s (k .tally .ensures)) _ _ _ (highs-told h) (controls-told t) _ (o .report-outcome .ensures) (omega (arith, long s)) (fit s .3)
 
 same-length : tie.Need-same-length
 same-length c = search needs
@@ -98,10 +131,10 @@ returns c =
     let o = outcome-told (f .before) in
     let t = control-told (o .before) in
     let h = high-told (t .before) in
-    let k = h .before .before in
+    let k = high-blamed h .before .before in
     let s = began k in
-    all-from _ _
-    (told-groups _ (highs s) (controls s) (outcomes s) (drops s) _ (h .report-if .ensures) (t .report-if2 .ensures) (o .report-outcome .ensures) (f .report-faults .ensures))
+    all-from _ _ _
+    (told-groups _ _ (highs s) (controls s) (outcomes s) (drops s) _ (highs-told h) (controls-told t) (o .report-outcome .ensures) (f .report-faults .ensures))
     (k .tally .ensures)
 
 pub tell-spec : {M : Type 1} → statement M
@@ -109,7 +142,9 @@ tell-spec =
     tie.close
     (tie.spec
     tally-requires
+    blameless-requires
     report-if-requires
+    blameless-requires-2
     report-if-requires-2
     report-outcome-requires
     report-faults-requires
