@@ -22,24 +22,25 @@ use Rattle.text_records.proofs.Cleaning.{kept-length, cleaned-high, cleaned-con
 use Rattle.text_records.proofs.Plain.{plain-kept, plain-high, plain-control}
 use Rattle.text_fields.specs.Words.{wordsOf, fieldsOf}
 use Rattle.text_fields.proofs.Counts.{words-few}
+use Rattle.load.specs.declared.Fault.{Fault}
 use Rattle.load.specs.declared.State.{State}
 use Rattle.load.specs.declared.Outcome.the-variants.{Stopped, Blank}
 use Rattle.load.specs.Condition.{overLongRecord}
 use Rattle.load.specs.Item.{blameNone}
 use Rattle.load.specs.Ask.{isOverLong, askOf}
-use Rattle.load.specs.Step.{Step, ended, acted, stepOf, recordStep, ignoredIn, outcomeReports, faultReports, conditionsOf}
+use Rattle.load.specs.Step.{Step, ended, acted, stepOf, recordStep, ignoredIn, outcomeFaults, reportedOf}
 use Rattle.load.specs.Run.{stops}
 use Rattle.load.specs.Fits.{Small}
 use Rattle.load.proofs.Steps.{Modest, saidBy, step-said}
 use Rattle.load.proofs.Counts.{blank-step, blank-said}
 use Rattle.load_items.specs.Done.{faultsIn, mostFaults}
-use Rattle.load_items.proofs.Faults.{conditions}
+use Rattle.load_items.proofs.Faults.{faults-back}
 use Rattle.load_step.specs.declared.Held.{Held}
 use Rattle.load_step.specs.declared.Stepped.{Stepped}
 use Rattle.load_step.specs.Held.{heldOf, HeldReady, Room, ResAll, steppingAll, steppedOf, steppedAll}
 use Rattle.load_tell.specs.declared.Count.{Count}
 use Rattle.load_run.specs.declared.Progress.{Progress}
-use Rattle.load_tell.specs.Count.{tallied, told, toldOne, toldAll, ignoredBy, conditionsIn, mostRecords, Tellable, Countable}
+use Rattle.load_tell.specs.Count.{tallied, told, toldOne, toldAll, ignoredBy, faultsAs, mostRecords, Tellable, Countable}
 use Rattle.load_run.specs.Take.{taken, takenBy, textTaken, recordTaken, blankTaken, Spans, Taking}
 use Rattle.load_tell.proofs.Telling.{told-single, said-room}
 
@@ -65,37 +66,38 @@ module _ (d : Desk) (x : Step) (fs : List ℕ) {s : Stepped} {t ws : List ℕ} (
   unfolding steppedAll steppedOf
   stepped-count = ap (λ (r : ResAll). r .res .stepped .faults) e
 
-  module _ (g : Small (faultReports (x .faults))) (few : s .faults ≤ mostFaults) (room : Room fs) where
-    stepped-faults : conditionsIn (take (s .faults) ws) ≡ faultReports (x .faults)
-    unfolding conditionsIn
+  module _ (g : Small (x .faults)) (few : s .faults ≤ mostFaults) (room : Room fs) where
+    stepped-faults : faultsAs (take (s .faults) ws) ≡ x .faults
+    unfolding faultsAs
     stepped-faults =
         let h : length (x .faults) ≤ length fs = omega (arith, stepped-count) in
-        ap conditionsIn stepped-words ∙ conditions fs (x .faults) h g
+        ap faultsAs stepped-words ∙ faults-back fs (x .faults) h g
 
-    -- the conditions as the code has them
-    said-same : (ig : List ℕ) → ig ++ (outcomeReports (s .outcome) ++ conditionsIn (take (s .faults) ws)) ≡ ig ++ saidBy x
-    said-same ig = λ i. ig ++ (outcomeReports (stepped-outcome i) ++ stepped-faults i)
+    -- the faults as the code has them
+    said-same : (ig : List Fault) → ig ++ (outcomeFaults (s .outcome) ++ faultsAs (take (s .faults) ws)) ≡ ig ++ saidBy x
+    said-same ig = λ i. ig ++ (outcomeFaults (stepped-outcome i) ++ stepped-faults i)
 
     -- the step taken
-    pub step-taken : (n : Count) (l ig : List ℕ) {h : Held} {c : Count} {k : List ℕ} {b : Bool}
+    pub step-taken : (n : Count) (r l : List ℕ) (ig : List Fault) {h : Held} {c : Count} {k : List ℕ} {b : Bool}
         → h ≡ s .held
-        → told c k ≡ toldAll (told (tallied n (s .outcome)) l) (ig ++ (outcomeReports (s .outcome) ++ conditionsIn (take (s .faults) ws)))
+        → told c k ≡ toldAll r (told (tallied n (s .outcome)) l) (ig ++ (outcomeFaults (s .outcome) ++ faultsAs (take (s .faults) ws)))
         → b ≡ stops (s .outcome)
-        → taken (record { held = h; count = c; stopped = b }) t k ≡ takenBy d n l x (ig ++ saidBy x)
+        → taken (record { held = h; count = c; stopped = b }) t k ≡ takenBy d n r l x (ig ++ saidBy x)
     unfolding takenBy
-    step-taken n l ig {h} {c} {k} {b} y f a =
-        let q : told c k ≡ toldAll (told (tallied n (x .outcome)) l) (ig ++ saidBy x) =
-        f ∙ (λ i. toldAll (told (tallied n (stepped-outcome i)) l) (said-same ig i)) in
+    step-taken n r l ig {h} {c} {k} {b} y f a =
+        let q : told c k ≡ toldAll r (told (tallied n (x .outcome)) l) (ig ++ saidBy x) =
+        f ∙ (λ i. toldAll r (told (tallied n (stepped-outcome i)) l) (said-same ig i)) in
         let z : b ≡ stops (x .outcome) = a ∙ ap stops stepped-outcome in
         let v : h ≡ heldOf d (x .store) (x .state) = y ∙ stepped-held in
         λ i. taken (record { held = v i; count = q i .count; stopped = z i }) (stepped-store i) (q i .list)
 
-    -- there is room for its conditions
-    pub step-room : (n : Count) (size : ℕ) (high control : Bool) → Countable n → n .reports + size ≤ mostRecords → Modest size (saidBy x)
-        → Tellable (tallied n (s .outcome)) (ignoredBy high control ++ (outcomeReports (s .outcome) ++ conditionsIn (take (s .faults) ws)))
-    step-room n size high control h k m =
-        subst (λ (cs : List ℕ). Tellable (tallied n (s .outcome)) cs) (sym (said-same (ignoredBy high control)))
-        (said-room n (s .outcome) size high control (saidBy x) h k m)
+    -- there is room for its faults
+    pub step-room : (n : Count) (r : List ℕ) (size : ℕ) (high control : Bool) → Countable n → n .reports + size ≤ mostRecords → length r ≤ longest
+        → Modest size (saidBy x)
+        → Tellable (tallied n (s .outcome)) r (ignoredBy high control ++ (outcomeFaults (s .outcome) ++ faultsAs (take (s .faults) ws)))
+    step-room n r size high control h k z m =
+        subst (λ (ys : List Fault). Tellable (tallied n (s .outcome)) r ys) (sym (said-same (ignoredBy high control)))
+        (said-room r n (s .outcome) size high control (saidBy x) h k z m)
 
 -- no more of them than characters of the text
 pub text-said : (d : Desk) (s : State) (text t : List ℕ) → Modest (length text) (saidBy (stepOf d s (wordsOf 0 text) t))
@@ -190,29 +192,29 @@ module _ (s : List ℕ) (at end : ℕ) {plain : Bool} (w : Spans s at end plain)
 -- ---- a record that is not over-long
 module _ {xs bytes : List ℕ} {n : ℕ} {high control : Bool} (w : Texted xs bytes n high control) where
   pub text-taken : (d : Desk) (p : Progress) (t l : List ℕ) → isOverLong xs ≡ false
-      → textTaken d p (take n bytes) high control t l ≡ recordTaken d p xs t l
-  unfolding recordStep askOf conditionsOf ignoredIn fieldsOf
+      → textTaken d p xs (take n bytes) high control t l ≡ recordTaken d p xs t l
+  unfolding recordStep askOf reportedOf ignoredIn fieldsOf
   text-taken d p t l o =
       rw o (λ i.
       let x = stepOf d (p .held .state) (wordsOf 0 (w .text i)) t in
-      takenBy d (p .count) l x (ignoredBy (w .highs i) (w .controls i) ++ saidBy x))
+      takenBy d (p .count) xs l x (ignoredBy (w .highs i) (w .controls i) ++ saidBy x))
 
   pub text-room : {d : Desk} {p : Progress} {t : List ℕ} → length xs ≤ longest → Taking d p (length xs) t
-      → (length (take n bytes) ≤ longest) × Taking d p (length (take n bytes)) t
+      → ((length (take n bytes) ≤ longest) × (length xs ≤ longest)) × Taking d p (length (take n bytes)) t
   text-room {d} {p} {t} h k =
       let a : length (take n bytes) ≡ length (keptOf xs) = ap (λ (z : List ℕ). length z) (w .text) in
       let b : length (keptOf xs) ≤ length xs = kept-length xs in
       let f : p .count .reports + length xs ≤ mostRecords = k .room in
-      (omega arith, record { fitting = k .fitting; ready = k .ready; countable = k .countable; room = omega arith })
+      ((omega arith, h), record { fitting = k .fitting; ready = k .ready; countable = k .countable; room = omega arith })
 
 -- ---- an over-long one
 pub long-taken : (d : Desk) (p : Progress) (r t l : List ℕ) {n : Count} {k : List ℕ} → isOverLong r ≡ true → HeldReady d t (p .held)
-    → told n k ≡ toldOne (told (tallied (p .count) (Stopped (blameNone overLongRecord))) l) overLongRecord
+    → told n k ≡ toldOne r (told (tallied (p .count) (Stopped (blameNone overLongRecord))) l) (blameNone overLongRecord)
     → taken (record { held = p .held; count = n; stopped = true }) t k ≡ recordTaken d p r t l
-unfolding recordStep askOf acted conditionsOf outcomeReports faultReports takenBy stops
+unfolding recordStep askOf acted reportedOf outcomeFaults takenBy stops
 long-taken d p r t l {n} {k} o h e =
-    let q : told n k ≡ toldAll (told (tallied (p .count) (Stopped (blameNone overLongRecord))) l) (overLongRecord ∷ []) =
-    e ∙ told-single _ overLongRecord in
+    let q : told n k ≡ toldAll r (told (tallied (p .count) (Stopped (blameNone overLongRecord))) l) (blameNone overLongRecord ∷ []) =
+    e ∙ told-single r _ (blameNone overLongRecord) in
     rw o (λ i. taken (record { held = h .same i; count = q i .count; stopped = true }) t (q i .list))
 
 -- ---- one with no character
@@ -223,6 +225,6 @@ blank-taken d p r t l {q} e h f =
     let s = p .held .state in
     (λ i. taken (f i) t l)
     ∙ (λ i. taken (record { held = h .same i; count = tallied (p .count) Blank; stopped = false }) t l)
-    ∙ (λ i. takenBy d (p .count) l (ended s Blank t) (sym (blank-said s t) i))
-    ∙ (λ i. takenBy d (p .count) l (sym (blank-step d s t) i) (conditionsOf [] (sym (blank-step d s t) i)))
+    ∙ (λ i. takenBy d (p .count) [] l (ended s Blank t) (sym (blank-said s t) i))
+    ∙ (λ i. takenBy d (p .count) [] l (sym (blank-step d s t) i) (reportedOf [] (sym (blank-step d s t) i)))
     ∙ (λ i. recordTaken d p (sym e i) t l)

@@ -11,18 +11,20 @@ use lib.ListN.{length, getD, take, drop, length-append, length-map}
 use Rattle.store_desk.specs.declared.Desk.{Desk}
 use Rattle.text_records.specs.Stream.{isEnd, recordsOf, recordEnd, nextStart}
 use Rattle.text_records.specs.Window.{plainEnd}
+use Rattle.text_records.proofs.Columns.{column-none}
 use Rattle.text_records.proofs.Received.{part-length}
 use Rattle.text_records.proofs.Stream.{records-at, records-end, start-forward, start-within, end-within}
 use Rattle.text_records.proofs.Plain.{plain-within, end-is, end-here}
 use Rattle.store_code.specs.Fits.{Fitting}
 use Rattle.store_code.proofs.Laws.{fitting-kept}
+use Rattle.load.specs.declared.Fault.{Fault}
 use Rattle.load.specs.declared.State.{State}
 use Rattle.load.specs.declared.Outcome.{Outcome}
 use Rattle.load.specs.declared.Totals.{Totals}
 use Rattle.load.specs.Condition.{noEnddata}
-use Rattle.load.specs.Step.{Step, recordStep, conditionsOf}
-use Rattle.load.specs.Run.{Report, Run, stops, reportsAt, runFrom, loadOf, allReports, storedIn, conditionSpan}
-use Rattle.load.specs.Fits.{Small}
+use Rattle.load.specs.Item.{blameNone}
+use Rattle.load.specs.Step.{Step, recordStep, reportedOf}
+use Rattle.load.specs.Run.{Report, reportOf, Run, stops, reportsAt, runFrom, loadOf, allReports, storedIn, conditionSpan}
 use Rattle.load.proofs.Counts.{record-said, stored-none}
 use Rattle.load_step.specs.declared.Held.{Held}
 use Rattle.load_step.specs.Held.{heldOf, HeldReady}
@@ -32,6 +34,7 @@ use Rattle.load_tell.specs.Count.{countOf, totalsBy, tallied, Told, told, toldO
 use Rattle.load_run.specs.Take.{Took, taken, takenBy, recordTaken, blankTaken, Spans, Taking}
 use Rattle.load_run.specs.Loaded.{Loaded, runLoaded, loadedOf, begunOf}
 use Rattle.load_tell.proofs.Counting.{count-record, after, told-one, told-all, totals-same, count-countable, count-tellable}
+use Rattle.load_tell.proofs.Telling.{tellable-as, none-fits}
 use Rattle.load_run.proofs.Kept.{ready-begun, ready-record}
 use Rattle.load_run.proofs.Taking.{blank-taken}
 
@@ -45,13 +48,13 @@ runSo s t b os rs = record { state = s; store = t; stopped = b; outcomes = os; r
 module _ (d : Desk) (n : ℕ) (s : State) (t r : List ℕ) (rest : List (List ℕ)) (os : List Outcome) (rs : List Report) where
   run-turn : stops (recordStep d s r t .outcome) ≡ false
       → runAfter os rs (runFrom d n s t (r ∷ rest))
-      ≡ runAfter (os ++ (recordStep d s r t .outcome ∷ [])) (rs ++ reportsAt (n + 1) (conditionsOf r (recordStep d s r t)))
+      ≡ runAfter (os ++ (recordStep d s r t .outcome ∷ [])) (rs ++ reportsAt (n + 1) r (reportedOf r (recordStep d s r t)))
       (runFrom d (n + 1) (recordStep d s r t .state) (recordStep d s r t .store) rest)
   unfolding runFrom
   run-turn e =
       let x = recordStep d s r t in
       let y = runFrom d (n + 1) (x .state) (x .store) rest in
-      let cs = reportsAt (n + 1) (conditionsOf r x) in
+      let cs = reportsAt (n + 1) r (reportedOf r x) in
       rw e (λ i.
       record {
         state = y .state;
@@ -64,7 +67,7 @@ module _ (d : Desk) (n : ℕ) (s : State) (t r : List ℕ) (rest : List (List �
   run-stop : stops (recordStep d s r t .outcome) ≡ true
       → runAfter os rs (runFrom d n s t (r ∷ rest))
       ≡ runSo (recordStep d s r t .state) (recordStep d s r t .store) true (os ++ (recordStep d s r t .outcome ∷ []))
-      (rs ++ reportsAt (n + 1) (conditionsOf r (recordStep d s r t)))
+      (rs ++ reportsAt (n + 1) r (reportedOf r (recordStep d s r t)))
   unfolding runFrom
   run-stop e = rw e refl
 
@@ -169,7 +172,7 @@ module _ {d : Desk} {t₀ reps₀ stream : List ℕ} {p : Progress} {at : ℕ} {
     outcomes' = w .outcomes ++ (step .outcome ∷ [])
 
     reports' : List Report
-    reports' = w .reports ++ reportsAt (length (w .outcomes) + 1) (conditionsOf chars step)
+    reports' = w .reports ++ reportsAt (length (w .outcomes) + 1) chars (reportedOf chars step)
 
     left-stopped : q .stopped ≡ stops (step .outcome)
     unfolding takenBy
@@ -196,12 +199,12 @@ module _ {d : Desk} {t₀ reps₀ stream : List ℕ} {p : Progress} {at : ℕ} {
     left-told =
         let os = w .outcomes in
         let rs = w .reports in
-        let cs = conditionsOf chars step in
+        let fs = reportedOf chars step in
         ap (λ (x : Took). told (x .done .count) (x .reports)) f
-        ∙ (λ i. toldAll (told (tallied (w .count i) (step .outcome)) (w .list i)) cs)
-        ∙ ap (λ (n : Count). toldAll (told n (storedIn reps₀ rs)) cs) (count-record os rs (step .outcome))
-        ∙ told-all outcomes' reps₀ rs cs
-        ∙ ap (λ (k : ℕ). after outcomes' reps₀ (rs ++ reportsAt k cs)) outcomes-length
+        ∙ (λ i. toldAll chars (told (tallied (w .count i) (step .outcome)) (w .list i)) fs)
+        ∙ ap (λ (n : Count). toldAll chars (told n (storedIn reps₀ rs)) fs) (count-record os rs (step .outcome))
+        ∙ told-all outcomes' reps₀ chars rs fs
+        ∙ ap (λ (k : ℕ). after outcomes' reps₀ (rs ++ reportsAt k chars fs)) outcomes-length
 
     module _ {next : ℕ} (g : next ≡ nextStart stream end) where
       left : List (List ℕ)
@@ -223,11 +226,11 @@ module _ {d : Desk} {t₀ reps₀ stream : List ℕ} {p : Progress} {at : ℕ} {
       reports-length : length reports' ≤ next
       unfolding reports'
       reports-length =
-          let cs = conditionsOf chars step in
-          let rs' = reportsAt (length (w .outcomes) + 1) cs in
+          let fs = reportedOf chars step in
+          let rs' = reportsAt (length (w .outcomes) + 1) chars fs in
           let a : length (w .reports ++ rs') ≡ length (w .reports) + length rs' = length-append (w .reports) rs' in
-          let b : length rs' ≡ length cs = length-map cs _ in
-          let c : length cs ≤ length chars = record-said d (p .held .state) chars t .few in
+          let b : length rs' ≡ length fs = length-map fs _ in
+          let c : length fs ≤ length chars = record-said d (p .held .state) chars t .few in
           let k : length chars ≡ end - at = chars-length in
           let l : length (w .reports) ≤ at = w .reports-few in
           let i : (at ≤ end) × (end ≤ length stream) = end-in in
@@ -305,19 +308,24 @@ module _ {d : Desk} {t₀ reps₀ stream : List ℕ} {p : Progress} {at : ℕ} {
 
 -- ---- the end of the stream
 module _ {d : Desk} {t₀ reps₀ stream : List ℕ} {p : Progress} {at : ℕ} {t reps : List ℕ} (w : SoFar d t₀ reps₀ stream p at t reps) where
-  pub end-room : (c : ℕ) → c < conditionSpan → Tellable (p .count) (c ∷ [])
-  unfolding Small
-  end-room c h =
+  pub end-room : (r : List ℕ) (c : ℕ) → c < conditionSpan → {f : Fault} → f ≡ blameNone c → Tellable (p .count) r (f ∷ [])
+  end-room r c h e =
       let k : length (w .outcomes) ≤ at = w .records-few in
       let l : length (w .reports) ≤ at = w .reports-few in
       let i : at ≤ length stream = w .within in
       let g : length stream ≤ mostRecords = w .long in
-      subst (λ (n : Count). Tellable n (c ∷ [])) (sym (w .count)) (count-tellable (w .outcomes) (w .reports) (c ∷ []) (omega arith) (omega arith) (h, tt))
+      tellable-as r (λ (x : Fault). x ∷ []) e
+      (subst (λ (n : Count). Tellable n r (blameNone c ∷ [])) (sym (w .count))
+      (count-tellable (w .outcomes) (w .reports) r (blameNone c ∷ []) (omega arith) (omega arith) (none-fits r c h)))
 
-  pub loop-end : length stream ≤ at → {n : Count} {l : List ℕ} → told n l ≡ toldOne (told (p .count) reps) noEnddata
-      → runLoaded (totalsBy n) t l ≡ loadedOf (loadOf d t₀ stream) reps₀
+  -- no field is blamed, so that the column is 0 whatever is left of the stream
+  end-report : (r : List ℕ) (n : ℕ) → reportOf n r (blameNone noEnddata) ≡ record { number = n; condition = noEnddata; column = 0 }
+  end-report r n = λ i. record { number = n; condition = noEnddata; column = column-none r i }
+
+  pub loop-end : length stream ≤ at → (r : List ℕ) {f : Fault} → f ≡ blameNone noEnddata → {n : Count} {l : List ℕ}
+      → told n l ≡ toldOne r (told (p .count) reps) f → runLoaded (totalsBy n) t l ≡ loadedOf (loadOf d t₀ stream) reps₀
   unfolding allReports
-  loop-end h {n} {l} f =
+  loop-end h r q {n} {l} f =
       let os = w .outcomes in
       let rs = w .reports in
       let x = runSo (p .held .state) t false os rs in
@@ -325,6 +333,9 @@ module _ {d : Desk} {t₀ reps₀ stream : List ℕ} {p : Progress} {at : ℕ} {
       w .same
       ∙ ap (λ (z : List (List ℕ)). runAfter os rs (runFrom d (length os) (p .held .state) t z)) (records-end stream at h)
       ∙ run-end d (length os) (p .held .state) t os rs in
-      let y : told n l ≡ after os reps₀ (rs ++ (record { number = length os; condition = noEnddata } ∷ [])) =
-      f ∙ (λ i. toldOne (told (w .count i) (w .list i)) noEnddata) ∙ told-one os reps₀ rs noEnddata in
+      let y : told n l ≡ after os reps₀ (rs ++ (record { number = length os; condition = noEnddata; column = 0 } ∷ [])) =
+      f
+      ∙ (λ i. toldOne r (told (w .count i) (w .list i)) (q i))
+      ∙ told-one os reps₀ r rs (blameNone noEnddata)
+      ∙ ap (λ (z : Report). after os reps₀ (rs ++ (z ∷ []))) (end-report r (length os)) in
       told-loaded x reps₀ y refl ∙ ap (λ (z : Run). loadedOf z reps₀) (sym s)

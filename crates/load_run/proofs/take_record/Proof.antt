@@ -19,10 +19,10 @@ abbrev received : tie.After-over-long → tie.After-receive
 received c = c .before .before
 
 abbrev long : tie.After-tell-long → tie.Then1
-long c = c .before .before .before .before
+long c = c .before .before .before .before .before
 
-abbrev joined : tie.After-take-text-arg3 → tie.Joined2
-joined c = c .before .before .before .before
+abbrev joined : tie.After-take-text-arg4 → tie.Joined2
+joined c = c .before .before .before .before .before
 
 abbrev text-told : tie.After-slice-known7 → tie.After-take-text
 text-told c = c .before .before .before .before .before .before
@@ -53,6 +53,15 @@ receive-requires c κs = spans-in _ _ _ (began c .pre .0)
 over-long-requires : tie.Need-over-long-requires
 over-long-requires c κs = search needs
 
+sub-tell-long : tie.Need-sub-tell-long
+sub-tell-long c = search needs
+
+part-tell-long-start : tie.Need-part-tell-long-start
+part-tell-long-start c = search needs
+
+part-tell-long-end : tie.Need-part-tell-long-end
+part-tell-long-end c = spans-in _ _ _ (began (received (c .before .before .before .before) .before) .pre .0) .1
+
 tell-long-requires : tie.Need-tell-long-requires
 tell-long-requires c κs = search needs
 
@@ -77,11 +86,20 @@ slice-aggregate-clean c = sym (length-take-le _ _ (within (c .before .before)))
 clean-requires : tie.Need-clean-requires
 clean-requires c κs = search needs
 
+sub-take-text : tie.Need-sub-take-text
+sub-take-text c = search needs
+
+part-take-text-start : tie.Need-part-take-text-start
+part-take-text-start c = search needs
+
+part-take-text-end : tie.Need-part-take-text-end
+part-take-text-end c = spans-in _ _ _ (began (received (c .before .before) .before) .pre .0) .1
+
 array-share-prefix-bytes : tie.Need-array-share-prefix-bytes
-array-share-prefix-bytes c = texted c .within
+array-share-prefix-bytes c = texted (c .before) .within
 
 slice-aggregate-take-text : tie.Need-slice-aggregate-take-text
-slice-aggregate-take-text c = sym (length-take-le _ _ (texted (c .before) .within))
+slice-aggregate-take-text c = sym (length-take-le _ _ (texted (c .before .before) .within))
 
 take-text-requires : tie.Need-take-text-requires
 take-text-requires c κs =
@@ -119,12 +137,18 @@ take-record-spec =
     (tie.spec
     receive-requires
     over-long-requires
+    sub-tell-long
+    part-tell-long-start
+    part-tell-long-end
     tell-long-requires
     same-length
     returns
     array-borrow-prefix-bytes
     slice-aggregate-clean
     clean-requires
+    sub-take-text
+    part-take-text-start
+    part-take-text-end
     array-share-prefix-bytes
     slice-aggregate-take-text
     take-text-requires

@@ -11,7 +11,7 @@ use Rattle.load_run.proofs.take_text.Tie as tie
 
 -- the places that the answers speak of, each from a later one
 abbrev began : tie.After-step-arg2 → tie.Start
-began c = c .before .before .before .before .before .before .before
+began c = c .before .before .before .before .before .before .before .before
 
 abbrev stepped : tie.After-tell-arg2 → tie.After-step
 stepped c = c .before .before .before .before .before .before .before
@@ -22,7 +22,7 @@ told c = c .before .before .before
 step-requires : tie.Need-step-requires
 step-requires c κs =
     let s = began c in
-    (record { fitting = s .pre .1 .0 .fitting; short = s .pre .0; ready = s .pre .1 .0 .ready }, s .pre .1 .1)
+    (record { fitting = s .pre .1 .0 .fitting; short = s .pre .0 .0; ready = s .pre .1 .0 .ready }, s .pre .1 .1)
 
 slice-reshare-prefix-tell : tie.Need-slice-reshare-prefix-tell
 slice-reshare-prefix-tell c = search needs
@@ -35,7 +35,7 @@ tell-requires c κs =
     let k = stepped c in
     let s = began (k .before) in
     let t = s .pre .1 .0 in
-    (t .countable, step-room _ _ _ (k .step .ensures .0) (step-small _ _ _ _) (k .step .ensures .1) (s .pre .1 .1) _ _ (s .args .high) (s .args .control) (t .countable) (t .room) (text-said _ _ _ _))
+    (t .countable, step-room _ _ _ (k .step .ensures .0) (step-small _ _ _ _) (k .step .ensures .1) (s .pre .1 .1) _ _ _ (s .args .high) (s .args .control) (t .countable) (t .room) (s .pre .0 .1) (text-said _ _ _ _))
 
 parted-requires : tie.Need-parted-requires
 parted-requires c κs = search needs
@@ -58,7 +58,7 @@ returns c =
     let t = told p in
     let k = stepped (t .before) in
     let s = began (k .before) in
-    step-taken _ _ _ (k .step .ensures .0) (step-small _ _ _ _) (k .step .ensures .1) (s .pre .1 .1) _ _ (ignoredBy (s .args .high) (s .args .control)) (p .parted .ensures) (t .tell .ensures) (c .stops .ensures)
+    step-taken _ _ _ (k .step .ensures .0) (step-small _ _ _ _) (k .step .ensures .1) (s .pre .1 .1) _ _ _ (ignoredBy (s .args .high) (s .args .control)) (p .parted .ensures) (t .tell .ensures) (c .stops .ensures)
 
 pub take-text-spec : {M : Type 1} → statement M
 take-text-spec =
