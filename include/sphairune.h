@@ -9,7 +9,8 @@
  *
  *     static const uint32_t desk[SPHAIRUNE_LIMITS] = SPHAIRUNE_HOUSE;
  *     static uint8_t store[SPHAIRUNE_HOUSE_STORE];
- *     uint32_t reports[64], totals[SPHAIRUNE_TOTALS];
+ *     uint64_t reports[64];
+ *     uint32_t totals[SPHAIRUNE_TOTALS];
  *     sphairune_empty(desk, SPHAIRUNE_LIMITS, store, sizeof store);
  *     answer = sphairune_load(desk, SPHAIRUNE_LIMITS, store, sizeof store, stream, stream_n, reports, 64, totals, SPHAIRUNE_TOTALS);
  *
@@ -57,17 +58,21 @@ enum {
 
 /* ---- Answers */
 
-/* A call answers 0, or the number of the reason why it is turned away. They are tested in this order. `sphairune_find` tests no R1, and
- * answers 1 where the cue is not kept. */
+/* A call answers one word: a number, and 256 times a place. The number is 0, or says why the call is turned away; the reasons are tested in
+ * this order, R4a, R4b and R4c each over the whole store. These three are a store that is not in good form for this desk (never emptied,
+ * another desk's, or damaged), and they alone have a place, from 1: R4a and R4b count slots through the whole store, cues, then groups, then
+ * submasters; R4c counts patch entries. So an answer is compared with 0 as it is, and with any other number by sphairune_answer_number. */
 enum {
     SPHAIRUNE_DONE = 0,
-    SPHAIRUNE_NOT_KEPT = 1, /* of sphairune_find alone */
-    SPHAIRUNE_R1 = 1,       /* the stream is longer than SPHAIRUNE_MOST_STREAM bytes */
-    SPHAIRUNE_R2 = 2,       /* a limit of the desk is outside its range */
-    SPHAIRUNE_R3 = 3,       /* the store is shorter than the desk needs */
-    SPHAIRUNE_R4 = 4,       /* the store is not in good form for this desk (never emptied, another desk's, or damaged) */
-    SPHAIRUNE_R5 = 5,       /* the written stream would be longer than SPHAIRUNE_MOST_STREAM bytes */
-    SPHAIRUNE_R6 = 6        /* the written stream is longer than the output given */
+    SPHAIRUNE_R1 = 1,         /* the stream is longer than SPHAIRUNE_MOST_STREAM bytes */
+    SPHAIRUNE_R2 = 2,         /* a limit of the desk is outside its range */
+    SPHAIRUNE_R3 = 3,         /* the store is shorter than the desk needs */
+    SPHAIRUNE_R4A = 0x4A,     /* a slot is out of form by itself; the place is that of the first such slot */
+    SPHAIRUNE_R4B = 0x4B,     /* a slot has the number and page of an earlier one of its kind; the first that repeats one */
+    SPHAIRUNE_R4C = 0x4C,     /* a patch entry is out of form; the first such entry */
+    SPHAIRUNE_R5 = 5,         /* the written stream would be longer than SPHAIRUNE_MOST_STREAM bytes */
+    SPHAIRUNE_R6 = 6,         /* the written stream is longer than the output given */
+    SPHAIRUNE_NOT_KEPT = 0xFF /* of sphairune_find alone: no refusal, the cue is not kept */
 };
 
 /* What a load tells, by its place in the list of totals. Each record read is in one of the four tallies. */
@@ -95,29 +100,35 @@ uint32_t sphairune_empty(const uint32_t *limits, size_t limits_n, uint8_t *store
 /* Reads a stream into a store, on top of what the store keeps (a stream may begin with CLEAR ALL).
  * Answers 0; then `store` keeps the show and is in good form, its bytes past the needed ones as they were; `reports` has the reports in
  * order, as many as it has room for, and its entries past them as they were; `totals` has its six entries (as many as it has), and those
- * past them as they were. Or R1, R2, R3, R4, with all three as they were.
+ * past them as they were. Or R1, R2, R3, R4a, R4b, R4c, with all three as they were.
  * Faults in the stream are no refusals: they are reported, and the rest is read. A list of reports with stream_n + 1 entries never fills. */
 uint32_t sphairune_load(const uint32_t *limits, size_t limits_n, uint8_t *store, size_t store_n, const uint8_t *stream, size_t stream_n,
-                        uint32_t *reports, size_t reports_n, uint32_t *totals, size_t totals_n);
+                        uint64_t *reports, size_t reports_n, uint32_t *totals, size_t totals_n);
 
 /* Writes a store's show as one fixed stream: the same show is always the same bytes, and loading them gives the same show.
  * Answers 0, with the stream at the beginning of `out`, the bytes of `out` past it as they were, and its length in length[0]. Or R6, with
- * the length needed in length[0] and `out` as it was. Or R2, R3, R4, R5, with `out` and `length` as they were. An empty `length` gets
- * nothing, and its entries past length[0] stay as they were. */
+ * the length needed in length[0] and `out` as it was. Or R2, R3, R4a, R4b, R4c, R5, with `out` and `length` as they were. An empty `length`
+ * gets nothing, and its entries past length[0] stay as they were. */
 uint32_t sphairune_write(const uint32_t *limits, size_t limits_n, const uint8_t *store, size_t store_n, uint8_t *out, size_t out_n,
                          size_t *length, size_t length_n);
 
 /* Where the levels of cue whole.tenths on a page begin in the store.
  * Answers 0, with the place in place[0]: store[place[0]] is the level of channel 1, and C bytes from there are the cue's levels. Or
- * SPHAIRUNE_NOT_KEPT (also for what cannot be, as page 0); or R2, R3, R4. All these leave `place` as it was; its entries past place[0] stay
- * as they were in any case, and an empty one gets nothing. */
+ * SPHAIRUNE_NOT_KEPT (also for what cannot be, as page 0); or R2, R3, R4a, R4b, R4c. All these leave `place` as it was; its entries past
+ * place[0] stay as they were in any case, and an empty one gets nothing. */
 uint32_t sphairune_find(const uint32_t *limits, size_t limits_n, const uint8_t *store, size_t store_n, uint32_t page, uint32_t whole,
                         uint32_t tenths, size_t *place, size_t place_n);
 
 /* ---- From here on: inline functions over the calls and the store. They are plain C, not proved. */
 
+/* The number of an answer, one of those above. */
+static inline uint32_t sphairune_answer_number(uint32_t answer) { return answer % 256; }
+
+/* The place that goes with R4a, R4b or R4c, 1 to 2048; 0 with any other number. */
+static inline uint32_t sphairune_answer_place(uint32_t answer) { return answer / 256; }
+
 /* The levels of a cue, as the very bytes of the caller's store with no copying: C of them, channel 1 first. NULL where there are none; then
- * *answer says why: SPHAIRUNE_NOT_KEPT, R2, R3 or R4. `answer` may be NULL. */
+ * *answer says why, as sphairune_find does. `answer` may be NULL. */
 static inline const uint8_t *sphairune_look_up(const uint32_t *limits, size_t limits_n, const uint8_t *store, size_t store_n,
                                                uint32_t page, uint32_t whole, uint32_t tenths, uint32_t *answer) {
     size_t place = 0;
@@ -126,13 +137,30 @@ static inline const uint8_t *sphairune_look_up(const uint32_t *limits, size_t li
     return said == SPHAIRUNE_DONE ? store + place : NULL;
 }
 
-/* What a refusal says, in words. */
+/* A refusal's name, as "R4a"; "" for an answer that is none. */
+static inline const char *sphairune_refusal_name(uint32_t answer) {
+    switch (sphairune_answer_number(answer)) {
+    case SPHAIRUNE_R1: return "R1";
+    case SPHAIRUNE_R2: return "R2";
+    case SPHAIRUNE_R3: return "R3";
+    case SPHAIRUNE_R4A: return "R4a";
+    case SPHAIRUNE_R4B: return "R4b";
+    case SPHAIRUNE_R4C: return "R4c";
+    case SPHAIRUNE_R5: return "R5";
+    case SPHAIRUNE_R6: return "R6";
+    default: return "";
+    }
+}
+
+/* What a refusal says, in words, without its place; "" for an answer that is none. */
 static inline const char *sphairune_refusal_text(uint32_t answer) {
-    switch (answer) {
+    switch (sphairune_answer_number(answer)) {
     case SPHAIRUNE_R1: return "the stream is longer than 262143 bytes";
     case SPHAIRUNE_R2: return "a limit of the desk is outside its range";
     case SPHAIRUNE_R3: return "the store is shorter than the desk needs";
-    case SPHAIRUNE_R4: return "the store is not in good form for this desk";
+    case SPHAIRUNE_R4A: return "a slot is out of form for this desk";
+    case SPHAIRUNE_R4B: return "a slot has the number and page of an earlier one";
+    case SPHAIRUNE_R4C: return "a patch entry is out of form for this desk";
     case SPHAIRUNE_R5: return "the written stream would be longer than 262143 bytes";
     case SPHAIRUNE_R6: return "the written stream is longer than the output given";
     default: return "";
@@ -141,12 +169,15 @@ static inline const char *sphairune_refusal_text(uint32_t answer) {
 
 /* ---- Reports */
 
-/* A report is one word: the record's number, from 1, times this span, and the condition. */
-#define SPHAIRUNE_REPORT_SPAN 16384
+/* A report is one word, the most significant bits first: the record's number, from 1, in 18 bits, the condition in 14, the column in 7, and
+ * 25 zero bits. With condition 100 the number is the count of records read. */
+static inline uint32_t sphairune_report_record(uint64_t word) { return (uint32_t)(word >> 46); }
 
-static inline uint32_t sphairune_report_record(uint32_t word) { return word / SPHAIRUNE_REPORT_SPAN; }
+static inline uint32_t sphairune_report_condition(uint64_t word) { return (uint32_t)(word >> 32 & 0x3fff); }
 
-static inline uint32_t sphairune_report_condition(uint32_t word) { return word % SPHAIRUNE_REPORT_SPAN; }
+/* Where the blamed field's first character stands in the record as received: 1 to 80, counting every character, an ignored one or a tab as
+ * one. 51, 52, 151 and 152 blame the keyword. 0 where the field is missing, and with 21, 22, 91, 100, 701 and 702. */
+static inline uint32_t sphairune_report_column(uint64_t word) { return (uint32_t)(word >> 25 & 0x7f); }
 
 /* The standard's letter for a condition's severity: E error, W warning, I (of the closing number 0 alone) information. */
 static inline char sphairune_severity(uint32_t condition) {
