@@ -1,8 +1,12 @@
 //! The five calls of the library as they are, with numbers and lists; the only unsafe code. A slice of Rust is what the library asks of a
 //! list: a pointer that is aligned and not null, to as many entries as the length says; and a slice lent as `&mut` overlaps no other.
-//! Each answers 0 or the number of the refusal, and then every lent list is as it was, but that [`write`] with 6 stores the length needed;
-//! [`find`] answers 1 where the cue is not kept, and leaves its list too.
+//! Each answers a word, its number in the low eight bits: 0, or that of the refusal ([`Refused::number`](crate::Refused::number)), and then
+//! every lent list is as it was, but that [`write`] with 6 stores the length needed. Above the numbers 0x4A, 0x4B and 0x4C (R4a, R4b, R4c)
+//! stands a place, from 1; above any other 0. [`find`] answers [`NOT_KEPT`] where the cue is not kept, and leaves its list too.
 #![allow(unsafe_code)]
+
+/// What [`find`] answers where the cue is not kept.
+pub const NOT_KEPT: u32 = 0xff;
 
 mod library {
     extern "C" {
@@ -15,7 +19,7 @@ mod library {
             store_n: usize,
             stream: *const u8,
             stream_n: usize,
-            reports: *mut u32,
+            reports: *mut u64,
             reports_n: usize,
             totals: *mut u32,
             totals_n: usize,
@@ -55,7 +59,7 @@ pub fn empty(limits: &[u32], store: &mut [u8]) -> u32 {
 }
 
 /// Reads a stream into a store; in `totals` the count of reports, the four tallies and the closing number.
-pub fn load(limits: &[u32], store: &mut [u8], stream: &[u8], reports: &mut [u32], totals: &mut [u32]) -> u32 {
+pub fn load(limits: &[u32], store: &mut [u8], stream: &[u8], reports: &mut [u64], totals: &mut [u32]) -> u32 {
     unsafe {
         library::sphairune_load(
             limits.as_ptr(),

@@ -62,8 +62,15 @@ pub enum Refused {
     R2,
     /// The store is shorter than the desk needs.
     R3,
-    /// The store is not in good form for this desk: never emptied, another desk's, or damaged.
-    R4,
+    /// The store is not in good form for this desk (never emptied, another desk's, or damaged): the slot in this place is out of form by
+    /// itself. Places count from 1, through the cues, then the groups, then the submasters; it is the first such slot.
+    R4a(usize),
+    /// As R4a, where every slot is in form by itself: the slot in this place has the number and page of an earlier one of its kind. It is
+    /// the first that repeats one.
+    R4b(usize),
+    /// As R4a, where no slot is at fault: the patch entry in this place is out of form. Places count the entries, from 1, page by page and
+    /// by dimmer; it is the first such entry.
+    R4c(usize),
     /// The written stream would be longer than [`MOST_STREAM`].
     R5,
     /// The written stream is longer than the output given; it needs this many bytes.
@@ -71,42 +78,63 @@ pub enum Refused {
 }
 
 impl Refused {
-    /// The number after the R.
+    /// Its number in the answers of [`calls`].
     pub fn number(self) -> u32 {
         match self {
             Refused::R1 => 1,
             Refused::R2 => 2,
             Refused::R3 => 3,
-            Refused::R4 => 4,
+            Refused::R4a(_) => 0x4a,
+            Refused::R4b(_) => 0x4b,
+            Refused::R4c(_) => 0x4c,
             Refused::R5 => 5,
             Refused::R6(_) => 6,
         }
     }
 
+    /// Its name, as `R4a`.
+    pub fn name(self) -> &'static str {
+        match self {
+            Refused::R1 => "R1",
+            Refused::R2 => "R2",
+            Refused::R3 => "R3",
+            Refused::R4a(_) => "R4a",
+            Refused::R4b(_) => "R4b",
+            Refused::R4c(_) => "R4c",
+            Refused::R5 => "R5",
+            Refused::R6(_) => "R6",
+        }
+    }
+
     /// The answer of a call, with the length that goes with R6.
     fn of(answer: u32, length: usize) -> Refused {
-        match answer {
+        let place = (answer >> 8) as usize;
+        match answer & 0xff {
             1 => Refused::R1,
             2 => Refused::R2,
             3 => Refused::R3,
-            4 => Refused::R4,
+            0x4a => Refused::R4a(place),
+            0x4b => Refused::R4b(place),
+            0x4c => Refused::R4c(place),
             5 => Refused::R5,
             6 => Refused::R6(length),
-            _ => unreachable!("the library answers 0 to 6"),
+            number => unreachable!("the library has no refusal {number}"),
         }
     }
 }
 
 impl fmt::Display for Refused {
     fn fmt(&self, f: &mut fmt::Formatter<'_>) -> fmt::Result {
-        f.write_str(match self {
-            Refused::R1 => "the stream is longer than 262143 bytes",
-            Refused::R2 => "a limit of the desk is outside its range",
-            Refused::R3 => "the store is shorter than the desk needs",
-            Refused::R4 => "the store is not in good form for this desk",
-            Refused::R5 => "the written stream would be longer than 262143 bytes",
-            Refused::R6(_) => "the written stream is longer than the output given",
-        })
+        match self {
+            Refused::R1 => f.write_str("the stream is longer than 262143 bytes"),
+            Refused::R2 => f.write_str("a limit of the desk is outside its range"),
+            Refused::R3 => f.write_str("the store is shorter than the desk needs"),
+            Refused::R4a(place) => write!(f, "slot {place} is out of form for this desk"),
+            Refused::R4b(place) => write!(f, "slot {place} has the number and page of an earlier one"),
+            Refused::R4c(place) => write!(f, "patch entry {place} is out of form for this desk"),
+            Refused::R5 => f.write_str("the written stream would be longer than 262143 bytes"),
+            Refused::R6(_) => f.write_str("the written stream is longer than the output given"),
+        }
     }
 }
 
@@ -136,25 +164,28 @@ impl Totals {
     }
 
     /// The reports that a load left in its list, in order.
-    pub fn stored(self, list: &[u32]) -> impl Iterator<Item = Report> + '_ {
+    pub fn stored(self, list: &[u64]) -> impl Iterator<Item = Report> + '_ {
         let count = list.len().min(self.reports as usize);
         list[..count].iter().map(|&word| Report::of(word))
     }
 }
 
-/// A condition, and the record that it was met in.
+/// A condition, and where it was met.
 #[derive(Clone, Copy, Debug, PartialEq, Eq)]
 pub struct Report {
     /// From 1. With 0100 it is the count of records read.
     pub record: u32,
     /// The standard's number.
     pub condition: u32,
+    /// Where the blamed field's first character stands in the record as received: 1 to 80, counting every character, an ignored one or a
+    /// tab as one. 51, 52, 151 and 152 blame the keyword. 0 where the field is missing, and with 21, 22, 91, 100, 701 and 702.
+    pub column: u32,
 }
 
 impl Report {
-    /// A report's word: 18 bits of record, 14 of condition.
-    pub fn of(word: u32) -> Report {
-        Report { record: word >> 14, condition: word & 0x3fff }
+    /// A report's word: 18 bits of record, 14 of condition, 7 of column, 25 zero bits.
+    pub fn of(word: u64) -> Report {
+        Report { record: (word >> 46) as u32, condition: (word >> 32) as u32 & 0x3fff, column: (word >> 25) as u32 & 0x7f }
     }
 }
 
@@ -250,11 +281,11 @@ impl Desk {
         }
     }
 
-    /// Reads a stream into a store, on top of what it keeps. Or R1, R2, R3, R4.
+    /// Reads a stream into a store, on top of what it keeps. Or R1, R2, R3, R4a, R4b, R4c.
     ///
     /// Faults in the stream are no refusals: they are reported, and the rest is read. `reports` gets as many as it has room for
     /// ([`Totals::stored`]); a list with one entry more than the stream has bytes never fills.
-    pub fn load(self, store: &mut [u8], stream: &[u8], reports: &mut [u32]) -> Result<Totals, Refused> {
+    pub fn load(self, store: &mut [u8], stream: &[u8], reports: &mut [u64]) -> Result<Totals, Refused> {
         let mut t = [0; 6];
         match calls::load(&self.limits(), store, stream, reports, &mut t) {
             0 => Ok(Totals { reports: t[0], blank: t[1], obeyed: t[2], passed: t[3], dropped: t[4], closing: t[5] }),
@@ -262,7 +293,7 @@ impl Desk {
         }
     }
 
-    /// Writes a store's show as one fixed stream, at the beginning of `out`, and says its length. Or R2, R3, R4, R5, R6.
+    /// Writes a store's show as one fixed stream, at the beginning of `out`, and says its length. Or R2, R3, R4a, R4b, R4c, R5, R6.
     pub fn write(self, store: &[u8], out: &mut [u8]) -> Result<usize, Refused> {
         let mut length = [0];
         match calls::write(&self.limits(), store, out, &mut length) {
@@ -271,42 +302,43 @@ impl Desk {
         }
     }
 
-    /// Where the levels of cue whole.tenths begin in the store, or `None` where it is not kept. Or R2, R3, R4.
+    /// Where the levels of cue whole.tenths begin in the store, or `None` where it is not kept. Or R2, R3, R4a, R4b, R4c.
     pub fn find(self, store: &[u8], page: u32, whole: u32, tenths: u32) -> Result<Option<usize>, Refused> {
         let mut place = [0];
         match calls::find(&self.limits(), store, page, whole, tenths, &mut place) {
             0 => Ok(Some(place[0])),
-            1 => Ok(None),
+            calls::NOT_KEPT => Ok(None),
             r => Err(Refused::of(r, 0)),
         }
     }
 
-    /// The levels of cue whole.tenths, channel 1 first, as the very bytes of the store; `None` where it is not kept. Or R2, R3, R4.
+    /// The levels of cue whole.tenths, channel 1 first, as the very bytes of the store; `None` where it is not kept. Or R2, R3, R4a, R4b,
+    /// R4c.
     pub fn look_up(self, store: &[u8], page: u32, whole: u32, tenths: u32) -> Result<Option<&[u8]>, Refused> {
         let place = self.find(store, page, whole, tenths)?;
         Ok(place.map(|at| &store[at..at + self.channels as usize]))
     }
 
-    /// The kept cues, by page and number. Or R2, R3, R4.
+    /// The kept cues, by page and number. Or R2, R3, R4a, R4b, R4c.
     pub fn cues(self, store: &[u8]) -> Result<Memories<'_>, Refused> {
         self.in_good_form(store)?;
         Ok(Memories::new(self, store, 0, self.cues as usize))
     }
 
-    /// The kept groups, by page and number. Or R2, R3, R4.
+    /// The kept groups, by page and number. Or R2, R3, R4a, R4b, R4c.
     pub fn groups(self, store: &[u8]) -> Result<Memories<'_>, Refused> {
         self.in_good_form(store)?;
         Ok(Memories::new(self, store, self.cues as usize, self.groups as usize))
     }
 
-    /// The kept submasters, by page and number. Or R2, R3, R4.
+    /// The kept submasters, by page and number. Or R2, R3, R4a, R4b, R4c.
     pub fn submasters(self, store: &[u8]) -> Result<Memories<'_>, Refused> {
         self.in_good_form(store)?;
         let count = self.submasters as usize * self.submaster_pages as usize;
         Ok(Memories::new(self, store, self.cues as usize + self.groups as usize, count))
     }
 
-    /// The patched dimmers, by page and dimmer. Or R2, R3, R4.
+    /// The patched dimmers, by page and dimmer. Or R2, R3, R4a, R4b, R4c.
     pub fn patch(self, store: &[u8]) -> Result<Patches<'_>, Refused> {
         self.in_good_form(store)?;
         Ok(Patches::new(self, store))

@@ -42,7 +42,7 @@ fn the_worked_show() {
     let (store, totals, reports) = loaded(Desk::HOUSE, "worked");
     assert_eq!(totals, Totals { reports: 2, blank: 1, obeyed: 6, passed: 1, dropped: 1, closing: 43 });
     assert_eq!(totals.records(), 9);
-    assert_eq!(reports, [Report { record: 6, condition: 172 }, Report { record: 7, condition: 43 }]);
+    assert_eq!(reports, [Report { record: 6, condition: 172, column: 14 }, Report { record: 7, condition: 43, column: 9 }]);
     let stream = b"IDENT 3:0\r\nCLEAR ALL\r\nPATCH 1 1<5@HFF\r\nCUE 2.5 1\r\nUP 3\r\nCHAN 1@HFF 2@H8F\r\nENDDATA\r\n";
     assert_eq!(written(Desk::HOUSE, &store), stream);
 }
@@ -125,6 +125,19 @@ fn each_condition_is_met() {
 }
 
 #[test]
+fn columns_are_of_the_record_as_received() {
+    let stream = b"CUE \x80x\n\t\x01 SUB\t\xe9 0\n  CLEAR\nCUE\n";
+    let mut store = vec![0; 35_136];
+    let mut list = [0; 9];
+    let totals = Desk::HOUSE.load(&mut store, stream, &mut list).unwrap();
+    let told: Vec<_> = totals.stored(&list).map(|r| (r.record, r.condition, r.column)).collect();
+    let expected = [(1, 701, 0), (1, 41, 6), (2, 701, 0), (2, 702, 0), (2, 44, 10), (3, 151, 3), (4, 41, 0), (4, 100, 0)];
+    assert_eq!(told, expected);
+    assert_eq!(list[1], 1 << 46 | 41 << 32 | 6 << 25);
+    assert!(list[..8].iter().all(|word| word % (1 << 25) == 0));
+}
+
+#[test]
 fn a_full_list_keeps_the_count() {
     let stream = sample("worked");
     let mut store = vec![0; 35_136];
@@ -157,6 +170,7 @@ fn refused_and_untouched() {
     let length = written(house, &good).len();
     let mut bad = good.clone();
     bad[0] &= 0x7f;
+    let r4 = Refused::R4a(1);
     let mut list = [7; 4];
     let mut store = good.clone();
 
@@ -165,7 +179,7 @@ fn refused_and_untouched() {
     assert_eq!(house.load(&mut store[..35_135], b"", &mut list), Err(Refused::R3));
     assert_eq!((store.clone(), list), (good.clone(), [7; 4]));
     let mut damaged = bad.clone();
-    assert_eq!(house.load(&mut damaged, b"", &mut list), Err(Refused::R4));
+    assert_eq!(house.load(&mut damaged, b"", &mut list), Err(r4));
     assert_eq!((damaged, list), (bad.clone(), [7; 4]));
 
     assert_eq!(none.needed(), Err(Refused::R2));
@@ -175,13 +189,45 @@ fn refused_and_untouched() {
     let mut out = vec![7; length - 1];
     assert_eq!(house.write(&good, &mut out), Err(Refused::R6(length)));
     assert_eq!((none.write(&good, &mut out), house.write(&[], &mut out)), (Err(Refused::R2), Err(Refused::R3)));
-    assert_eq!(house.write(&bad, &mut out), Err(Refused::R4));
+    assert_eq!(house.write(&bad, &mut out), Err(r4));
     assert_eq!(out, vec![7; length - 1]);
 
     assert_eq!((none.look_up(&good, 1, 1, 0), house.look_up(&[], 1, 1, 0)), (Err(Refused::R2), Err(Refused::R3)));
-    assert_eq!(house.look_up(&bad, 1, 1, 0), Err(Refused::R4));
-    assert_eq!((house.cues(&bad).err(), house.patch(&[]).err()), (Some(Refused::R4), Some(Refused::R3)));
-    assert_eq!((none.groups(&good).err(), house.submasters(&bad).err()), (Some(Refused::R2), Some(Refused::R4)));
+    assert_eq!(house.look_up(&bad, 1, 1, 0), Err(r4));
+    assert_eq!((house.cues(&bad).err(), house.patch(&[]).err()), (Some(r4), Some(Refused::R3)));
+    assert_eq!((none.groups(&good).err(), house.submasters(&bad).err()), (Some(Refused::R2), Some(r4)));
+}
+
+/// Damages of all three sorts: the first of each is told, R4a ahead of R4b ahead of R4c, wherever they stand.
+#[test]
+fn what_is_out_of_form_and_where() {
+    let house = Desk::HOUSE;
+    let (mut store, ..) = loaded(house, "house");
+    let told = |store: &[u8]| house.look_up(store, 1, 1, 0).map(|_| ());
+    let (slot, patch) = (24 + 96, (200 + 40 + 2 * 24) * (24 + 96));
+    store[patch + 3 * 191] = 0xff;
+    assert_eq!(told(&store), Err(Refused::R4c(192)));
+    store[patch + 3 * 6 + 2] |= 1;
+    assert_eq!(told(&store), Err(Refused::R4c(7)));
+    store.copy_within(200 * slot..201 * slot, 201 * slot);
+    assert_eq!(told(&store), Err(Refused::R4b(202)));
+    store.copy_within(8 * slot..9 * slot, 9 * slot);
+    assert_eq!(told(&store), Err(Refused::R4b(10)));
+    store[287 * slot + 119] = 1;
+    assert_eq!(told(&store), Err(Refused::R4a(288)));
+    store[5 * slot + 23] = 1;
+    assert_eq!(told(&store), Err(Refused::R4a(6)));
+}
+
+#[test]
+fn refusals_in_words() {
+    use Refused::*;
+    for refused in [R1, R2, R3, R4a(3), R4b(5), R4c(7), R5, R6(9)] {
+        assert_eq!(std::format!("R{:X}", refused.number()), refused.name().to_uppercase());
+    }
+    assert_eq!(R4a(3).to_string(), "slot 3 is out of form for this desk");
+    assert_eq!(R4b(5).to_string(), "slot 5 has the number and page of an earlier one");
+    assert_eq!(R4c(7).to_string(), "patch entry 7 is out of form for this desk");
 }
 
 /// The only way to R5: a show too long to write, which a large desk can keep.
