@@ -1,8 +1,9 @@
 /* cue_sheet FILE [nine limits]: loads a show file into an empty desk and prints a cue sheet for the prep bench.
  *
  * The desk is the house small desk unless its nine limits are given, in the order of include/sphairune.h. First come the reports, each with
- * the record as received, then the cues by page and number, then what is kept and the tallies. Exit status 0 where there is a sheet, 1 where
- * the file cannot be read or a call is turned away, 2 where the arguments are wrong. bindings/rust/examples/cue_sheet.rs prints the same. */
+ * the record as received and a mark under the field that is blamed, then the cues by page and number, then what is kept and the tallies. Exit
+ * status 0 where there is a sheet, 1 where the file cannot be read or a call is turned away, 2 where the arguments are wrong.
+ * bindings/rust/examples/cue_sheet.rs prints the same. */
 #include <errno.h>
 #include <stdio.h>
 #include <stdlib.h>
@@ -23,9 +24,21 @@ static void quit(const char *file, const char *why) {
     exit(1);
 }
 
+/* What a refusal says, with the slot or patch entry that is at fault. */
+static void print_refusal(uint32_t answer) {
+    uint32_t place = sphairune_answer_place(answer);
+    switch (sphairune_answer_number(answer)) {
+    case SPHAIRUNE_R4A: fprintf(stderr, "slot %u is out of form for this desk\n", place); break;
+    case SPHAIRUNE_R4B: fprintf(stderr, "slot %u has the number and page of an earlier one\n", place); break;
+    case SPHAIRUNE_R4C: fprintf(stderr, "patch entry %u is out of form for this desk\n", place); break;
+    default: fprintf(stderr, "%s\n", sphairune_refusal_text(answer));
+    }
+}
+
 static void answered(const char *file, uint32_t answer) {
     if (answer == SPHAIRUNE_DONE) return;
-    fprintf(stderr, "cue_sheet: %s: refused, R%u: %s\n", file, answer, sphairune_refusal_text(answer));
+    fprintf(stderr, "cue_sheet: %s: refused, %s: ", file, sphairune_refusal_name(answer));
+    print_refusal(answer);
     exit(1);
 }
 
@@ -81,24 +94,30 @@ static void step(struct record *r, size_t n) {
     find_end(r, n);
 }
 
-/* The record as received: a tab as a space, other characters that do not print in hexadecimal. */
-static void print_record(const struct record *r) {
+/* A tab as a space, other characters that do not print in hexadecimal. Returns how wide that is. */
+static int print_character(uint8_t c) {
+    if (c == '\t') return printf(" ");
+    if (c < 0x20 || c > 0x7e) return printf("\\x%02X", c);
+    return printf("%c", c);
+}
+
+/* The record as received, and on a line of its own a mark under the character in a column, if there is one. `ahead` is how wide the line is
+ * already. */
+static void print_record(const struct record *r, uint32_t column, int ahead) {
     for (size_t i = r->from; i < r->to; i++) {
         if (i - r->from == MOST_CHARACTERS) {
             printf("...");
             break;
         }
-        if (stream[i] == '\t')
-            putchar(' ');
-        else if (stream[i] < 0x20 || stream[i] > 0x7e)
-            printf("\\x%02X", stream[i]);
-        else
-            putchar(stream[i]);
+        int width = print_character(stream[i]);
+        if (i - r->from + 1 < column) ahead += width;
     }
+    printf("\n");
+    if (column) printf("%*c\n", ahead + 1, '^');
 }
 
 /* Each report with its record, which is found in the same pass, since reports come in the order of records. */
-static void print_reports(const uint32_t *reports, uint32_t count, size_t n) {
+static void print_reports(const uint64_t *reports, uint32_t count, size_t n) {
     struct record r = {0, 0, 1};
     find_end(&r, n);
     if (count == 0) {
@@ -108,14 +127,16 @@ static void print_reports(const uint32_t *reports, uint32_t count, size_t n) {
     printf("REPORTS %u\n", count);
     for (uint32_t i = 0; i < count; i++) {
         uint32_t record = sphairune_report_record(reports[i]), condition = sphairune_report_condition(reports[i]);
+        uint32_t column = sphairune_report_column(reports[i]);
         while (r.number < record && r.to < n) step(&r, n);
-        printf("  (%05u) %04u-%c ", record, condition, sphairune_severity(condition));
+        int ahead = printf("  (%05u:%u)", record, column);
+        while (ahead < 12) ahead += printf(" ");
+        ahead += printf(" %04u-%c %-36s", condition, sphairune_severity(condition), sphairune_condition_text(condition));
         if (condition == 100) {
-            printf("%s\n", sphairune_condition_text(condition)); /* of the end of the stream, not of a record */
+            printf("\n"); /* of the end of the stream, not of a record */
         } else {
-            printf("%-36s  ", sphairune_condition_text(condition));
-            print_record(&r);
-            printf("\n");
+            ahead += printf("  ");
+            print_record(&r, column, ahead);
         }
     }
 }
@@ -223,7 +244,7 @@ int main(int count, char **words) {
     size_t n = read_file(file), store_n;
     answered(file, sphairune_needed(desk, SPHAIRUNE_LIMITS, &store_n, 1));
     uint8_t *store = room(store_n, 1);
-    uint32_t *reports = room(n + 1, sizeof *reports); /* one more than the bytes: such a list never fills */
+    uint64_t *reports = room(n + 1, sizeof *reports); /* one more than the bytes: such a list never fills */
     answered(file, sphairune_empty(desk, SPHAIRUNE_LIMITS, store, store_n));
     answered(file, sphairune_load(desk, SPHAIRUNE_LIMITS, store, store_n, stream, n, reports, n + 1, totals, SPHAIRUNE_TOTALS));
 

@@ -1,8 +1,9 @@
 //! cue_sheet FILE [nine limits]: loads a show file into an empty desk and prints a cue sheet for the prep bench.
 //!
 //! The desk is the house small desk unless its nine limits are given, in the order of `Desk`. First come the reports, each with the record
-//! as received, then the cues by page and number, then what is kept and the tallies. Exit status 0 where there is a sheet, 1 where the file
-//! cannot be read or a call is turned away, 2 where the arguments are wrong. examples/cue_sheet.c prints the same.
+//! as received and a mark under the field that is blamed, then the cues by page and number, then what is kept and the tallies. Exit status 0
+//! where there is a sheet, 1 where the file cannot be read or a call is turned away, 2 where the arguments are wrong. examples/cue_sheet.c
+//! prints the same.
 use sphairune::{condition_text, severity, Desk, Fade, Memory, Number, Refused, Report, Totals, MOST_STREAM};
 use std::env;
 use std::fs::File;
@@ -77,13 +78,22 @@ fn report_lines(reports: &[Report], stream: &[u8]) -> String {
     let records = records(stream);
     let mut text = format!("REPORTS {}\n", reports.len());
     for r in reports {
-        let what = condition(r.condition);
+        let line = format!("  {:10} {:43}", format!("({:05}:{})", r.record, r.column), condition(r.condition));
         text += &match r.condition {
-            100 => format!("  ({:05}) {what}\n", r.record), // of the end of the stream, not of a record
-            _ => format!("  ({:05}) {what:43}  {}\n", r.record, received(records[r.record as usize - 1])),
+            100 => line + "\n", // of the end of the stream, not of a record
+            _ => marked(line + "  ", records[r.record as usize - 1], r.column as usize),
         };
     }
     text
+}
+
+/// A line, the record behind it, and on a line of its own a mark under the character in a column, if there is one.
+fn marked(line: String, record: &[u8], column: usize) -> String {
+    let mark = match column {
+        0 => String::new(),
+        _ => " ".repeat(line.len() + received(&record[..column - 1]).len()) + "^\n",
+    };
+    line + &received(record) + "\n" + &mark
 }
 
 /// In minutes and seconds, with tenths where there are any; the seconds of a column stand under one another.
@@ -179,7 +189,7 @@ fn run(file: &str, desk: Desk) -> Result<String, String> {
         ErrorKind::NotFound => "no such file".to_string(),
         _ => "cannot be read".to_string(),
     })?;
-    sheet(file, desk, &stream).map_err(|refused| format!("refused, R{}: {refused}", refused.number()))
+    sheet(file, desk, &stream).map_err(|refused| format!("refused, {}: {refused}", refused.name()))
 }
 
 fn main() -> ExitCode {

@@ -150,7 +150,7 @@ fn a_full_list_keeps_the_count() {
 
 #[test]
 fn written_and_read_again() {
-    for name in ["worked", "house", "foreign", "faults"] {
+    for name in ["worked", "house", "foreign", "faults", "noise"] {
         let (store, ..) = loaded(Desk::HOUSE, name);
         let stream = written(Desk::HOUSE, &store);
         let mut again = vec![0; 35_136];
