@@ -1,9 +1,11 @@
 //! The plain reader made faster with what was learnt on the proved one, and still plain: a record's end and whether it has rare characters
-//! are found in one pass over chunks, an empty record is out at once, CHAN and PATCH are told by their letters, and a number or level is read
-//! in the scan that finds its field's end. Desk, store, form, the other keywords and the writer are those of `plain`.
+//! are found in one pass over chunks, an empty record is out at once, CHAN and PATCH are told by their letters, a number or level is read in
+//! the scan that finds its field's end, and its column is asked for only where it is wrong. Desk, store, form, the other keywords and the
+//! writer are those of `plain`.
 
 use crate::{Limits, Refused, Totals, LONGEST};
-use shared::{is_control, is_delimiter, Condition, Desk, Fields, Load, Log, Open, Outcome, ENTRY, HEAD, LONGEST_RECORD};
+use shared::{is_control, is_delimiter, Condition, Desk, Fault, Field, Fields, Kept, Load, Log, Open, Outcome};
+use shared::{COLUMNS, ENTRY, HEAD, LONGEST_RECORD};
 
 /// `plain` once more: the two are compiled apart, so that what is shared here makes the first neither faster nor slower.
 #[allow(dead_code)]
@@ -11,15 +13,13 @@ use shared::{is_control, is_delimiter, Condition, Desk, Fields, Load, Log, Open,
 mod shared;
 
 /// As `plain::load`.
-pub fn load(limits: &Limits, store: &mut [u8], stream: &[u8], reports: &mut [u32]) -> Result<Totals, Refused> {
+pub fn load(limits: &Limits, store: &mut [u8], stream: &[u8], reports: &mut [u64]) -> Result<Totals, Refused> {
     if stream.len() > LONGEST {
         return Err(Refused::R1);
     }
     let desk = Desk::new(limits)?;
     let store = store.get_mut(..desk.needed()).ok_or(Refused::R3)?;
-    if !desk.good_form(store) {
-        return Err(Refused::R4);
-    }
+    desk.good_form(store)?;
     let log = Log { list: reports, count: 0, record: 0, error: 0, warning: 0 };
     let mut load = Load { desk, store, open: Open::Nothing, log };
     let mut totals = Totals::default();
@@ -38,10 +38,10 @@ pub fn load(limits: &Limits, store: &mut [u8], stream: &[u8], reports: &mut [u32
             Outcome::Blank => totals.blank += 1,
             Outcome::Obeyed => totals.obeyed += 1,
             Outcome::Passed => totals.passed += 1,
-            Outcome::Dropped(condition) => {
+            Outcome::Dropped(fault) => {
                 totals.dropped += 1;
-                load.log.report(condition);
-                ended = matches!(condition, Condition::TooLong | Condition::Ident);
+                load.log.report(fault);
+                ended = matches!(fault.condition, Condition::TooLong | Condition::Ident);
             }
             Outcome::End => {
                 totals.obeyed += 1;
@@ -50,7 +50,7 @@ pub fn load(limits: &Limits, store: &mut [u8], stream: &[u8], reports: &mut [u32
         }
     }
     if !ended {
-        load.log.report(Condition::NoEnd);
+        load.log.report(Condition::NoEnd.alone());
     }
     totals.reports = load.log.count;
     totals.closing = if load.log.error != 0 { load.log.error } else { load.log.warning };
@@ -85,9 +85,9 @@ fn record<'a>(load: &mut Load, stream: &'a [u8]) -> (Outcome, &'a [u8]) {
     };
     let (record, rest) = stream.split_at(end);
     let outcome = if end > LONGEST_RECORD {
-        Outcome::Dropped(Condition::TooLong)
+        Outcome::Dropped(Condition::TooLong.alone())
     } else if end == plain {
-        obey(load, record)
+        obey(load, record, &COLUMNS[..end])
     } else {
         squeezed(load, record, plain)
     };
@@ -109,71 +109,84 @@ fn squeezed(load: &mut Load, record: &[u8], rare: usize) -> Outcome {
     let control = rest.iter().fold(false, |any, &b| any | is_control(b));
     let text = &record[..rare + rest.iter().position(|&b| b == b'!').unwrap_or(rest.len())];
     if high {
-        load.log.report(Condition::HighBit);
+        load.log.report(Condition::HighBit.alone());
     }
     if control {
-        load.log.report(Condition::NonPrinting);
+        load.log.report(Condition::NonPrinting.alone());
     }
     if !high && !control {
-        return obey(load, text);
+        return obey(load, text, &COLUMNS[..text.len()]);
     }
-    let mut kept = [0; LONGEST_RECORD];
-    let mut n = 0;
-    for &b in text.iter().filter(|&&b| b < 0x80 && !is_control(b)) {
-        kept[n] = b;
-        n += 1;
-    }
-    obey(load, &kept[..n])
+    let kept = Kept::of(text);
+    obey(load, kept.text(), kept.columns())
 }
 
-fn obey(load: &mut Load, text: &[u8]) -> Outcome {
+/// There is a column for each character of the text.
+fn obey(load: &mut Load, text: &[u8], columns: &[u8]) -> Outcome {
     let text = first_field(text);
     let outcome = match text {
         [] => return Outcome::Blank,
-        [b'C', b'H', b'A', b'N', rest @ ..] if ends(rest) => load.secondary(|_| true, |load, slot| Ok(chan(load, slot, rest))),
-        [b'P', b'A', b'T', b'C', b'H', rest @ ..] if ends(rest) => patch(load, rest),
+        [b'C', b'H', b'A', b'N', rest @ ..] if ends(rest) => {
+            let first = Field { text, column: column(text, columns) };
+            load.secondary(first, |_| true, |load, slot| Ok(chan(load, slot, rest, columns)))
+        }
+        [b'P', b'A', b'T', b'C', b'H', rest @ ..] if ends(rest) => patch(load, rest, columns),
         _ => {
-            let fields = behind(text);
-            load.obey(&text[..text.len() - fields.len()], Fields(fields))
+            let rest = behind(text);
+            let first = Field { text: &text[..text.len() - rest.len()], column: column(text, columns) };
+            load.obey(first, Fields { text: rest, columns: &columns[columns.len() - rest.len()..] })
         }
     };
     outcome.unwrap_or_else(Outcome::Dropped)
 }
 
-fn chan(load: &mut Load, slot: usize, text: &[u8]) {
+/// Of the field that a text begins with, by how much of the record it is the rest of; 0 where nothing is left.
+fn column(text: &[u8], columns: &[u8]) -> u8 {
+    columns.get(columns.len() - text.len()).copied().unwrap_or(0)
+}
+
+fn chan(load: &mut Load, slot: usize, text: &[u8], columns: &[u8]) {
     let channels = load.desk.channels;
     let from = slot * load.desk.slot() + HEAD;
     let levels = &mut load.store[from..from + channels];
     let mut rest = first_field(text);
     while !rest.is_empty() {
         let (channel, after) = place(rest, channels, Condition::Channel);
-        let (level, after) = level(first_field(after));
-        rest = first_field(after);
+        let second = first_field(after);
+        let (level, after) = level(second);
         match (channel, level) {
             (Ok(channel), Ok(level)) => levels[channel - 1] = level,
-            (Err(condition), _) | (_, Err(condition)) => load.log.report(condition),
+            (Err(condition), _) => load.log.report(Fault { condition, column: column(rest, columns) }),
+            (_, Err(condition)) => load.log.report(Fault { condition, column: column(second, columns) }),
         }
+        rest = first_field(after);
     }
 }
 
-fn patch(load: &mut Load, text: &[u8]) -> Result<Outcome, Condition> {
+fn patch(load: &mut Load, text: &[u8], columns: &[u8]) -> Result<Outcome, Fault> {
     let desk = load.desk;
-    let (page, after) = place(first_field(text), desk.patch_pages, Condition::PatchPage);
-    let from = desk.slots() * desk.slot() + (page.map_err(|_| Condition::PatchPage)? - 1) * desk.dimmers * ENTRY;
+    let text = first_field(text);
+    let (page, after) = place(text, desk.patch_pages, Condition::PatchPage);
+    let page = page.map_err(|_| Fault { condition: Condition::PatchPage, column: column(text, columns) })?;
+    let from = desk.slots() * desk.slot() + (page - 1) * desk.dimmers * ENTRY;
     let mut rest = first_field(after);
     while !rest.is_empty() {
         let (channel, after) = place(rest, desk.channels, Condition::Channel);
-        let (dimmer, after) = place(first_field(after), desk.dimmers, Condition::Dimmer);
-        let (level, after) = level(first_field(after));
-        rest = first_field(after);
+        let second = first_field(after);
+        let (dimmer, after) = place(second, desk.dimmers, Condition::Dimmer);
+        let third = first_field(after);
+        let (level, after) = level(third);
         match (channel, dimmer, level) {
             (Ok(channel), Ok(dimmer), Ok(level)) => {
                 let word = (channel as u32) << 14 | (level as u32) << 6;
                 let at = from + (dimmer - 1) * ENTRY;
                 load.store[at..at + ENTRY].copy_from_slice(&word.to_be_bytes()[1..]);
             }
-            (Err(condition), ..) | (_, Err(condition), _) | (.., Err(condition)) => load.log.report(condition),
+            (Err(condition), ..) => load.log.report(Fault { condition, column: column(rest, columns) }),
+            (_, Err(condition), _) => load.log.report(Fault { condition, column: column(second, columns) }),
+            (.., Err(condition)) => load.log.report(Fault { condition, column: column(third, columns) }),
         }
+        rest = first_field(after);
     }
     Ok(Outcome::Obeyed)
 }

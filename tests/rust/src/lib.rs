@@ -6,7 +6,7 @@ pub mod ours;
 pub mod plain;
 pub mod streams;
 
-pub use sphairune::{Refused, Totals};
+pub use sphairune::{Refused, Report, Totals};
 
 /// Channels, dimmers, cues, groups, highest submaster; pages of cues, groups, submasters, patch.
 pub type Limits = [u32; 9];

@@ -6,19 +6,19 @@ use sphairune::calls;
 /// A lent word that the call has to leave alone where it refuses.
 const MARK: usize = 0x5a5a_a5a5;
 
-fn refused(number: u32, length: usize) -> Refused {
-    let kept = |r| {
-        assert_eq!(length, MARK, "refusal {number} touched the lent word");
-        r
-    };
-    match number {
-        1 => kept(Refused::R1),
-        2 => kept(Refused::R2),
-        3 => kept(Refused::R3),
-        4 => kept(Refused::R4),
-        5 => kept(Refused::R5),
-        6 => Refused::R6(length),
-        n => panic!("the library answered {n}"),
+fn refused(answer: u32, length: usize) -> Refused {
+    let (number, place) = (answer % 256, answer as usize / 256);
+    assert!(number == 6 || length == MARK, "answer {answer:#x} touched the lent word");
+    match (number, place) {
+        (1, 0) => Refused::R1,
+        (2, 0) => Refused::R2,
+        (3, 0) => Refused::R3,
+        (0x4a, 1..=2_048) => Refused::R4a(place),
+        (0x4b, 1..=2_048) => Refused::R4b(place),
+        (0x4c, 1..=2_048) => Refused::R4c(place),
+        (5, 0) => Refused::R5,
+        (6, 0) => Refused::R6(length),
+        _ => panic!("the library answered {answer:#x}"),
     }
 }
 
@@ -37,13 +37,13 @@ pub fn empty(limits: &Limits, store: &mut [u8]) -> Result<(), Refused> {
     }
 }
 
-pub fn load(limits: &Limits, store: &mut [u8], stream: &[u8], reports: &mut [u32]) -> Result<Totals, Refused> {
+pub fn load(limits: &Limits, store: &mut [u8], stream: &[u8], reports: &mut [u64]) -> Result<Totals, Refused> {
     const TOTALS: [u32; 6] = [0xdead_beef; 6];
     let mut totals = TOTALS;
-    let number = calls::load(limits, store, stream, reports, &mut totals);
-    if number != 0 {
-        assert_eq!(totals, TOTALS, "refusal {number} touched the totals");
-        return Err(refused(number, MARK));
+    let answer = calls::load(limits, store, stream, reports, &mut totals);
+    if answer != 0 {
+        assert_eq!(totals, TOTALS, "answer {answer:#x} touched the totals");
+        return Err(refused(answer, MARK));
     }
     let [reports, blank, obeyed, passed, dropped, closing] = totals;
     Ok(Totals { reports, blank, obeyed, passed, dropped, closing })
@@ -62,7 +62,7 @@ pub fn find(limits: &Limits, store: &[u8], page: u32, whole: u32, tenths: u32) -
     let mut place = [MARK];
     match calls::find(limits, store, page, whole, tenths, &mut place) {
         0 => Ok(Some(place[0])),
-        1 => {
+        calls::NOT_KEPT => {
             assert_eq!(place[0], MARK, "a cue that is not kept has no place");
             Ok(None)
         }

@@ -7,6 +7,7 @@ pub(crate) const HEAD: usize = 24;
 pub(crate) const ENTRY: usize = 3;
 pub(crate) const LONGEST_RECORD: usize = 80;
 const MOST_CUES: usize = 600;
+const MOST_GROUPS: usize = 200;
 /// 999:59:59.9 in tenths of a second.
 const LONGEST_TIME: u32 = 35_999_999;
 
@@ -26,16 +27,14 @@ pub fn empty(limits: &Limits, store: &mut [u8]) -> Result<(), Refused> {
     Ok(())
 }
 
-/// Reads a stream into a store. A report is the record's number in the high 18 bits, the condition in the low 14.
-pub fn load(limits: &Limits, store: &mut [u8], stream: &[u8], reports: &mut [u32]) -> Result<Totals, Refused> {
+/// Reads a stream into a store. A report is 18 bits of the record's number, 14 of the condition, 7 of the column, and 25 zero bits.
+pub fn load(limits: &Limits, store: &mut [u8], stream: &[u8], reports: &mut [u64]) -> Result<Totals, Refused> {
     if stream.len() > LONGEST {
         return Err(Refused::R1);
     }
     let desk = Desk::new(limits)?;
     let store = store.get_mut(..desk.needed()).ok_or(Refused::R3)?;
-    if !desk.good_form(store) {
-        return Err(Refused::R4);
-    }
+    desk.good_form(store)?;
     let log = Log { list: reports, count: 0, record: 0, error: 0, warning: 0 };
     let mut load = Load { desk, store, open: Open::Nothing, log };
     let mut totals = Totals::default();
@@ -46,10 +45,10 @@ pub fn load(limits: &Limits, store: &mut [u8], stream: &[u8], reports: &mut [u32
             Outcome::Blank => totals.blank += 1,
             Outcome::Obeyed => totals.obeyed += 1,
             Outcome::Passed => totals.passed += 1,
-            Outcome::Dropped(condition) => {
+            Outcome::Dropped(fault) => {
                 totals.dropped += 1;
-                load.log.report(condition);
-                ended = matches!(condition, Condition::TooLong | Condition::Ident);
+                load.log.report(fault);
+                ended = matches!(fault.condition, Condition::TooLong | Condition::Ident);
             }
             Outcome::End => {
                 totals.obeyed += 1;
@@ -61,7 +60,7 @@ pub fn load(limits: &Limits, store: &mut [u8], stream: &[u8], reports: &mut [u32
         }
     }
     if !ended {
-        load.log.report(Condition::NoEnd);
+        load.log.report(Condition::NoEnd.alone());
     }
     totals.reports = load.log.count;
     totals.closing = if load.log.error != 0 { load.log.error } else { load.log.warning };
@@ -72,9 +71,7 @@ pub fn load(limits: &Limits, store: &mut [u8], stream: &[u8], reports: &mut [u32
 pub fn write(limits: &Limits, store: &[u8], out: &mut [u8]) -> Result<usize, Refused> {
     let desk = Desk::new(limits)?;
     let store = store.get(..desk.needed()).ok_or(Refused::R3)?;
-    if !desk.good_form(store) {
-        return Err(Refused::R4);
-    }
+    desk.good_form(store)?;
     let mut text = Text(Vec::with_capacity(out.len().min(LONGEST)));
     desk.show(store, &mut text).ok_or(Refused::R5)?;
     let text = text.0;
@@ -86,9 +83,7 @@ pub fn write(limits: &Limits, store: &[u8], out: &mut [u8]) -> Result<usize, Ref
 pub fn find(limits: &Limits, store: &[u8], page: u32, whole: u32, tenths: u32) -> Result<Option<usize>, Refused> {
     let desk = Desk::new(limits)?;
     let store = store.get(..desk.needed()).ok_or(Refused::R3)?;
-    if !desk.good_form(store) {
-        return Err(Refused::R4);
-    }
+    desk.good_form(store)?;
     if !(1..=63).contains(&page) || whole > 999 || tenths > 9 {
         return Ok(None);
     }
@@ -174,36 +169,44 @@ impl Desk {
         Some(self.places(kind).start + at)
     }
 
-    pub(crate) fn good_form(&self, store: &[u8]) -> bool {
-        self.kind_is_good(store, Kind::Cue)
-            && self.kind_is_good(store, Kind::Group)
-            && self.kind_is_good(store, Kind::Sub)
-            && store[self.slots() * self.slot()..].chunks_exact(ENTRY).all(|entry| self.entry_is_good(entry))
-    }
-
-    fn kind_is_good(&self, store: &[u8], kind: Kind) -> bool {
-        let mut keys = [0; MOST_CUES];
+    /// Or R4a, R4b, R4c with their places, each looked for in the whole store before the next.
+    pub(crate) fn good_form(&self, store: &[u8]) -> Result<(), Refused> {
+        // Kind, key and place of the used cues and groups, so that sorted those with the same name stand together, the earliest first.
+        let mut names = [0; MOST_CUES + MOST_GROUPS];
         let mut count = 0;
-        for (place, slot) in store[self.bytes(kind)].chunks_exact(self.slot()).enumerate() {
-            if !used(slot) {
-                // No early exit, so that it goes many bytes at a time.
-                if slot.iter().fold(0, |all, byte| all | byte) != 0 {
-                    return false;
+        for kind in [Kind::Cue, Kind::Group, Kind::Sub] {
+            let first = self.places(kind).start;
+            for (i, slot) in store[self.bytes(kind)].chunks_exact(self.slot()).enumerate() {
+                if !self.slot_is_good(slot, kind, i) {
+                    return Err(Refused::R4a(first + i + 1));
                 }
-                continue;
-            }
-            if !self.head_is_good(head_of(slot), kind, place) {
-                return false;
-            }
-            if kind != Kind::Sub {
-                keys[count] = slot_key(slot);
-                count += 1;
+                // A submaster that agrees with its place repeats no other.
+                if used(slot) && kind != Kind::Sub {
+                    names[count] = (kind as u32) << 31 | slot_key(slot) << 10 | (first + i) as u32;
+                    count += 1;
+                }
             }
         }
-        // A submaster that agrees with its place repeats no other.
-        let keys = &mut keys[..count];
-        keys.sort_unstable();
-        keys.windows(2).all(|pair| pair[0] != pair[1])
+        let names = &mut names[..count];
+        names.sort_unstable();
+        let repeated = names.windows(2).filter(|pair| pair[0] >> 10 == pair[1] >> 10).map(|pair| pair[1] & 0x3ff);
+        if let Some(place) = repeated.min() {
+            return Err(Refused::R4b(place as usize + 1));
+        }
+        match store[self.slots() * self.slot()..].chunks_exact(ENTRY).position(|entry| !self.entry_is_good(entry)) {
+            Some(i) => Err(Refused::R4c(i + 1)),
+            None => Ok(()),
+        }
+    }
+
+    /// Of the slot in a place among those of its kind, from 0.
+    fn slot_is_good(&self, slot: &[u8], kind: Kind, place: usize) -> bool {
+        if used(slot) {
+            self.head_is_good(head_of(slot), kind, place)
+        } else {
+            // No early exit, so that it goes many bytes at a time.
+            slot.iter().fold(0, |all, byte| all | byte) == 0
+        }
     }
 
     fn head_is_good(&self, head: &[u8; HEAD], kind: Kind, place: usize) -> bool {
@@ -394,26 +397,26 @@ impl Text {
 
 // A slot's head: fields as their first bit and their width, most significant bit first.
 
-type Field = (usize, usize);
+type Bits = (usize, usize);
 
 #[derive(Clone, Copy)]
 struct Fade {
-    given: Field,
-    fade: Field,
-    delay: Field,
+    given: Bits,
+    fade: Bits,
+    delay: Bits,
 }
 
-const PAGE: Field = (1, 6);
-const WHOLE: Field = (7, 10);
-const TENTHS: Field = (17, 4);
-const LINK: Field = (21, 1);
-const LINK_WHOLE: Field = (22, 10);
-const LINK_TENTHS: Field = (32, 4);
+const PAGE: Bits = (1, 6);
+const WHOLE: Bits = (7, 10);
+const TENTHS: Bits = (17, 4);
+const LINK: Bits = (21, 1);
+const LINK_WHOLE: Bits = (22, 10);
+const LINK_TENTHS: Bits = (32, 4);
 const UP: Fade = Fade { given: (36, 1), fade: (37, 26), delay: (63, 26) };
 const DOWN: Fade = Fade { given: (89, 1), fade: (90, 26), delay: (116, 26) };
-const FOLLOWON: Field = (142, 1);
-const FOLLOWON_TIME: Field = (143, 26);
-const ZERO: Field = (169, 23);
+const FOLLOWON: Bits = (142, 1);
+const FOLLOWON_TIME: Bits = (143, 26);
+const ZERO: Bits = (169, 23);
 
 fn head_of(slot: &[u8]) -> &[u8; HEAD] {
     slot.first_chunk().expect("a slot begins with its head")
@@ -434,20 +437,20 @@ fn key(page: u32, number: Number) -> u32 {
 
 /// The eight bytes that a field lies in, and how far it is from their end.
 #[inline]
-fn window((at, width): Field) -> (Range<usize>, usize) {
+fn window((at, width): Bits) -> (Range<usize>, usize) {
     let from = (at / 8).min(HEAD - 8);
     (from..from + 8, 64 - (at - from * 8) - width)
 }
 
 #[inline]
-fn get(head: &[u8; HEAD], field: Field) -> u32 {
+fn get(head: &[u8; HEAD], field: Bits) -> u32 {
     let (bytes, shift) = window(field);
     let word = u64::from_be_bytes(head[bytes].try_into().expect("eight bytes"));
     (word >> shift) as u32 & ((1 << field.1) - 1)
 }
 
 #[inline]
-fn set(head: &mut [u8; HEAD], field: Field, value: u32) {
+fn set(head: &mut [u8; HEAD], field: Bits, value: u32) {
     let (bytes, shift) = window(field);
     let word = u64::from_be_bytes(head[bytes.clone()].try_into().expect("eight bytes"));
     let mask = ((1u64 << field.1) - 1) << shift;
@@ -485,15 +488,72 @@ pub(crate) fn is_control(b: u8) -> bool {
     b < 0x20 && b != b'\t' || b == 0x7f
 }
 
-/// A record's fields, then empty words without end: every reader of a value calls an empty word malformed.
-pub(crate) struct Fields<'a>(pub(crate) &'a [u8]);
+/// The column of each character of a record that has none to ignore.
+pub(crate) const COLUMNS: [u8; LONGEST_RECORD] = {
+    let mut columns = [0; LONGEST_RECORD];
+    let mut i = 0;
+    while i < LONGEST_RECORD {
+        columns[i] = i as u8 + 1;
+        i += 1;
+    }
+    columns
+};
+
+/// The characters of a record that are not ignored, each with the column that it stands in.
+pub(crate) struct Kept {
+    text: [u8; LONGEST_RECORD],
+    columns: [u8; LONGEST_RECORD],
+    count: usize,
+}
+
+impl Kept {
+    pub(crate) fn of(record: &[u8]) -> Kept {
+        let mut kept = Kept { text: [0; LONGEST_RECORD], columns: [0; LONGEST_RECORD], count: 0 };
+        for (&b, column) in record.iter().zip(1..).filter(|(&b, _)| b < 0x80 && !is_control(b)) {
+            kept.text[kept.count] = b;
+            kept.columns[kept.count] = column;
+            kept.count += 1;
+        }
+        kept
+    }
+
+    pub(crate) fn text(&self) -> &[u8] {
+        &self.text[..self.count]
+    }
+
+    pub(crate) fn columns(&self) -> &[u8] {
+        &self.columns[..self.count]
+    }
+}
+
+/// A field, and the column of its first character; a missing one is empty, in column 0.
+#[derive(Clone, Copy)]
+pub(crate) struct Field<'a> {
+    pub(crate) text: &'a [u8],
+    pub(crate) column: u8,
+}
+
+impl Field<'_> {
+    fn blame(self, condition: Condition) -> Fault {
+        Fault { condition, column: self.column }
+    }
+}
+
+/// A record's fields, then empty ones without end: every reader of a value calls an empty field malformed. There is a column for each
+/// character of the text.
+pub(crate) struct Fields<'a> {
+    pub(crate) text: &'a [u8],
+    pub(crate) columns: &'a [u8],
+}
 
 impl<'a> Fields<'a> {
-    pub(crate) fn next(&mut self) -> &'a [u8] {
-        let from = self.0.iter().position(|&b| !is_delimiter(b)).unwrap_or(self.0.len());
-        let rest = &self.0[from..];
-        let (field, rest) = rest.split_at(rest.iter().position(|&b| is_delimiter(b)).unwrap_or(rest.len()));
-        self.0 = rest;
+    pub(crate) fn next(&mut self) -> Field<'a> {
+        let from = self.text.iter().position(|&b| !is_delimiter(b)).unwrap_or(self.text.len());
+        let rest = &self.text[from..];
+        let to = rest.iter().position(|&b| is_delimiter(b)).unwrap_or(rest.len());
+        let columns = &self.columns[from..];
+        let field = Field { text: &rest[..to], column: columns.first().copied().unwrap_or(0) };
+        (self.text, self.columns) = (&rest[to..], &columns[to..]);
         field
     }
 }
@@ -535,47 +595,51 @@ fn with_tenths(field: &[u8]) -> Option<(u32, u32)> {
     }
 }
 
-fn number(field: &[u8]) -> Result<Number, Condition> {
-    match with_tenths(field) {
-        None | Some((0, 0)) => Err(Condition::BadNumber),
-        Some((whole, _)) if whole > 999 => Err(Condition::LargeNumber),
+fn number(field: Field) -> Result<Number, Fault> {
+    match with_tenths(field.text) {
+        None | Some((0, 0)) => Err(field.blame(Condition::BadNumber)),
+        Some((whole, _)) if whole > 999 => Err(field.blame(Condition::LargeNumber)),
         Some((whole, tenths)) => Ok(Number { whole, tenths }),
     }
 }
 
-fn page(field: &[u8], pages: usize) -> Result<u32, Condition> {
-    integer(field).filter(|page| (1..=pages as u32).contains(page)).ok_or(Condition::Page)
+fn page(field: Field, pages: usize, condition: Condition) -> Result<u32, Fault> {
+    integer(field.text).filter(|page| (1..=pages as u32).contains(page)).ok_or(field.blame(condition))
 }
 
 /// Channels and dimmers.
-fn place(field: &[u8], most: usize, out_of_range: Condition) -> Result<usize, Condition> {
-    match integer(field) {
-        None => Err(Condition::BadInteger),
-        Some(n) if n == 0 || n as usize > most => Err(out_of_range),
+fn place(field: Field, most: usize, out_of_range: Condition) -> Result<usize, Fault> {
+    match integer(field.text) {
+        None => Err(field.blame(Condition::BadInteger)),
+        Some(n) if n == 0 || n as usize > most => Err(field.blame(out_of_range)),
         Some(n) => Ok(n as usize),
     }
 }
 
-fn level(field: &[u8]) -> Result<u8, Condition> {
-    if let [b'H' | b'h', digits @ ..] = field {
-        if !(1..=4).contains(&digits.len()) {
-            return Err(Condition::BadHexadecimal);
-        }
-        let mut value = 0;
-        for &b in digits {
-            value = value << 4 | (b as char).to_digit(16).ok_or(Condition::BadHexadecimal)?;
-        }
-        return Ok(if digits.len() > 2 { value >> 8 } else { value } as u8);
+fn level(field: Field) -> Result<u8, Fault> {
+    if let [b'H' | b'h', digits @ ..] = field.text {
+        return hexadecimal(digits).ok_or(field.blame(Condition::BadHexadecimal));
     }
-    match integer(field) {
+    match integer(field.text) {
         Some(percent @ 0..=999) => Ok(((percent.min(100) * 255 + 50) / 100) as u8),
-        _ => Err(Condition::BadLevel),
+        _ => Err(field.blame(Condition::BadLevel)),
     }
 }
 
+fn hexadecimal(digits: &[u8]) -> Option<u8> {
+    if !(1..=4).contains(&digits.len()) {
+        return None;
+    }
+    let mut value = 0;
+    for &b in digits {
+        value = value << 4 | (b as char).to_digit(16)?;
+    }
+    Some(if digits.len() > 2 { value >> 8 } else { value } as u8)
+}
+
 /// `[[h:]m:]s[.t]` in tenths of a second.
-fn time(field: &[u8]) -> Result<u32, Condition> {
-    tenths_of(field).ok_or(Condition::BadTime)
+fn time(field: Field) -> Result<u32, Fault> {
+    tenths_of(field.text).ok_or(field.blame(Condition::BadTime))
 }
 
 fn tenths_of(field: &[u8]) -> Option<u32> {
@@ -620,8 +684,22 @@ pub(crate) enum Condition {
     NonPrinting = 702,
 }
 
+impl Condition {
+    /// Of no field.
+    pub(crate) fn alone(self) -> Fault {
+        Fault { condition: self, column: 0 }
+    }
+}
+
+/// A condition, and the column of the field that is blamed.
+#[derive(Clone, Copy)]
+pub(crate) struct Fault {
+    pub(crate) condition: Condition,
+    pub(crate) column: u8,
+}
+
 pub(crate) struct Log<'a> {
-    pub(crate) list: &'a mut [u32],
+    pub(crate) list: &'a mut [u64],
     pub(crate) count: u32,
     pub(crate) record: u32,
     pub(crate) error: u32,
@@ -629,9 +707,9 @@ pub(crate) struct Log<'a> {
 }
 
 impl Log<'_> {
-    pub(crate) fn report(&mut self, condition: Condition) {
+    pub(crate) fn report(&mut self, Fault { condition, column }: Fault) {
         if let Some(entry) = self.list.get_mut(self.count as usize) {
-            *entry = self.record << 14 | condition as u32;
+            *entry = (self.record as u64) << 46 | (condition as u64) << 32 | (column as u64) << 25;
         }
         self.count += 1;
         match condition {
@@ -645,7 +723,7 @@ pub(crate) enum Outcome {
     Blank,
     Obeyed,
     Passed,
-    Dropped(Condition),
+    Dropped(Fault),
     End,
 }
 
@@ -675,51 +753,44 @@ fn keyword<'a>(field: &[u8], room: &'a mut [u8; 10]) -> &'a [u8] {
 impl Load<'_> {
     fn record(&mut self, record: &[u8]) -> Outcome {
         if record.len() > LONGEST_RECORD {
-            return Outcome::Dropped(Condition::TooLong);
+            return Outcome::Dropped(Condition::TooLong.alone());
         }
-        let mut kept;
+        let kept;
         let high = record.iter().fold(false, |any, &b| any | (b >= 0x80));
         let control = record.iter().fold(false, |any, &b| any | is_control(b));
-        let text = if high || control {
+        let (text, columns) = if high || control {
             if high {
-                self.log.report(Condition::HighBit);
+                self.log.report(Condition::HighBit.alone());
             }
             if control {
-                self.log.report(Condition::NonPrinting);
+                self.log.report(Condition::NonPrinting.alone());
             }
-            kept = [0; LONGEST_RECORD];
-            let mut n = 0;
-            for &b in record.iter().filter(|&&b| b < 0x80 && !is_control(b)) {
-                kept[n] = b;
-                n += 1;
-            }
-            &kept[..n]
+            kept = Kept::of(record);
+            (kept.text(), kept.columns())
         } else {
-            record
+            (record, &COLUMNS[..record.len()])
         };
-        let text = match split_once(text, b'!') {
-            Some((text, _)) => text,
-            None => text,
-        };
-        let mut fields = Fields(text);
+        let end = text.iter().position(|&b| b == b'!').unwrap_or(text.len());
+        let mut fields = Fields { text: &text[..end], columns: &columns[..end] };
         let first = fields.next();
-        if first.is_empty() {
+        if first.text.is_empty() {
             return Outcome::Blank;
         }
         self.obey(first, fields).unwrap_or_else(Outcome::Dropped)
     }
 
-    pub(crate) fn obey(&mut self, first: &[u8], mut fields: Fields) -> Result<Outcome, Condition> {
+    pub(crate) fn obey(&mut self, first: Field, mut fields: Fields) -> Result<Outcome, Fault> {
         let mut room = [0; 10];
-        match keyword(first, &mut room) {
-            b"CHAN" => self.secondary(|_| true, |load, slot| load.chan(slot, fields)),
-            b"CUE" => self.primary(Kind::Cue, fields),
-            b"UP" => self.fade(UP, fields),
-            b"DOWN" => self.fade(DOWN, fields),
+        match keyword(first.text, &mut room) {
+            b"CHAN" => self.secondary(first, |_| true, |load, slot| load.chan(slot, fields)),
+            b"CUE" => self.primary(Kind::Cue, first, fields),
+            b"UP" => self.fade(UP, first, fields),
+            b"DOWN" => self.fade(DOWN, first, fields),
             b"PATCH" => self.patch(fields),
-            b"GROUP" => self.primary(Kind::Group, fields),
-            b"SUB" => self.primary(Kind::Sub, fields),
+            b"GROUP" => self.primary(Kind::Group, first, fields),
+            b"SUB" => self.primary(Kind::Sub, first, fields),
             b"FOLLOWON" => self.secondary(
+                first,
                 |kind| kind == Kind::Cue,
                 |load, slot| {
                     let time = time(fields.next())?;
@@ -730,6 +801,7 @@ impl Load<'_> {
                 },
             ),
             b"LINK" => self.secondary(
+                first,
                 |kind| kind == Kind::Cue,
                 |load, slot| {
                     let number = number(fields.next())?;
@@ -740,11 +812,14 @@ impl Load<'_> {
                     Ok(())
                 },
             ),
-            b"CLEAR" => self.clear(fields),
-            b"IDENT" => match split_once(fields.next(), b':') {
-                Some((version, revision)) if integer(version) == Some(3) && integer(revision) == Some(0) => Ok(Outcome::Obeyed),
-                _ => Err(Condition::Ident),
-            },
+            b"CLEAR" => self.clear(first, fields),
+            b"IDENT" => {
+                let field = fields.next();
+                match split_once(field.text, b':') {
+                    Some((version, revision)) if integer(version) == Some(3) && integer(revision) == Some(0) => Ok(Outcome::Obeyed),
+                    _ => Err(field.blame(Condition::Ident)),
+                }
+            }
             b"ENDDATA" => Ok(Outcome::End),
             b"MANUFACTUR" | b"CONSOLE" | b"SET" | b"TEXT" | b"PART" => Ok(Outcome::Passed),
             [b'$', b'$', ..] => Ok(Outcome::Passed),
@@ -752,37 +827,37 @@ impl Load<'_> {
                 self.open = Open::Skipping;
                 Ok(Outcome::Passed)
             }
-            _ => Err(Condition::Unknown),
+            _ => Err(first.blame(Condition::Unknown)),
         }
     }
 
-    fn primary(&mut self, kind: Kind, fields: Fields) -> Result<Outcome, Condition> {
+    fn primary(&mut self, kind: Kind, first: Field, fields: Fields) -> Result<Outcome, Fault> {
         self.open = Open::Skipping;
-        let slot = self.start(kind, fields)?;
+        let slot = self.start(kind, first, fields)?;
         self.open = Open::Memory(kind, slot);
         Ok(Outcome::Obeyed)
     }
 
     /// Starts the named memory afresh and tells its slot.
-    fn start(&mut self, kind: Kind, mut fields: Fields) -> Result<usize, Condition> {
+    fn start(&mut self, kind: Kind, first: Field, mut fields: Fields) -> Result<usize, Fault> {
         let desk = self.desk;
         if !desk.supports(kind) {
-            return Err(if kind == Kind::Group { Condition::NoGroups } else { Condition::NoSubmasters });
+            return Err(first.blame(if kind == Kind::Group { Condition::NoGroups } else { Condition::NoSubmasters }));
         }
         let number = match kind {
             Kind::Sub => Number { whole: place(fields.next(), desk.subs, Condition::Submaster)? as u32, tenths: 0 },
             _ => number(fields.next())?,
         };
         let page = match fields.next() {
-            [] => 1,
-            given => page(given, desk.pages(kind))?,
+            Field { text: [], .. } => 1,
+            given => page(given, desk.pages(kind), Condition::Page)?,
         };
         let key = key(page, number);
         let found = match kind {
             Kind::Sub => Some(desk.places(kind).start + (page as usize - 1) * desk.subs + number.whole as usize - 1),
             _ => desk.find(self.store, kind, key).or_else(|| desk.unused(self.store, kind)),
         };
-        let slot = found.ok_or(if kind == Kind::Cue { Condition::CueRoom } else { Condition::GroupRoom })?;
+        let slot = found.ok_or(if kind == Kind::Cue { Condition::CueRoom } else { Condition::GroupRoom }.alone())?;
         let bytes = self.slot(slot);
         bytes.fill(0);
         bytes[..3].copy_from_slice(&(key << 3).to_be_bytes()[1..]);
@@ -800,23 +875,25 @@ impl Load<'_> {
 
     pub(crate) fn secondary(
         &mut self,
+        first: Field,
         applies: impl FnOnce(Kind) -> bool,
-        act: impl FnOnce(&mut Self, usize) -> Result<(), Condition>,
-    ) -> Result<Outcome, Condition> {
+        act: impl FnOnce(&mut Self, usize) -> Result<(), Fault>,
+    ) -> Result<Outcome, Fault> {
         match self.open {
             Open::Skipping => Ok(Outcome::Passed),
             Open::Memory(kind, slot) if applies(kind) => act(self, slot).map(|()| Outcome::Obeyed),
-            _ => Err(Condition::WrongSecondary),
+            _ => Err(first.blame(Condition::WrongSecondary)),
         }
     }
 
-    fn fade(&mut self, fade: Fade, mut fields: Fields) -> Result<Outcome, Condition> {
+    fn fade(&mut self, fade: Fade, first: Field, mut fields: Fields) -> Result<Outcome, Fault> {
         self.secondary(
+            first,
             |kind| kind != Kind::Group,
             |load, slot| {
                 let up = time(fields.next())?;
                 let delay = match fields.next() {
-                    [] => 0,
+                    Field { text: [], .. } => 0,
                     given => time(given)?,
                 };
                 let head = load.head(slot);
@@ -828,30 +905,30 @@ impl Load<'_> {
         )
     }
 
-    fn chan(&mut self, slot: usize, mut fields: Fields) -> Result<(), Condition> {
+    fn chan(&mut self, slot: usize, mut fields: Fields) -> Result<(), Fault> {
         let channels = self.desk.channels;
         let from = slot * self.desk.slot() + HEAD;
         let levels = &mut self.store[from..from + channels];
         loop {
             let channel = fields.next();
-            if channel.is_empty() {
+            if channel.text.is_empty() {
                 return Ok(());
             }
             let given = fields.next();
             match place(channel, channels, Condition::Channel).and_then(|channel| Ok((channel, level(given)?))) {
                 Ok((channel, level)) => levels[channel - 1] = level,
-                Err(condition) => self.log.report(condition),
+                Err(fault) => self.log.report(fault),
             }
         }
     }
 
-    fn patch(&mut self, mut fields: Fields) -> Result<Outcome, Condition> {
+    fn patch(&mut self, mut fields: Fields) -> Result<Outcome, Fault> {
         let desk = self.desk;
-        let page = page(fields.next(), desk.patch_pages).map_err(|_| Condition::PatchPage)? as usize;
+        let page = page(fields.next(), desk.patch_pages, Condition::PatchPage)? as usize;
         let from = desk.slots() * desk.slot() + (page - 1) * desk.dimmers * ENTRY;
         loop {
             let channel = fields.next();
-            if channel.is_empty() {
+            if channel.text.is_empty() {
                 return Ok(Outcome::Obeyed);
             }
             let (dimmer, given) = (fields.next(), fields.next());
@@ -866,15 +943,15 @@ impl Load<'_> {
                     let at = from + (dimmer - 1) * ENTRY;
                     self.store[at..at + ENTRY].copy_from_slice(&word.to_be_bytes()[1..]);
                 }
-                Err(condition) => self.log.report(condition),
+                Err(fault) => self.log.report(fault),
             }
         }
     }
 
-    fn clear(&mut self, mut fields: Fields) -> Result<Outcome, Condition> {
+    fn clear(&mut self, first: Field, mut fields: Fields) -> Result<Outcome, Fault> {
         let desk = self.desk;
         let mut room = [0; 10];
-        let item = keyword(fields.next(), &mut room);
+        let item = keyword(fields.next().text, &mut room);
         let (kinds, patch): (&[Kind], bool) = match item {
             b"ALL" => (&[Kind::Cue, Kind::Group, Kind::Sub], true),
             b"CUES" => (&[Kind::Cue], false),
@@ -882,15 +959,15 @@ impl Load<'_> {
             b"SUBMASTERS" => (&[Kind::Sub], false),
             b"PATCH" => (&[], true),
             [b'$', ..] => return Ok(Outcome::Obeyed),
-            _ => return Err(Condition::Unknown),
+            _ => return Err(first.blame(Condition::Unknown)),
         };
         let pages = kinds.iter().filter(|&&kind| desk.supports(kind)).map(|&kind| desk.pages(kind));
         let Some(pages) = pages.chain(patch.then_some(desk.patch_pages)).max() else {
             return Ok(Outcome::Obeyed);
         };
         let page = match fields.next() {
-            [] => None,
-            given => Some(page(given, pages)?),
+            Field { text: [], .. } => None,
+            given => Some(page(given, pages, Condition::Page)?),
         };
         for &kind in kinds {
             for slot in self.store[desk.bytes(kind)].chunks_exact_mut(desk.slot()) {

@@ -204,8 +204,9 @@ pub fn stream(limits: &Limits, dice: &mut Dice) -> Vec<u8> {
         4..=6 => return crowd(limits, dice),
         _ => (),
     }
-    let faults = dice.pick(&[4, 12, 40, 1_000_000]);
-    let mut talk = Talk { limits, dice, faults, out };
+    let faults = dice.pick(&[4, 6, 12, 40, 1_000_000]);
+    let dirt = dice.pick(&[3, 12, 60, 1_000_000, 1_000_000]);
+    let mut talk = Talk { limits, dice, faults, dirt, out };
     talk.stream();
     let Talk { mut out, .. } = talk;
     if dice.one_in(8) {
@@ -338,6 +339,8 @@ struct Talk<'a> {
     dice: &'a mut Dice,
     /// One value in so many is odd.
     faults: usize,
+    /// One character in so many has some to ignore ahead of it.
+    dirt: usize,
     out: Vec<u8>,
 }
 
@@ -487,6 +490,7 @@ impl Talk<'_> {
             };
             self.out.insert(at, stray);
         }
+        self.soil(from);
         if self.odd() && self.odd() {
             // Around 80 characters.
             let length = from + 78 + self.dice.below(5);
@@ -496,6 +500,16 @@ impl Talk<'_> {
             }
         }
         self.end();
+    }
+
+    /// Puts characters to ignore into the record that begins at a place, ahead of any other, and does not make it too long.
+    fn soil(&mut self, from: usize) {
+        for at in (from..=self.out.len()).rev() {
+            if self.dice.one_in(self.dirt) && self.out.len() - from <= 77 {
+                let some = self.dice.pick(&[&b"\x80"[..], b"\xff", b"\x01", b"\x7f", b"\x00\x1f", b"\xa0\x08\xc3"]);
+                self.out.splice(at..at, some.iter().copied());
+            }
+        }
     }
 
     fn end(&mut self) {
@@ -511,7 +525,7 @@ impl Talk<'_> {
                 self.out.push(one);
             }
         } else {
-            let one = self.dice.pick(b" <@/");
+            let one = self.dice.pick(b" <@/\t");
             self.out.push(one);
         }
     }

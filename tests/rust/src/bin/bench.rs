@@ -38,7 +38,7 @@ impl Side {
         }
     }
 
-    fn load(self, limits: &Limits, store: &mut [u8], stream: &[u8], reports: &mut [u32]) -> Result<Totals, Refused> {
+    fn load(self, limits: &Limits, store: &mut [u8], stream: &[u8], reports: &mut [u64]) -> Result<Totals, Refused> {
         match self {
             Ours => ours::load(limits, store, stream, reports),
             Plain => plain::load(limits, store, stream, reports),

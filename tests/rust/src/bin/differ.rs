@@ -8,10 +8,11 @@
 //!
 //! At the first difference it prints the case, with a stream as short as was found, and ends with 1.
 
+use std::collections::BTreeMap;
 use std::fmt::Debug;
 use std::process::exit;
 use trials::streams::{crowd, desk, full, long_record, show_of, stream, Dice, HOUSE, LARGE, SPECIALS};
-use trials::{better, ours, plain, Limits, Refused, Totals, LONGEST};
+use trials::{better, ours, plain, Limits, Refused, Report, Totals, LONGEST};
 
 /// Bytes or words with a strip on either side that nobody may touch.
 struct Lent<T> {
@@ -46,37 +47,51 @@ fn compare<A: PartialEq + Debug>(who: &str, one: &A, plain: &A) -> Verdict {
     }
 }
 
-fn same<T: PartialEq + Debug>(who: &str, what: &str, one: &Lent<T>, plain: &Lent<T>) -> Verdict {
+fn same<T: PartialEq, S: Debug>(who: &str, what: &str, one: &Lent<T>, plain: &Lent<T>, read: fn(&T) -> S) -> Verdict {
     if one.room == plain.room {
         return Ok(());
     }
     let at = one.room.iter().zip(&plain.room).position(|(a, b)| a != b).unwrap_or(0);
     let (i, length) = (at as isize - STRIP as isize, one.room.len() - 2 * STRIP);
-    Err(format!("{what} at {i} of {length}: {who} {:?}, plain {:?}", one.room[at], plain.room[at]))
+    Err(format!("{what} at {i} of {length}: {who} {:?}, plain {:?}", read(&one.room[at]), read(&plain.room[at])))
+}
+
+fn same_bytes(who: &str, what: &str, one: &Lent<u8>, plain: &Lent<u8>) -> Verdict {
+    same(who, what, one, plain, |&byte| byte)
 }
 
 const MARK: u8 = 0xa5;
 
-type Load = fn(&Limits, &mut [u8], &[u8], &mut [u32]) -> Result<Totals, Refused>;
+type Load = fn(&Limits, &mut [u8], &[u8], &mut [u64]) -> Result<Totals, Refused>;
 
-fn load(limits: &Limits, store: &[u8], stream: &[u8], reports: &[u32]) -> (Verdict, Vec<u8>, Result<Totals, Refused>) {
-    let lent = || (Lent::new(store, MARK), Lent::new(reports, 0xabcd_ef01));
+/// What a load came to on the plain side, and whether the others agree.
+struct Loaded {
+    verdict: Verdict,
+    store: Vec<u8>,
+    reports: Vec<u64>,
+    answer: Result<Totals, Refused>,
+}
+
+fn load(limits: &Limits, store: &[u8], stream: &[u8], reports: &[u64]) -> Loaded {
+    let lent = || (Lent::new(store, MARK), Lent::new(reports, 0xabcd_ef01_2345_6789));
     let (mut b, mut q) = lent();
-    let plain = plain::load(limits, b.part(), stream, q.part());
+    let answer = plain::load(limits, b.part(), stream, q.part());
     let sides: [(&str, Load); 2] = [("ours", ours::load), ("better", better::load)];
     let verdict = sides.into_iter().try_for_each(|(who, call)| {
         let (mut a, mut p) = lent();
-        let answer = call(limits, a.part(), stream, p.part());
-        compare(who, &answer, &plain).and_then(|()| same(who, "reports", &p, &q)).and_then(|()| same(who, "store", &a, &b))
+        let other = call(limits, a.part(), stream, p.part());
+        compare(who, &other, &answer)?;
+        same(who, "reports", &p, &q, |&word| Report::of(word))?;
+        same_bytes(who, "store", &a, &b)
     });
-    (verdict, b.part().to_vec(), plain)
+    Loaded { verdict, store: b.part().to_vec(), reports: q.part().to_vec(), answer }
 }
 
 fn write(limits: &Limits, store: &[u8], out: &[u8]) -> (Verdict, Vec<u8>, Result<usize, Refused>) {
     let (mut a, mut b) = (Lent::new(out, MARK), Lent::new(out, MARK));
     let x = ours::write(limits, store, a.part());
     let y = plain::write(limits, store, b.part());
-    (compare("ours", &x, &y).and_then(|()| same("ours", "output", &a, &b)), b.part().to_vec(), y)
+    (compare("ours", &x, &y).and_then(|()| same_bytes("ours", "output", &a, &b)), b.part().to_vec(), y)
 }
 
 fn find(limits: &Limits, store: &[u8], page: u32, whole: u32, tenths: u32) -> Verdict {
@@ -87,7 +102,7 @@ fn empty(limits: &Limits, store: &[u8]) -> Verdict {
     let (mut a, mut b) = (Lent::new(store, MARK), Lent::new(store, MARK));
     let x = ours::empty(limits, a.part());
     let y = plain::empty(limits, b.part());
-    compare("ours", &x, &y).and_then(|()| same("ours", "store", &a, &b))
+    compare("ours", &x, &y).and_then(|()| same_bytes("ours", "store", &a, &b))
 }
 
 fn shown(bytes: &[u8]) -> String {
@@ -105,7 +120,7 @@ fn hex(bytes: &[u8]) -> String {
 }
 
 /// Cuts pieces out of a stream as long as the two sides still differ on it, for at most five seconds.
-fn shortened(limits: &Limits, store: &[u8], stream: &[u8], reports: &[u32]) -> Vec<u8> {
+fn shortened(limits: &Limits, store: &[u8], stream: &[u8], reports: &[u64]) -> Vec<u8> {
     let begun = std::time::Instant::now();
     let mut best = stream.to_vec();
     let mut piece = best.len().div_ceil(2);
@@ -117,7 +132,7 @@ fn shortened(limits: &Limits, store: &[u8], stream: &[u8], reports: &[u32]) -> V
             }
             let mut less = best.clone();
             less.drain(at..(at + piece).min(best.len()));
-            if load(limits, store, &less, reports).0.is_err() {
+            if load(limits, store, &less, reports).verdict.is_err() {
                 best = less;
             } else {
                 at += piece;
@@ -141,9 +156,11 @@ struct Case<'a> {
 struct Tally {
     calls: u64,
     done: u64,
-    refused: [u64; 7],
+    refused: BTreeMap<&'static str, u64>,
     records: u64,
     reports: u64,
+    /// The stored reports that blame a field, by its column.
+    columns: BTreeMap<u64, u64>,
     kept: u64,
     /// Calls with a store of more than 100,000 bytes.
     large: u64,
@@ -154,12 +171,15 @@ impl Tally {
         self.large += (store.len() > 100_000) as u64;
         match answer {
             Ok(_) => self.done += 1,
-            Err(Refused::R1) => self.refused[1] += 1,
-            Err(Refused::R2) => self.refused[2] += 1,
-            Err(Refused::R3) => self.refused[3] += 1,
-            Err(Refused::R4) => self.refused[4] += 1,
-            Err(Refused::R5) => self.refused[5] += 1,
-            Err(Refused::R6(_)) => self.refused[6] += 1,
+            Err(refused) => *self.refused.entry(refused.name()).or_default() += 1,
+        }
+    }
+
+    fn note_reports(&mut self, totals: &Totals, list: &[u64]) {
+        self.records += totals.records() as u64;
+        self.reports += totals.reports as u64;
+        for column in totals.stored(list).map(|report| report.column as u64).filter(|&column| column != 0) {
+            *self.columns.entry(column).or_default() += 1;
         }
     }
 }
@@ -172,20 +192,19 @@ impl Case<'_> {
         exit(1)
     }
 
-    fn load(&mut self, limits: &Limits, store: &[u8], stream: &[u8], reports: &[u32]) -> (Vec<u8>, Result<Totals, Refused>) {
-        let (verdict, after, answer) = load(limits, store, stream, reports);
+    fn load(&mut self, limits: &Limits, store: &[u8], stream: &[u8], reports: &[u64]) -> (Vec<u8>, Result<Totals, Refused>) {
+        let loaded = load(limits, store, stream, reports);
         self.calls += 1;
-        self.tally.note(store, &answer);
-        if let Ok(t) = &answer {
-            self.tally.records += (t.blank + t.obeyed + t.passed + t.dropped) as u64;
-            self.tally.reports += t.reports as u64;
+        self.tally.note(store, &loaded.answer);
+        if let Ok(totals) = &loaded.answer {
+            self.tally.note_reports(totals, &loaded.reports);
         }
-        if verdict.is_err() {
+        if loaded.verdict.is_err() {
             let least = shortened(limits, store, stream, reports);
-            let why = load(limits, store, &least, reports).0.expect_err("it differed before");
+            let why = load(limits, store, &least, reports).verdict.expect_err("it differed before");
             self.differs(limits, store, &format!("load, stream \"{}\", {} reports", shown(&least), reports.len()), &why);
         }
-        (after, answer)
+        (loaded.store, loaded.answer)
     }
 
     fn write(&mut self, limits: &Limits, store: &[u8], out: &[u8]) -> (Vec<u8>, Result<usize, Refused>) {
@@ -233,7 +252,9 @@ impl Case<'_> {
             let before = if dice.one_in(3) { crowd(&limits, dice) } else { stream(&limits, dice) };
             store = self.load(&limits, &store, &before, &[]).0;
             if sort > 16 {
-                damage(&limits, &mut store, dice);
+                for _ in 0..dice.pick(&[1, 1, 2, 4]) {
+                    damage(&limits, &mut store, dice);
+                }
             }
         }
         match dice.below(12) {
@@ -244,8 +265,8 @@ impl Case<'_> {
         }
         for _ in 0..dice.below(3) {
             let text = stream(&limits, dice);
-            let room = dice.pick(&[0, 1, 2, 5, 30, 300]);
-            let reports: Vec<u32> = (0..room).map(|_| dice.word() as u32).collect();
+            let room = dice.pick(&[0, 1, 2, 5, 30, 300, 300, 300]);
+            let reports: Vec<u64> = (0..room).map(|_| dice.word()).collect();
             store = self.load(&limits, &store, &text, &reports).0;
         }
         for _ in 0..dice.below(3) {
@@ -283,55 +304,16 @@ impl Case<'_> {
         }
     }
 
-    /// A store in good form has one thing put wrong in it, or only changed, and put back again, a few times over.
+    /// A store in good form has a thing or a few put wrong in it, or only changed, and put back again, a few times over.
     fn spoil(&mut self, limits: &Limits, store: &mut [u8], dice: &mut Dice) {
         if plain::find(limits, store, 0, 0, 0).is_err() {
             return;
         }
-        let slot = 24 + limits[0] as usize;
-        let [cues, groups, subs] = [limits[2], limits[3], limits[4] * limits[7]].map(|n| n as usize);
-        let entries = (limits[8] * limits[1]) as usize;
-        let (used, unused): (Vec<usize>, Vec<usize>) = (0..cues + groups + subs).partition(|i| store[i * slot] >= 0x80);
+        let shape = Shape::of(limits);
+        let (used, unused): (Vec<usize>, Vec<usize>) = (0..shape.slots()).partition(|i| store[i * shape.slot] >= 0x80);
         for _ in 0..=dice.below(8) {
-            let sort = dice.below(8);
-            let place = match sort {
-                0..=2 if !used.is_empty() => dice.pick(&used),
-                3..=5 if !unused.is_empty() => dice.pick(&unused),
-                _ => dice.below(cues + groups + subs),
-            };
-            let (from, to) = if sort == 7 {
-                let any = dice.below(entries);
-                let entry = dice.pick(&[0, entries - 1, any]);
-                let from = (cues + groups + subs) * slot + entry * 3;
-                (from, from + 3)
-            } else {
-                (place * slot, (place + 1) * slot)
-            };
-            let kept = store[from..to].to_vec();
-            match sort {
-                // Another of its kind, or only the name of another; a name is 21 bits.
-                0..=2 => {
-                    let other = if place < cues { dice.below(cues) } else { cues + dice.below(groups + subs) };
-                    let (other, length) = (other * slot, if dice.one_in(3) { slot } else { 2 });
-                    store.copy_within(other..other + length, from);
-                    if dice.one_in(2) {
-                        store[from + 2] = store[from + 2] & 7 | store[other + 2] & 0xf8;
-                    }
-                }
-                3..=5 => store[from + dice.below(slot)] ^= 1 << dice.below(8),
-                6 => {
-                    let (field, edges) = dice.pick(&EDGES);
-                    set_bits(&mut store[from..from + 24], field, dice.pick(edges));
-                    if dice.one_in(2) {
-                        // A bit that has to be 0.
-                        set_bits(&mut store[from..from + 24], (dice.range(169, 191) as usize, 1), 1);
-                    }
-                }
-                _ => {
-                    let field = dice.pick(&[(0, 10), (10, 8), (18, 6)]);
-                    set_bits(&mut store[from..to], field, dice.pick(&[0, 1, limits[0], limits[0] + 1, 32, 255, 1_023]));
-                }
-            }
+            let many = dice.pick(&[1, 1, 1, 2, 3, 6]);
+            let kept: Vec<(usize, Vec<u8>)> = (0..many).map(|_| shape.spoil(store, &used, &unused, dice)).collect();
             let (page, whole, tenths) = self.name(limits, store, dice);
             self.find(limits, store, page, whole, tenths);
             match dice.below(8) {
@@ -339,7 +321,74 @@ impl Case<'_> {
                 1 => drop(self.write(limits, store, &[9; 99])),
                 _ => (),
             }
-            store[from..to].copy_from_slice(&kept);
+            for (from, bytes) in kept.iter().rev() {
+                store[*from..from + bytes.len()].copy_from_slice(bytes);
+            }
+        }
+    }
+
+    /// A slot out of form, a slot that repeats another and a bad entry: each at every place of a small store, every two, and one of each sort.
+    fn sweep_places(&mut self) {
+        const DESK: Limits = [2, 3, 4, 3, 2, 2, 2, 2, 2];
+        let shape = Shape::of(&DESK);
+        let empty = vec![0; plain::needed(&DESK).expect("a desk in range")];
+        let (good, _) = self.load(&DESK, &empty, b"CUE 1\nCUE 2 2\nCUE 3\nGROUP 1\nGROUP 2\nSUB 2\nSUB 1 2\nPATCH 1 1 2 50", &[]);
+        // What is put into the store, and where. A bit that has to be 0 is the last of a head, and of an entry.
+        let slots: Vec<(usize, Vec<u8>)> = (0..shape.slots()).map(|i| (i * shape.slot + 23, vec![good[i * shape.slot + 23] | 1])).collect();
+        let entries: Vec<(usize, Vec<u8>)> = (0..shape.entries).map(|i| (shape.slots() * shape.slot + 3 * i, vec![0, 0, 1])).collect();
+        let mut repeats = Vec::new();
+        for kind in [0..shape.cues, shape.cues..shape.cues + shape.groups] {
+            for (to, from) in kind.clone().flat_map(|to| kind.clone().map(move |from| (to, from))) {
+                repeats.push((to * shape.slot, good[from * shape.slot..(from + 1) * shape.slot].to_vec()));
+            }
+        }
+        let mut spoilt = |faults: &[&(usize, Vec<u8>)]| {
+            let mut store = good.clone();
+            for (from, bytes) in faults {
+                store[*from..from + bytes.len()].copy_from_slice(bytes);
+            }
+            self.find(&DESK, &store, 1, 3, 0);
+            drop(self.load(&DESK, &store, b"CUE 1\nCHAN 1@50", &[9; 4]));
+            drop(self.write(&DESK, &store, &[9; 300]));
+        };
+        let all: Vec<_> = slots.iter().chain(&repeats).chain(&entries).collect();
+        for one in &all {
+            all.iter().for_each(|other| spoilt(&[one, other]));
+        }
+        for (slot, repeat) in slots.iter().flat_map(|slot| repeats.iter().map(move |repeat| (slot, repeat))) {
+            entries.iter().for_each(|entry| spoilt(&[repeat, entry, slot]));
+        }
+    }
+
+    /// Faulty records with what is ignored and what divides fields at every place of them, and pushed to the 80th character and past it.
+    fn sweep_columns(&mut self) {
+        const DESKS: [Limits; 2] = [[9, 9, 1, 1, 2, 2, 2, 2, 2], [9, 9, 1, 0, 0, 2, 2, 2, 2]];
+        const FAULTY: [&[u8]; 40] = [
+            b"CUE x 9", b"CUE 0", b"CUE 1000", b"CUE 1.55", b"CUE 1 9", b"CUE 1 x", b"CUE", b"CUE 2", b"GROUP x", b"GROUP 1 9", b"GROUP", b"GROUP 2",
+            b"SUB x", b"SUB 9 9", b"SUB 1 9", b"SUB", b"UP 1:60 x", b"UP 1 x", b"DOWN", b"FOLLOWON x", b"FOLLOWON", b"LINK 0", b"LINK",
+            b"CHAN 1@H0G 2@9", b"CHAN x@1 0@1 10@1 1@FULL 9", b"CHAN 9", b"PATCH 9 1 1 1", b"PATCH", b"PATCH 1 x 1 1 1 x 1 1 1 x",
+            b"PATCH 1 10 1 1 1 10 1 1", b"CLEAR FOO 9", b"CLEAR", b"CLEAR CUES 9", b"CLEAR ALL x", b"CLEAR PATCH 3", b"IDENT 4:0", b"IDENT",
+            b"FOO 1", b"9 1", b"(! CUE",
+        ];
+        const PUT: [&[u8]; 9] = [b"\x80", b"\x01", b"\x7f\xff", b"\x00\x9f\x1f", b"\t", b" ", b"\t\x80 ", b"\x02,\x03", b"!"];
+        for (limits, record) in DESKS.iter().flat_map(|desk| FAULTY.map(|record| (desk, record))) {
+            let empty = vec![0; plain::needed(limits).expect("a desk in range")];
+            let mut at = |place: usize, put: &[u8]| {
+                // A group has neither times nor link, so that there the keyword is blamed.
+                for first in [&b"CUE 1\n"[..], b"GROUP 1\n"] {
+                    let stream = [first, &record[..place], put, &record[place..], b"\nCHAN 1 1"].concat();
+                    drop(self.load(limits, &empty, &stream, &[7; 30]));
+                }
+            };
+            for place in 0..=record.len() {
+                PUT.iter().for_each(|put| at(place, put));
+            }
+            let behind = record.iter().position(|&b| b == b' ').unwrap_or(record.len());
+            for length in 1..=82 - record.len() {
+                for place in [0, behind, record.len()] {
+                    [b' ', 0x80].into_iter().for_each(|filler| at(place, &vec![filler; length]));
+                }
+            }
         }
     }
 
@@ -453,6 +502,78 @@ impl Case<'_> {
     }
 }
 
+/// Where things stand in a store.
+struct Shape {
+    channels: u32,
+    slot: usize,
+    cues: usize,
+    groups: usize,
+    subs: usize,
+    entries: usize,
+}
+
+impl Shape {
+    fn of(limits: &Limits) -> Shape {
+        let [channels, dimmers, cues, groups, subs, .., sub_pages, patch_pages] = *limits;
+        let [cues, groups, subs, entries] = [cues, groups, subs * sub_pages, patch_pages * dimmers].map(|n| n as usize);
+        Shape { channels, slot: 24 + channels as usize, cues, groups, subs, entries }
+    }
+
+    fn slots(&self) -> usize {
+        self.cues + self.groups + self.subs
+    }
+
+    /// Changes a slot or a patch entry, and tells where, and what was there.
+    fn spoil(&self, store: &mut [u8], used: &[usize], unused: &[usize], dice: &mut Dice) -> (usize, Vec<u8>) {
+        let slot = self.slot;
+        let sort = dice.below(8);
+        let place = match sort {
+            0..=2 if !used.is_empty() => dice.pick(used),
+            3..=5 if !unused.is_empty() => dice.pick(unused),
+            _ => dice.below(self.slots()),
+        };
+        let (from, to) = if sort == 7 {
+            let any = dice.below(self.entries);
+            let entry = dice.pick(&[0, self.entries - 1, any]);
+            let from = self.slots() * slot + entry * 3;
+            (from, from + 3)
+        } else {
+            (place * slot, (place + 1) * slot)
+        };
+        let kept = store[from..to].to_vec();
+        match sort {
+            // Another of its kind, or only the name of another; a name is 21 bits.
+            0..=2 => {
+                let kind = if place < self.cues { 0..self.cues } else { self.cues..self.slots() };
+                let others: Vec<usize> = used.iter().copied().filter(|i| kind.contains(i)).collect();
+                let other = if others.is_empty() || dice.one_in(4) { kind.start + dice.below(kind.len()) } else { dice.pick(&others) };
+                let (other, length) = (other * slot, if dice.one_in(3) { slot } else { 2 });
+                store.copy_within(other..other + length, from);
+                if dice.one_in(2) {
+                    store[from + 2] = store[from + 2] & 7 | store[other + 2] & 0xf8;
+                }
+            }
+            3..=5 => store[from + dice.below(slot)] ^= 1 << dice.below(8),
+            6 => {
+                let (field, edges) = dice.pick(&EDGES);
+                set_bits(&mut store[from..from + 24], field, dice.pick(edges));
+                if dice.one_in(2) {
+                    // A bit that has to be 0.
+                    set_bits(&mut store[from..from + 24], (dice.range(169, 191) as usize, 1), 1);
+                }
+            }
+            _ => spoil_entry(&mut store[from..to], self.channels, dice),
+        }
+        (from, kept)
+    }
+}
+
+/// A patch entry with a value at the end of its range, or just past it.
+fn spoil_entry(entry: &mut [u8], channels: u32, dice: &mut Dice) {
+    let field = dice.pick(&[(0, 10), (10, 8), (18, 6)]);
+    set_bits(entry, field, dice.pick(&[0, 1, channels, channels + 1, 32, 255, 1_023]));
+}
+
 type Field = (usize, usize);
 
 const FLAG: &[u32] = &[0, 1];
@@ -500,10 +621,7 @@ fn damage(limits: &Limits, store: &mut [u8], dice: &mut Dice) {
         let slots = (limits[2] + limits[3] + limits[4] * limits[7]) as usize;
         if dice.one_in(4) {
             let at = slots * slot + 3 * dice.below((limits[8] * limits[1]) as usize);
-            let field = dice.pick(&[(0, 10), (10, 8), (18, 6)]);
-            let value = dice.pick(&[0, 1, limits[0], limits[0] + 1, 32, 255, 1_023]);
-            set_bits(&mut store[at..at + 3], field, value);
-            return;
+            return spoil_entry(&mut store[at..at + 3], limits[0], dice);
         }
         let at = dice.below(slots) * slot;
         for _ in 0..=dice.below(2) {
@@ -539,6 +657,8 @@ fn edges(seed: u64, tally: &mut Tally) -> u64 {
     case.sweep_records(dice);
     case.sweep_slots(dice);
     case.sweep_names(dice);
+    case.sweep_places();
+    case.sweep_columns();
     // The longest stream that may be written, and one byte more: ten bytes come from a submaster that a second load adds.
     let empty = vec![0; plain::needed(&LARGE).expect("the largest desk is in range")];
     for length in LONGEST - 1..=LONGEST + 1 {
@@ -571,10 +691,10 @@ fn random(seed: u64, count: u64) {
         tally.calls += calls;
         number += 1;
     }
-    let refused: Vec<String> = (1..7).map(|i| format!("R{i} {}", tally.refused[i])).collect();
+    let refused: Vec<String> = tally.refused.iter().map(|(name, count)| format!("{name} {count}")).collect();
     println!(
         "{} calls, edges and {number} cases from seed {seed}: no difference ({:.0} s); {} on large stores; answered {}, refused {}; {} records, \
-         {} reports, {} cues found",
+         {} reports, {} stored ones blame {} columns; {} cues found",
         tally.calls,
         begun.elapsed().as_secs_f64(),
         tally.large,
@@ -582,6 +702,8 @@ fn random(seed: u64, count: u64) {
         refused.join(" "),
         tally.records,
         tally.reports,
+        tally.columns.values().sum::<u64>(),
+        tally.columns.len(),
         tally.kept
     );
 }
@@ -596,8 +718,7 @@ fn prefixes(folder: &str) -> std::io::Result<()> {
         let bytes = std::fs::read(path)?;
         let n = bytes.len();
         for k in (0..=n).filter(|k| n <= 20_000 || *k <= 2_000 || n - k <= 2_000 || k % 97 == 0) {
-            let (verdict, ..) = load(&HOUSE, &empty, &bytes[..k], &[7; 50]);
-            if let Err(why) = verdict {
+            if let Err(why) = load(&HOUSE, &empty, &bytes[..k], &[7; 50]).verdict {
                 println!("DIFFERENCE: the first {k} bytes of {}\n  {why}", path.display());
                 exit(1);
             }
