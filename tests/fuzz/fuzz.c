@@ -1,8 +1,9 @@
 /* Calls of the library on inputs that a fuzzer makes up; a broken promise aborts.
  *
  * Nine bytes choose the desk, three the room for reports, the bytes past the store, and a byte to spoil; the rest is the stream.
- * Then: load; the totals against the reports and the stream; write with too little room, just enough and more; the written stream read back
- * into this store and into an empty one; every kept cue found; the store spoilt, and then refused or not, by every call alike. */
+ * Then: load; the totals against the reports and the stream, each column against its record; write with too little room, just enough and
+ * more; the written stream read back into this store and into an empty one; every kept cue found; the store spoilt, and then refused for what
+ * was spoilt or not, by every call alike. */
 #include <stdint.h>
 #include <stdio.h>
 #include <stdlib.h>
@@ -37,28 +38,67 @@ static void take_back(void *part, size_t bytes) {
     free(b - STRIP);
 }
 
+static int is_end(uint8_t c) { return c == '\r' || c == '\n'; }
+
+/* Where a record's characters end. */
+static size_t end_of(const uint8_t *s, size_t n, size_t from) {
+    while (from < n && !is_end(s[from])) from++;
+    return from;
+}
+
+/* Where the record after the one that begins at a place begins. */
+static size_t next_of(const uint8_t *s, size_t n, size_t from) {
+    size_t end = end_of(s, n, from);
+    return end + 1 < n && is_end(s[end + 1]) && s[end + 1] != s[end] ? end + 2 : end + 1;
+}
+
 static uint32_t records_in(const uint8_t *s, size_t n) {
     uint32_t records = 0;
-    size_t i = 0;
-    while (i < n) {
-        while (i < n && s[i] != '\r' && s[i] != '\n') i++;
-        records++;
-        if (i + 1 < n && (s[i + 1] == '\r' || s[i + 1] == '\n') && s[i + 1] != s[i]) i++;
-        i++;
-    }
+    for (size_t i = 0; i < n; i = next_of(s, n, i)) records++;
     return records;
+}
+
+static int is_ignored(uint8_t c) { return (c < 0x20 && c != '\t') || c >= 0x7f; }
+
+/* Which field of a record, from 1, begins in a column; 0 where none does. */
+static uint32_t field_at(const uint8_t *record, uint32_t column) {
+    uint32_t fields = 0;
+    int inside = 0, begins = 0;
+    for (uint32_t i = 0; i < column; i++) {
+        begins = 0;
+        if (record[i] == '!') return 0;
+        if (is_ignored(record[i])) continue;
+        int was = inside;
+        inside = !memchr("\t ,/;<=>@", record[i], 9);
+        begins = inside && !was;
+        fields += (uint32_t)begins;
+    }
+    return begins ? fields : 0;
+}
+
+/* The column is 0, or a field begins there: the first for a condition that blames the keyword, a later one for any other. */
+static void check_column(const uint8_t *record, size_t length, uint32_t condition, uint32_t column) {
+    HOLDS(column <= length && column <= 80);
+    switch (condition) {
+    case 21: case 22: case 91: case 100: case 701: case 702: HOLDS(column == 0); break;
+    case 51: case 52: case 151: case 152: HOLDS(field_at(record, column) == 1); break;
+    default: HOLDS(column == 0 || field_at(record, column) > 1);
+    }
 }
 
 static int is_error(uint32_t condition) { return condition == 91 || condition == 99 || condition == 100; }
 
 /* The totals against the reports, where all are stored, and against the stream. */
-static void check_totals(const uint32_t *t, const uint32_t *reports, size_t room, const uint8_t *stream, size_t n) {
+static void check_totals(const uint32_t *t, const uint64_t *reports, size_t room, const uint8_t *stream, size_t n) {
     uint32_t read = t[BLANK] + t[OBEYED] + t[PASSED] + t[DROPPED], records = records_in(stream, n);
     HOLDS(read <= records && read <= n && t[COUNT] <= n + 1);
     uint32_t stored = t[COUNT] < room ? t[COUNT] : (uint32_t)room, last = 0, error = 0, warning = 0;
+    size_t from = 0;
     for (uint32_t i = 0; i < stored; i++) {
-        uint32_t record = reports[i] >> 14, condition = reports[i] & 0x3fff;
-        HOLDS(record >= last && record <= read && condition != 0);
+        uint32_t record = sphairune_report_record(reports[i]), condition = sphairune_report_condition(reports[i]);
+        HOLDS(record >= last && record <= read && condition != 0 && reports[i] % (1u << 25) == 0);
+        for (uint32_t at = last ? last : 1; at < record; at++) from = next_of(stream, n, from);
+        check_column(stream + from, end_of(stream, n, from) - from, condition, sphairune_report_column(reports[i]));
         if (is_error(condition)) error = condition;
         else warning = condition;
         if (condition == 91 || condition == 99) HOLDS(record == read && i + 1 == t[COUNT]);
@@ -126,30 +166,52 @@ static void check_written(const uint32_t *limits, const uint8_t *store, size_t n
     take_back(exact, length), take_back(out, length + 9);
 }
 
+/* The first 21 bits of a slot: used, page, number. */
+static uint32_t name_of(const uint8_t *slot) { return ((uint32_t)slot[0] << 16 | slot[1] << 8 | slot[2]) >> 3; }
+
 static void check_found(const uint32_t *limits, const uint8_t *store, size_t n) {
     size_t slot = 24 + limits[0], place = 77;
     for (size_t i = 0; i < limits[2]; i++) {
-        const uint8_t *h = store + i * slot;
-        uint32_t word = ((uint32_t)h[0] << 16 | h[1] << 8 | h[2]) >> 3;
+        uint32_t word = name_of(store + i * slot);
         if (word >> 20)
             HOLDS(sphairune_find(limits, 9, store, n, word >> 14 & 63, word >> 4 & 1023, word & 15, &place, 1) == 0 && place == i * slot + 24);
     }
     place = 77;
-    HOLDS(sphairune_find(limits, 9, store, n, 0, 0, 0, &place, 1) == 1 && place == 77);
+    HOLDS(sphairune_find(limits, 9, store, n, 0, 0, 0, &place, 1) == SPHAIRUNE_NOT_KEPT && place == 77);
 }
 
-/* Every call refuses with `why`, and touches nothing. */
+/* Every call answers `why`, and touches nothing; emptying does not look at the store. */
 static void check_refused(const uint32_t *limits, const uint8_t *store, size_t n, const uint8_t *stream, size_t m, uint32_t why) {
-    uint8_t *kept = lend(n), *out = lend(64);
-    uint32_t *reports = lend(4 * sizeof *reports), *totals = lend(TOTALS * sizeof *totals);
+    enum { OUT = 64, REPORTS = 4 * sizeof(uint64_t), WORDS = TOTALS * sizeof(uint32_t) };
+    uint8_t *kept = lend(n), *out = lend(OUT);
+    uint64_t *reports = lend(REPORTS);
+    uint32_t *totals = lend(WORDS);
     size_t *word = lend(sizeof *word);
     memcpy(kept, store, n);
     HOLDS(sphairune_load(limits, 9, kept, n, stream, m, reports, 4, totals, TOTALS) == why);
-    HOLDS(sphairune_write(limits, 9, kept, n, out, 64, word, 1) == why);
+    HOLDS(sphairune_write(limits, 9, kept, n, out, OUT, word, 1) == why);
     HOLDS(sphairune_find(limits, 9, kept, n, 1, 1, 0, word, 1) == why);
-    if (why != 4) HOLDS(sphairune_empty(limits, 9, kept, n) == why);
-    HOLDS(!memcmp(kept, store, n) && all_marked(out, 64) && all_marked(reports, 16) && all_marked(totals, 24) && all_marked(word, sizeof *word));
-    take_back(kept, n), take_back(out, 64), take_back(reports, 16), take_back(totals, 24), take_back(word, sizeof *word);
+    if (why == SPHAIRUNE_R2 || why == SPHAIRUNE_R3) HOLDS(sphairune_empty(limits, 9, kept, n) == why);
+    HOLDS(!memcmp(kept, store, n) && all_marked(out, OUT) && all_marked(reports, REPORTS) && all_marked(totals, WORDS));
+    HOLDS(all_marked(word, sizeof *word));
+    take_back(kept, n), take_back(out, OUT), take_back(reports, REPORTS), take_back(totals, WORDS), take_back(word, sizeof *word);
+}
+
+/* A store that was in good form, with one byte spoilt, is refused for the slot or patch entry which that byte lies in; or for the later of
+ * two slots of a kind with the same name, of which that one is the one or the other. */
+static void check_place(const uint32_t *limits, const uint8_t *store, size_t spoilt, uint32_t answer) {
+    size_t slot = 24 + limits[0], groups = limits[2], subs = groups + limits[3], slots = subs + limits[4] * limits[7];
+    size_t at = spoilt / slot, told = sphairune_answer_place(answer) - 1, first = told < groups ? 0 : groups, same = first;
+    switch (sphairune_answer_number(answer)) {
+    case SPHAIRUNE_R4A: HOLDS(at < slots && told == at); break;
+    case SPHAIRUNE_R4B:
+        HOLDS(first <= at && at <= told && told < subs);
+        while (same < told && name_of(store + same * slot) != name_of(store + told * slot)) same++;
+        HOLDS(same < told && (same == at || told == at));
+        break;
+    case SPHAIRUNE_R4C: HOLDS(at >= slots && told == (spoilt - slots * slot) / 3); break;
+    default: HOLDS(0);
+    }
 }
 
 int LLVMFuzzerTestOneInput(const uint8_t *data, size_t size) {
@@ -167,19 +229,20 @@ int LLVMFuzzerTestOneInput(const uint8_t *data, size_t size) {
     const uint8_t *stream = data + 12;
     size_t m = size - 12, room = data[9] % 8 == 7 ? FULL : data[9] % 8, past = data[10] % 4, needed = 77;
     uint32_t answer = sphairune_needed(limits, 9, &needed, 1);
-    HOLDS(answer == (in_range ? 0 : 2));
+    HOLDS(answer == (in_range ? SPHAIRUNE_DONE : SPHAIRUNE_R2));
     if (!in_range) {
         HOLDS(needed == 77);
         uint8_t small[40] = {0};
-        check_refused(limits, small, sizeof small, stream, m, 2);
+        check_refused(limits, small, sizeof small, stream, m, SPHAIRUNE_R2);
         return 0;
     }
     HOLDS(needed == (limits[2] + limits[3] + limits[4] * limits[7]) * (24 + limits[0]) + limits[8] * limits[1] * 3);
     size_t n = needed + past;
     uint8_t *store = lend(n);
     memset(store, 0, needed);
-    check_refused(limits, store, needed - 1, stream, m, 3);
-    uint32_t *reports = lend(room * sizeof *reports), totals[TOTALS], other_totals[TOTALS];
+    check_refused(limits, store, needed - 1, stream, m, SPHAIRUNE_R3);
+    uint64_t *reports = lend(room * sizeof *reports);
+    uint32_t totals[TOTALS], other_totals[TOTALS];
     uint8_t *other = lend(n);
     memset(other, 0, needed);
     HOLDS(sphairune_load(limits, 9, store, n, stream, m, reports, room, totals, TOTALS) == 0);
@@ -194,10 +257,19 @@ int LLVMFuzzerTestOneInput(const uint8_t *data, size_t size) {
     size_t at = ((size_t)data[11] << 8 | data[10]) % needed;
     store[at] ^= (uint8_t)(1 << data[9] / 8 % 8);
     size_t place = 77;
-    if (sphairune_find(limits, 9, store, n, 1, 1, 0, &place, 1) == 4) check_refused(limits, store, n, stream, m, 4);
-    else {
+    answer = sphairune_find(limits, 9, store, n, 1, 1, 0, &place, 1);
+    if (answer == SPHAIRUNE_DONE || answer == SPHAIRUNE_NOT_KEPT) {
         check_written(limits, store, n);
         check_found(limits, store, n);
+        answer = SPHAIRUNE_R4C + 256 * limits[8] * limits[1];
+    } else {
+        check_place(limits, store, at, answer);
+        check_refused(limits, store, n, stream, m, answer);
+    }
+    /* The last bit of the last patch entry has to be 0: where it is not, this is the last thing that is told. */
+    if (at + 3 < needed) {
+        store[needed - 1] |= 1;
+        check_refused(limits, store, n, stream, m, answer);
     }
     take_back(store, n), take_back(other, n), take_back(reports, room * sizeof *reports);
     return 0;
