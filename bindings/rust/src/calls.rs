@@ -1,7 +1,7 @@
 //! The five calls of the library as they are, with numbers and lists; the only unsafe code. A slice of Rust is what the library asks of a
 //! list: a pointer that is aligned and not null, to as many entries as the length says; and a slice lent as `&mut` overlaps no other.
 //! Each answers a word, its number in the low eight bits: 0, or that of the refusal ([`Refused::number`](crate::Refused::number)), and then
-//! every lent list is as it was, but that [`write`] with 6 stores the length needed. Above the numbers 0x4A, 0x4B and 0x4C (R4a, R4b, R4c)
+//! every lent list is as it was, but that [`write()`] with 6 stores the length needed. Above the numbers 0x4A, 0x4B and 0x4C (R4a, R4b, R4c)
 //! stands a place, from 1; above any other 0. [`find`] answers [`NOT_KEPT`] where the cue is not kept, and leaves its list too.
 #![allow(unsafe_code)]
 
