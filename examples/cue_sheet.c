@@ -1,8 +1,8 @@
 /* cue_sheet FILE [nine limits]: loads a show file into an empty desk and prints a cue sheet for the prep bench.
  *
  * The desk is the house small desk unless its nine limits are given, in the order of include/sphairune.h. First come the reports, each with
- * the record as received and a mark under the field that is blamed, then the cues by page and number, then what is kept and the tallies. Exit
- * status 0 where there is a sheet, 1 where the file cannot be read or a call is turned away, 2 where the arguments are wrong.
+ * the record as received and a mark under the field that is blamed, then the cues by page and number, then what is kept and the tallies.
+ * Exit status 0 where there is a sheet, 1 where the file cannot be read or a call is turned away, 2 where the arguments are wrong.
  * bindings/rust/examples/cue_sheet.rs prints the same. */
 #include <errno.h>
 #include <stdio.h>
@@ -129,9 +129,9 @@ static void print_reports(const uint64_t *reports, uint32_t count, size_t n) {
         uint32_t record = sphairune_report_record(reports[i]), condition = sphairune_report_condition(reports[i]);
         uint32_t column = sphairune_report_column(reports[i]);
         while (r.number < record && r.to < n) step(&r, n);
-        int ahead = printf("  (%05u:%u)", record, column);
-        while (ahead < 12) ahead += printf(" ");
-        ahead += printf(" %04u-%c %-36s", condition, sphairune_severity(condition), sphairune_condition_text(condition));
+        char where[24];
+        snprintf(where, sizeof where, "(%05u:%u)", record, column);
+        int ahead = printf("  %-10s %04u-%c %-36s", where, condition, sphairune_severity(condition), sphairune_condition_text(condition));
         if (condition == 100) {
             printf("\n"); /* of the end of the stream, not of a record */
         } else {

@@ -2,8 +2,8 @@
  *
  * Nine bytes choose the desk, three the room for reports, the bytes past the store, and a byte to spoil; the rest is the stream.
  * Then: load; the totals against the reports and the stream, each column against its record; write with too little room, just enough and
- * more; the written stream read back into this store and into an empty one; every kept cue found; the store spoilt, and then refused for what
- * was spoilt or not, by every call alike. */
+ * more; the written stream read back into this store and into an empty one; every kept cue found; the store spoilt, and then refused for
+ * what was spoilt or not, by every call alike. */
 #include <stdint.h>
 #include <stdio.h>
 #include <stdlib.h>
