@@ -2,6 +2,7 @@
 -- Assumes nothing.
 use Rattle.text_fields.specs.Tables.{Ended}
 use Rattle.load_items.proofs.Laws.{Fields, fields-read, start-fits, second-ended, third-ended, item-channel, item-middle, item-level, item-obeyed}
+use native.Mathlib.Omega.{arith}
 use borrow.Author.Needs.{needs}
 use Rattle.load_items.proofs.item_at.Statement.{statement}
 use Rattle.load_items.proofs.item_at.Tie as tie
@@ -54,7 +55,10 @@ returns : tie.Need-returns
 returns c = let t = c .before in item-channel _ _ _ _ (fields (t .before .before)) (t .if1 .taken) (c .blamed-at .ensures)
 
 blamed-at-requires-2 : tie.Need-blamed-at-requires-2
-blamed-at-requires-2 c κs = let r = channel (first-good (c .before .before)) in (second r .within, began r .pre .short)
+blamed-at-requires-2 c κs =
+    let l = first-good (c .before .before) in
+    let r = channel l in
+    (omega (arith, second r .within, third (l .before .before) .within), began r .pre .short)
 
 returns-2 : tie.Need-returns-2
 returns-2 c =

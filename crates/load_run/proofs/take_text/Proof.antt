@@ -3,6 +3,7 @@
 use Rattle.load_run.proofs.Taking.{step-room, text-said, step-taken}
 use Rattle.load.proofs.Steps.{step-small}
 use Rattle.load_tell.specs.Count.{ignoredBy}
+use native.Mathlib.Omega.{arith}
 use lib.Seq.{length-take-le}
 use mathlib.Core.Path.{sym}
 use borrow.Author.Needs.{needs}
@@ -35,7 +36,7 @@ tell-requires c κs =
     let k = stepped c in
     let s = began (k .before) in
     let t = s .pre .1 .0 in
-    (t .countable, step-room _ _ _ (k .step .ensures .0) (step-small _ _ _ _) (k .step .ensures .1) (s .pre .1 .1) _ _ _ (s .args .high) (s .args .control) (t .countable) (t .room) (s .pre .0 .1) (text-said _ _ _ _))
+    (t .countable, step-room _ _ _ (k .step .ensures .0) (step-small _ _ _ _) (k .step .ensures .1) (s .pre .1 .1) _ _ _ (s .args .high) (s .args .control) (t .countable) (t .room) (omega arith) (text-said _ _ _ _))
 
 parted-requires : tie.Need-parted-requires
 parted-requires c κs = search needs
