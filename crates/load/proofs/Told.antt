@@ -5,9 +5,10 @@
 use mathlib.Core.Path.{_≡_, refl, sym, ap, _∙_, subst}
 use mathlib.Core.Bool.{Bool, true, false}
 use mathlib.Core.List.{List, [], _∷_, _++_}
-use Prim.Native.Nat.{ℕ, _<_}
+use Prim.Native.Nat.{ℕ, _≤_, _<_}
 use native.Mathlib.Omega.{arith}
 use lib.Dec.{ltb, lit<}
+use lib.ListN.{length}
 use borrow.Author.Tests.{ltb-true, lt-ltb}
 use Rattle.cells.specs.Search.{Found, at, nowhere}
 use Rattle.cells.proofs.Split.{by-test, by-bool, clash}
@@ -20,8 +21,9 @@ use Rattle.store_desk.specs.Name.{Name, pagesOf, slotCount, supported}
 use Rattle.text_fields.specs.declared.Item.{Item}
 use Rattle.text_fields.specs.declared.Item.the-variants.{All, Cues, Groups, Patch as Patches, Subs, Local as LocalItem, Other}
 use Rattle.text_records.specs.Cleaning.{isHigh, isControl, has}
-use Rattle.text_fields.specs.Words.{Word, fieldsOf, headOf, tailOf}
+use Rattle.text_fields.specs.Words.{Word, wordsOf, fieldsOf, headOf, tailOf}
 use Rattle.text_fields.specs.Keywords.{keywordOf, itemOf}
+use Rattle.text_fields.proofs.Placed.{place-within}
 use Rattle.value.specs.declared.Integer.{Integer}
 use Rattle.value.specs.declared.Integer.the-variants.{Malformed, Value}
 use Rattle.value.specs.declared.Numbered.{Numbered}
@@ -66,6 +68,7 @@ use Rattle.load.specs.Step.{Step, ended, skipping, openedBy, acted, step
 use Rattle.load.proofs.Faulted.{Blamed, AllBlamed, blamed-join, FieldOf, Fields, behind-fields, head-field, tail-fields}
 use Rattle.load.proofs.Faulted.{field-blamed, keyword-blamed, none-blamed}
 use Rattle.load.proofs.Entries.{EntriesTold, pairs-told, triples-told}
+use Rattle.load.specs.Fits.{Near}
 use Rattle.load.proofs.Steps.{saidBy}
 
 -- ---- what holds of it
@@ -370,6 +373,15 @@ module _ (d : Desk) (cues : 0 < d .cues) (s : State) (t : List ℕ) where
       (λ e. passed-blamed (w ∷ ws) _ skipping (local-passed d s t w ws e))
       (λ x e o. passed-blamed (w ∷ ws) _ s (skipped-passed d s t w ws x e o))
       (λ h. ask-blamed (w ∷ ws) (familyAsk d s f w ws) h)
+
+  -- so that no place is past the text
+  pub said-near : (text : List ℕ) → Near (length text) (saidBy (stepOf d s (wordsOf 0 text) t))
+  unfolding AllBlamed Near
+  said-near text = near (saidBy (stepOf d s (wordsOf 0 text) t)) (fields-blamed (wordsOf 0 text))
+    where
+      near : (xs : List Fault) → AllBlamed (wordsOf 0 text) xs → Near (length text) xs
+      near [] h = tt
+      near (x ∷ xs) h = (subst (λ (k : ℕ). k ≤ length text) (sym (h .0 .place)) (place-within text (h .0 .index)), near xs (h .1))
 
   ignored-blamed : (fs : List Word) (r : List ℕ) → AllBlamed fs (ignoredIn r)
   unfolding ignoredIn blamesKeyword has

@@ -3,7 +3,7 @@
 -- Assumes nothing.
 use mathlib.Core.Bool.{cond}
 use mathlib.Core.List.{List, [], _∷_}
-use Prim.Native.Nat.{ℕ, _+_, _*_, _/_, _%_, _<_, max}
+use Prim.Native.Nat.{ℕ, _+_, _*_, _/_, _%_, _≤_, _<_, max}
 use Rattle.store_desk.specs.declared.Desk.{Desk}
 use Rattle.store_desk.specs.declared.Kind.the-variants.{Cue, Group, Sub}
 use Rattle.store_desk.specs.Size.{Within}
@@ -39,6 +39,11 @@ faultIn w = record { condition = w % conditionSpan; place = w / conditionSpan }
 unfoldable pub Small : List Fault → Type 0
 Small [] = Unit {0}
 Small (f ∷ fs) = (f .condition < conditionSpan) × Small fs
+
+-- faults whose places are within so many characters
+unfoldable pub Near : ℕ → List Fault → Type 0
+Near n [] = Unit {0}
+Near n (f ∷ fs) = (f .place ≤ n) × Near n fs
 
 -- the highest page that a table has: CLEAR ALL finds a table for a page up to it, and none beyond (law `all-ask`)
 unfoldable pub highestPage : Desk → ℕ

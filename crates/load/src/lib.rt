@@ -59,10 +59,16 @@ pub fn blamed(f: Field, condition: u32) -> Fault
 // The first field from `at` on is blamed: from 0 on the keyword.
 pub fn blamed_at(text: &[u8], at: usize, condition: u32) -> Fault
     requires { ⌜ at ≤ length (now text) ⌝ }
-    requires { ⌜ length (now text) ≤ longest ⌝ }
     ensures { λ r. ⌜ r ≡ blame (headOf (wordsFrom (now (text .entry)) at)) condition ⌝ }
 {
-    blamed(text_fields::field_at(text, at), condition)
+    let start = text_fields::field_start(text, at);
+    if start < text.len() {
+        return Fault {
+            condition,
+            place: start + 1,
+        };
+    }
+    blameless(condition)
 }
 
 // A record's outcome. Stopped carries condition 0 for ENDDATA, else 91 or 99.

@@ -2,7 +2,7 @@
 -- By unfolding the definitions along those equations.
 -- Assumes nothing.
 use mathlib.Core.Path.{_≡_, refl, sym, ap, _∙_, subst}
-use mathlib.Core.Bool.{Bool, true, false, not}
+use mathlib.Core.Bool.{Bool, true, false, not, _||_}
 use mathlib.Core.List.{List, [], _∷_, _++_}
 use Prim.Native.Nat.{ℕ, _+_, _-_, _≤_}
 use native.Mathlib.Omega.{arith}
@@ -21,6 +21,7 @@ use Rattle.text_records.proofs.Received.{part-length, received-count, received-
 use Rattle.text_records.proofs.Cleaning.{kept-length, cleaned-high, cleaned-control, cleaned-within, cleaned-length, cleaned-front}
 use Rattle.text_records.proofs.Plain.{plain-kept, plain-high, plain-control}
 use Rattle.text_fields.specs.Words.{wordsOf, fieldsOf}
+use Rattle.store_code.specs.Fits.{Fitting}
 use Rattle.text_fields.proofs.Counts.{words-few}
 use Rattle.load.specs.declared.Fault.{Fault}
 use Rattle.load.specs.declared.State.{State}
@@ -30,9 +31,10 @@ use Rattle.load.specs.Item.{blameNone}
 use Rattle.load.specs.Ask.{isOverLong, askOf}
 use Rattle.load.specs.Step.{Step, ended, acted, stepOf, recordStep, ignoredIn, outcomeFaults, reportedOf}
 use Rattle.load.specs.Run.{stops}
-use Rattle.load.specs.Fits.{Small}
+use Rattle.load.specs.Fits.{Small, Near}
 use Rattle.load.proofs.Steps.{Modest, saidBy, step-said}
 use Rattle.load.proofs.Counts.{blank-step, blank-said}
+use Rattle.load.proofs.Told.{said-near}
 use Rattle.load_items.specs.Done.{faultsIn, mostFaults}
 use Rattle.load_items.proofs.Faults.{faults-back}
 use Rattle.load_step.specs.declared.Held.{Held}
@@ -40,9 +42,9 @@ use Rattle.load_step.specs.declared.Stepped.{Stepped}
 use Rattle.load_step.specs.Held.{heldOf, HeldReady, Room, ResAll, steppingAll, steppedOf, steppedAll}
 use Rattle.load_tell.specs.declared.Count.{Count}
 use Rattle.load_run.specs.declared.Progress.{Progress}
-use Rattle.load_tell.specs.Count.{tallied, told, toldOne, toldAll, ignoredBy, faultsAs, mostRecords, Tellable, Countable}
-use Rattle.load_run.specs.Take.{taken, takenBy, textTaken, recordTaken, blankTaken, Spans, Taking}
-use Rattle.load_tell.proofs.Telling.{told-single, said-room}
+use Rattle.load_tell.specs.Count.{tallied, told, toldAs, toldAll, ignoredBy, faultsAs, mostRecords, Tellable, Countable}
+use Rattle.load_run.specs.Take.{taken, takenBy, textTaken, recordTaken, blankTaken, TextOf, Spans, Taking}
+use Rattle.load_tell.proofs.Telling.{near-more, none-told, told-single, said-room}
 
 -- ---- what the step ensures, part by part
 module _ (d : Desk) (x : Step) (fs : List ℕ) {s : Stepped} {t ws : List ℕ} (e : steppingAll s t ws ≡ steppedAll d x fs) where
@@ -93,11 +95,11 @@ module _ (d : Desk) (x : Step) (fs : List ℕ) {s : Stepped} {t ws : List ℕ} (
 
     -- there is room for its faults
     pub step-room : (n : Count) (r : List ℕ) (size : ℕ) (high control : Bool) → Countable n → n .reports + size ≤ mostRecords → length r ≤ longest
-        → Modest size (saidBy x)
+        → Modest size (saidBy x) → Near (length r) (saidBy x)
         → Tellable (tallied n (s .outcome)) r (ignoredBy high control ++ (outcomeFaults (s .outcome) ++ faultsAs (take (s .faults) ws)))
-    step-room n r size high control h k z m =
+    step-room n r size high control h k z m q =
         subst (λ (ys : List Fault). Tellable (tallied n (s .outcome)) r ys) (sym (said-same (ignoredBy high control)))
-        (said-room r n (s .outcome) size high control (saidBy x) h k z m)
+        (said-room r n (s .outcome) size high control (saidBy x) h k z m q)
 
 -- no more of them than characters of the text
 pub text-said : (d : Desk) (s : State) (text t : List ℕ) → Modest (length text) (saidBy (stepOf d s (wordsOf 0 text) t))
@@ -106,6 +108,11 @@ text-said d s text t =
     let f : length (saidBy (stepOf d s (wordsOf 0 text) t)) ≤ length (wordsOf 0 text) = m .few in
     let w : length (wordsOf 0 text) ≤ length text = words-few 0 text in
     record { few = omega arith; small = m .small }
+
+-- and each is within the record
+pub text-near : (d : Desk) (s : State) (r text t : List ℕ) → Fitting d t → length text ≤ length r
+    → Near (length r) (saidBy (stepOf d s (wordsOf 0 text) t))
+text-near d s r text t f l = near-more (length text) (length r) l (saidBy (stepOf d s (wordsOf 0 text) t)) (said-near d (f .range .cues .0) s t text)
 
 -- ---- a record's text at the front of some bytes, and the sorts of ignored characters in it
 pub record Texted (xs bytes : List ℕ) (n : ℕ) (high control : Bool) : Type 0 where
@@ -200,21 +207,24 @@ module _ {xs bytes : List ℕ} {n : ℕ} {high control : Bool} (w : Texted xs by
       takenBy d (p .count) xs l x (ignoredBy (w .highs i) (w .controls i) ++ saidBy x))
 
   pub text-room : {d : Desk} {p : Progress} {t : List ℕ} → length xs ≤ longest → Taking d p (length xs) t
-      → ((length (take n bytes) ≤ longest) × (length xs ≤ longest)) × Taking d p (length (take n bytes)) t
+      → TextOf xs (take n bytes) high control × Taking d p (length (take n bytes)) t
   text-room {d} {p} {t} h k =
       let a : length (take n bytes) ≡ length (keptOf xs) = ap (λ (z : List ℕ). length z) (w .text) in
       let b : length (keptOf xs) ≤ length xs = kept-length xs in
       let f : p .count .reports + length xs ≤ mostRecords = k .room in
-      ((omega arith, h), record { fitting = k .fitting; ready = k .ready; countable = k .countable; room = omega arith })
+      (
+        record { short = h; within = omega arith; marred = λ i. w .highs i || w .controls i },
+        record { fitting = k .fitting; ready = k .ready; countable = k .countable; room = omega arith },
+      )
 
 -- ---- an over-long one
 pub long-taken : (d : Desk) (p : Progress) (r t l : List ℕ) {n : Count} {k : List ℕ} → isOverLong r ≡ true → HeldReady d t (p .held)
-    → told n k ≡ toldOne r (told (tallied (p .count) (Stopped (blameNone overLongRecord))) l) (blameNone overLongRecord)
+    → told n k ≡ toldAs (told (tallied (p .count) (Stopped (blameNone overLongRecord))) l) overLongRecord 0
     → taken (record { held = p .held; count = n; stopped = true }) t k ≡ recordTaken d p r t l
 unfolding recordStep askOf acted reportedOf outcomeFaults takenBy stops
 long-taken d p r t l {n} {k} o h e =
     let q : told n k ≡ toldAll r (told (tallied (p .count) (Stopped (blameNone overLongRecord))) l) (blameNone overLongRecord ∷ []) =
-    e ∙ told-single r _ (blameNone overLongRecord) in
+    e ∙ none-told r _ overLongRecord ∙ told-single r _ (blameNone overLongRecord) in
     rw o (λ i. taken (record { held = h .same i; count = q i .count; stopped = true }) t (q i .list))
 
 -- ---- one with no character

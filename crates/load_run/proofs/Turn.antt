@@ -10,31 +10,29 @@ use lib.Dec.{eqb}
 use lib.ListN.{length, getD, take, drop, length-append, length-map}
 use Rattle.store_desk.specs.declared.Desk.{Desk}
 use Rattle.text_records.specs.Stream.{isEnd, recordsOf, recordEnd, nextStart}
+use Rattle.text_records.specs.Cleaning.{columnOf}
 use Rattle.text_records.specs.Window.{plainEnd}
-use Rattle.text_records.proofs.Columns.{column-none}
 use Rattle.text_records.proofs.Received.{part-length}
 use Rattle.text_records.proofs.Stream.{records-at, records-end, start-forward, start-within, end-within}
 use Rattle.text_records.proofs.Plain.{plain-within, end-is, end-here}
 use Rattle.store_code.specs.Fits.{Fitting}
 use Rattle.store_code.proofs.Laws.{fitting-kept}
-use Rattle.load.specs.declared.Fault.{Fault}
 use Rattle.load.specs.declared.State.{State}
 use Rattle.load.specs.declared.Outcome.{Outcome}
 use Rattle.load.specs.declared.Totals.{Totals}
 use Rattle.load.specs.Condition.{noEnddata}
 use Rattle.load.specs.Item.{blameNone}
 use Rattle.load.specs.Step.{Step, recordStep, reportedOf}
-use Rattle.load.specs.Run.{Report, reportOf, Run, stops, reportsAt, runFrom, loadOf, allReports, storedIn, conditionSpan}
+use Rattle.load.specs.Run.{Report, Run, stops, reportsAt, runFrom, loadOf, allReports, storedIn, conditionSpan}
 use Rattle.load.proofs.Counts.{record-said, stored-none}
 use Rattle.load_step.specs.declared.Held.{Held}
 use Rattle.load_step.specs.Held.{heldOf, HeldReady}
 use Rattle.load_tell.specs.declared.Count.{Count}
 use Rattle.load_run.specs.declared.Progress.{Progress}
-use Rattle.load_tell.specs.Count.{countOf, totalsBy, tallied, Told, told, toldOne, toldAll, Tellable, Countable, mostRecords}
+use Rattle.load_tell.specs.Count.{countOf, totalsBy, tallied, Told, told, toldAs, toldAll, Reportable, Countable, mostRecords}
 use Rattle.load_run.specs.Take.{Took, taken, takenBy, recordTaken, blankTaken, Spans, Taking}
 use Rattle.load_run.specs.Loaded.{Loaded, runLoaded, loadedOf, begunOf}
-use Rattle.load_tell.proofs.Counting.{count-record, after, told-one, told-all, totals-same, count-countable, count-tellable}
-use Rattle.load_tell.proofs.Telling.{tellable-as, none-fits}
+use Rattle.load_tell.proofs.Counting.{count-record, after, told-one, told-all, totals-same, count-countable, count-reportable}
 use Rattle.load_run.proofs.Kept.{ready-begun, ready-record}
 use Rattle.load_run.proofs.Taking.{blank-taken}
 
@@ -308,24 +306,18 @@ module _ {d : Desk} {t₀ reps₀ stream : List ℕ} {p : Progress} {at : ℕ} {
 
 -- ---- the end of the stream
 module _ {d : Desk} {t₀ reps₀ stream : List ℕ} {p : Progress} {at : ℕ} {t reps : List ℕ} (w : SoFar d t₀ reps₀ stream p at t reps) where
-  pub end-room : (r : List ℕ) (c : ℕ) → c < conditionSpan → {f : Fault} → f ≡ blameNone c → Tellable (p .count) r (f ∷ [])
-  end-room r c h e =
+  pub end-room : (c : ℕ) → c < conditionSpan → Reportable (p .count) c 0
+  end-room c h =
       let k : length (w .outcomes) ≤ at = w .records-few in
       let l : length (w .reports) ≤ at = w .reports-few in
       let i : at ≤ length stream = w .within in
       let g : length stream ≤ mostRecords = w .long in
-      tellable-as r (λ (x : Fault). x ∷ []) e
-      (subst (λ (n : Count). Tellable n r (blameNone c ∷ [])) (sym (w .count))
-      (count-tellable (w .outcomes) (w .reports) r (blameNone c ∷ []) (omega arith) (omega arith) (none-fits r c h)))
+      subst (λ (n : Count). Reportable n c 0) (sym (w .count)) (count-reportable (w .outcomes) (w .reports) c 0 (omega arith) (omega arith) h (omega arith))
 
-  -- no field is blamed, so that the column is 0 whatever is left of the stream
-  end-report : (r : List ℕ) (n : ℕ) → reportOf n r (blameNone noEnddata) ≡ record { number = n; condition = noEnddata; column = 0 }
-  end-report r n = λ i. record { number = n; condition = noEnddata; column = column-none r i }
-
-  pub loop-end : length stream ≤ at → (r : List ℕ) {f : Fault} → f ≡ blameNone noEnddata → {n : Count} {l : List ℕ}
-      → told n l ≡ toldOne r (told (p .count) reps) f → runLoaded (totalsBy n) t l ≡ loadedOf (loadOf d t₀ stream) reps₀
-  unfolding allReports
-  loop-end h r q {n} {l} f =
+  pub loop-end : length stream ≤ at → {n : Count} {l : List ℕ} → told n l ≡ toldAs (told (p .count) reps) noEnddata 0
+      → runLoaded (totalsBy n) t l ≡ loadedOf (loadOf d t₀ stream) reps₀
+  unfolding allReports columnOf
+  loop-end h {n} {l} f =
       let os = w .outcomes in
       let rs = w .reports in
       let x = runSo (p .held .state) t false os rs in
@@ -334,8 +326,5 @@ module _ {d : Desk} {t₀ reps₀ stream : List ℕ} {p : Progress} {at : ℕ} {
       ∙ ap (λ (z : List (List ℕ)). runAfter os rs (runFrom d (length os) (p .held .state) t z)) (records-end stream at h)
       ∙ run-end d (length os) (p .held .state) t os rs in
       let y : told n l ≡ after os reps₀ (rs ++ (record { number = length os; condition = noEnddata; column = 0 } ∷ [])) =
-      f
-      ∙ (λ i. toldOne r (told (w .count i) (w .list i)) (q i))
-      ∙ told-one os reps₀ r rs (blameNone noEnddata)
-      ∙ ap (λ (z : Report). after os reps₀ (rs ++ (z ∷ []))) (end-report r (length os)) in
+      f ∙ (λ i. toldAs (told (w .count i) (w .list i)) noEnddata 0) ∙ told-one os reps₀ [] rs (blameNone noEnddata) in
       told-loaded x reps₀ y refl ∙ ap (λ (z : Run). loadedOf z reps₀) (sym s)

@@ -1,12 +1,13 @@
 -- One record taken into the load: its step done, its outcome tallied, its conditions told (paper 01, "Reports, tallies, closing number").
 -- Assumes nothing.
-use mathlib.Core.Bool.{Bool, false}
+use mathlib.Core.Bool.{Bool, false, _||_}
 use mathlib.Core.Path.{_≡_}
 use mathlib.Core.List.{List, _++_}
 use Prim.Native.Nat.{ℕ, _+_, _≤_}
 use lib.Dec.{eqb}
 use lib.ListN.{length}
 use Rattle.store_desk.specs.declared.Desk.{Desk}
+use Rattle.text_records.specs.Received.{longest}
 use Rattle.text_records.specs.Stream.{recordEnd}
 use Rattle.text_records.specs.Window.{plainEnd}
 use Rattle.text_fields.specs.Words.{wordsOf}
@@ -18,7 +19,7 @@ use Rattle.load.specs.Run.{stops}
 use Rattle.load_step.specs.Held.{heldOf, HeldReady}
 use Rattle.load_tell.specs.declared.Count.{Count}
 use Rattle.load_run.specs.declared.Progress.{Progress}
-use Rattle.load_tell.specs.Count.{told, toldAll, tallied, ignoredBy, mostRecords, Countable}
+use Rattle.load_tell.specs.Count.{told, toldAll, tallied, ignoredBy, mostRecords, Marred, Countable}
 
 -- how far a load is, the store and the lent list
 pub record Took : Type 0 where
@@ -53,6 +54,12 @@ textTaken d p r text high control t reps =
 -- after a record with no character
 abbrev pub blankTaken : Progress → Progress
 blankTaken p = record { held = p .held; count = tallied (p .count) Blank; stopped = false }
+
+-- a text of a record with the characters r that is not over-long, and whether r has ignored characters of each sort
+pub record TextOf (r text : List ℕ) (high control : Bool) : Type 0 where
+  pub short : length r ≤ longest
+  pub within : length text ≤ length r
+  pub marred : Marred (high || control) r
 
 -- a record of a stream, and whether it is plain
 pub record Spans (s : List ℕ) (at end : ℕ) (plain : Bool) : Type 0 where

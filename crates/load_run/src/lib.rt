@@ -3,12 +3,11 @@
 ghost use mathlib.Core.Path.{_≡_};
 ghost use Prim.Native.Nat.{_-_, _≤_};
 ghost use lib.ListN.{length, take, drop};
-ghost use Rattle.text_records.specs.Received.{longest};
 ghost use Rattle.store_code.specs.Fits.{Fitting};
 ghost use Rattle.load.specs.Run.{loadOf};
 ghost use Rattle.load_step.specs.Held.{Room};
 ghost use Rattle.load_tell.specs.Count.{mostRecords, Countable};
-ghost use Rattle.load_run.specs.Take.{taken, textTaken, recordTaken, blankTaken, Taking, Spans};
+ghost use Rattle.load_run.specs.Take.{taken, textTaken, recordTaken, blankTaken, TextOf, Taking, Spans};
 ghost use Rattle.load_run.specs.Loaded.{runLoaded, loadedOf, begunOf};
 use load::Open;
 use load::Outcome;
@@ -60,7 +59,7 @@ fn take_text(
     reports: &mut [u64],
     faults: &mut [u32],
 ) -> Progress
-    requires { ⌜ (length (now text) ≤ longest) × (length (now received) ≤ longest) ⌝ }
+    requires { ⌜ TextOf (now received) (now text) high control ⌝ }
     requires { ⌜ Taking desk done (length (now text)) (now store) ⌝ }
     requires { ⌜ Room (now faults) ⌝ }
     ensures { λ r. ⌜ taken r (now (store .exit)) (now (reports .exit)) ≡ textTaken desk done (now (received .entry)) (now (text .entry)) high control (now (store .entry)) (now (reports .entry)) ⌝ }
@@ -112,7 +111,7 @@ fn take_record(
         let count = done.count;
         return Progress {
             held,
-            count: load_tell::tell_long(reports, count, &stream[at..end]),
+            count: load_tell::tell_long(reports, count),
             stopped: true,
         };
     }
@@ -211,6 +210,5 @@ pub fn run(desk: Desk, store: &mut [u8], stream: &[u8], reports: &mut [u64]) -> 
         at = text_records::next_start(stream, end);
     }
     let count = done.count;
-    let fault = load::blameless(NO_ENDDATA);
-    load_tell::totals(load_tell::report(reports, count, &stream[at..], fault))
+    load_tell::totals(load_tell::report(reports, count, NO_ENDDATA, 0))
 }

@@ -11,14 +11,15 @@ use lib.Seq.{take-all, take-append-le, set-out}
 use Rattle.cells.specs.Put.{put}
 use Rattle.cells.proofs.Put.{length-put, put-push}
 use Rattle.cells.proofs.Split.{by-lt}
+use Rattle.text_records.specs.Received.{longest}
 use Rattle.load.specs.declared.Fault.{Fault}
 use Rattle.load.specs.declared.Outcome.{Outcome}
 use Rattle.load.specs.Condition.{isError}
 use Rattle.load.specs.Run.{Report, Run, Class, blank, passed, dropped, obeyed, classOf, eqClass, tallyOf, lastOf, reportOf, reportsAt, reportWord, storedIn}
-use Rattle.load.specs.Run.{allReports, closingOf, totalsOf}
+use Rattle.load.specs.Run.{allReports, closingOf, totalsOf, conditionSpan}
 use Rattle.load.proofs.Counts.{tally-few}
-use Rattle.load_tell.specs.Count.{countOf, closingBy, totalsBy, withOne, tallied, counted, Told, told, toldOne, toldAll}
-use Rattle.load_tell.specs.Count.{mostRecords, mostReports, Fit, Tellable, Countable}
+use Rattle.load_tell.specs.Count.{countOf, closingBy, totalsBy, withOne, tallied, counted, Told, told, toldAs, toldOne, toldAll}
+use Rattle.load_tell.specs.Count.{mostRecords, mostReports, Reportable, Countable}
 
 -- ---- one more record
 both-orders : (a b : Bool) (n : ℕ) → cond a (suc (cond b (n + 1) n)) (cond b (n + 1) n) ≡ cond b (cond a (suc n) n + 1) (cond a (suc n) n)
@@ -115,7 +116,7 @@ module _ (os : List Outcome) (reps : List ℕ) where
   after rs = told (countOf os rs) (storedIn reps rs)
 
   pub told-one : (r : List ℕ) (rs : List Report) (f : Fault) → toldOne r (after rs) f ≡ after (rs ++ (reportOf (length os) r f ∷ []))
-  unfolding toldOne countOf
+  unfolding toldAs countOf
   told-one r rs f =
       let q : Report = reportOf (length os) r f in
       λ i. told (count-report os rs q i) (stored-more reps rs q i)
@@ -134,16 +135,16 @@ pub totals-same : (x : Run) → totalsBy (countOf (x .outcomes) (allReports x)) 
 unfolding totalsBy countOf closingBy totalsOf closingOf
 totals-same x = refl
 
--- ---- room for one more record, and for more reports
+-- ---- room for one more record, and for a report
 pub count-countable : (os : List Outcome) (rs : List Report) → length os < mostRecords → Countable (countOf os rs)
 unfolding countOf
 count-countable os rs h =
     record { below = h; blanks = tally-few blank os; obeys = tally-few obeyed os; passes = tally-few passed os; drops = tally-few dropped os }
 
-pub count-tellable : (os : List Outcome) (rs : List Report) (r : List ℕ) (fs : List Fault) → length os ≤ mostRecords → length rs + length fs ≤ mostReports
-    → Fit r fs → Tellable (countOf os rs) r fs
+pub count-reportable : (os : List Outcome) (rs : List Report) (c k : ℕ) → length os ≤ mostRecords → length rs < mostReports → c < conditionSpan → k ≤ longest
+    → Reportable (countOf os rs) c k
 unfolding countOf
-count-tellable os rs r fs h g s = record { numbered = h; room = g; fit = s }
+count-reportable os rs c k h g s l = record { numbered = h; room = g; small = s; narrow = l }
 
 -- ---- faults told in two parts
 pub told-join : (r : List ℕ) (x : Told) (fs gs : List Fault) → toldAll r x (fs ++ gs) ≡ toldAll r (toldAll r x fs) gs

@@ -2,43 +2,87 @@
 -- By induction on the faults.
 -- Assumes nothing.
 use mathlib.Core.Path.{_≡_, refl, sym, ap, _∙_, subst}
-use mathlib.Core.Bool.{Bool, true, false}
+use mathlib.Core.Bool.{Bool, true, false, _||_}
 use mathlib.Core.List.{List, [], _∷_, _++_}
-use Prim.Native.Nat.{ℕ, suc, _+_, _≤_, _<_}
+use Prim.Native.Nat.{ℕ, suc, _+_, _≤_, _<_, zero-le}
 use native.Mathlib.Numerals.{add-one}
 use native.Mathlib.Omega.{arith}
+use lib.Dec.{ltb}
 use lib.ListN.{length, getD, set, take, drop, length-append, length-map, List·getD-map}
 use lib.Seq.{take-all, take-suc, split-at}
 use Rattle.text_records.specs.Received.{longest}
-use Rattle.text_records.specs.Cleaning.{columnOf}
-use Rattle.text_records.proofs.Columns.{column-none, column-within}
+use borrow.Author.Tests.{lt-ltb, le-ltb}
+use Rattle.cells.proofs.Split.{cond-true, cond-false, or-left, or-right}
+use Rattle.text_records.specs.Cleaning.{isHigh, isControl, columnOf, has}
+use Rattle.text_records.proofs.Columns.{column-none, column-within, column-unmarred}
 use Rattle.load.specs.declared.Outcome.{Outcome}
 use Rattle.load.specs.declared.Outcome.the-variants.{Stopped}
 use Rattle.load.specs.declared.Fault.{Fault}
-use Rattle.load.specs.Condition.{overLongRecord}
+use Rattle.load.specs.Condition.{overLongRecord, ignoredHigh, ignoredControl}
 use Rattle.load.specs.Item.{blameNone}
-use Rattle.load.specs.Run.{reportOf, reportWord, conditionSpan}
+use Rattle.load.specs.Run.{reportWord}
 use Rattle.load.specs.Step.{oneIf}
-use Rattle.load.specs.Fits.{faultIn, Small}
+use Rattle.load.specs.Fits.{faultIn, Small, Near}
 use Rattle.load.proofs.Steps.{Modest}
 use Rattle.load.proofs.Counts.{small-join, ignored-small}
 use Rattle.load_tell.specs.declared.Count.{Count}
-use Rattle.load_tell.specs.Count.{counted, tallied, Told, told, toldOne, toldAll, ignoredBy, faultsAs}
-use Rattle.load_tell.specs.Count.{mostRecords, mostReports, Fit, Tellable, Countable}
+use Rattle.load_tell.specs.Count.{counted, tallied, Told, told, toldAs, toldIf, toldOne, toldAll, ignoredBy, faultsAs}
+use Rattle.load_tell.specs.Count.{mostRecords, mostReports, Reportable, Fit, Tellable, Marred, Countable}
 use Rattle.load_tell.proofs.Counting.{told-join}
+
+-- ---- places within so many characters
+near-join : (n : ℕ) (fs gs : List Fault) → Near n fs → Near n gs → Near n (fs ++ gs)
+unfolding Near
+near-join n [] gs h g = g
+near-join n (f ∷ fs) gs h g = (h .0, near-join n fs gs (h .1) g)
+
+one-near : (n : ℕ) (b : Bool) (c : ℕ) → Near n (oneIf b (blameNone c))
+unfolding Near
+one-near n true c = (zero-le, tt)
+one-near n false c = tt
+
+ignored-near : (n : ℕ) (high control : Bool) → Near n (ignoredBy high control)
+ignored-near n high control =
+    near-join n (oneIf high (blameNone ignoredHigh)) (oneIf control (blameNone ignoredControl)) (one-near n high ignoredHigh) (one-near n control ignoredControl)
+
+pub near-more : (n m : ℕ) → n ≤ m → (fs : List Fault) → Near n fs → Near m fs
+unfolding Near
+near-more n m l [] h = tt
+near-more n m l (f ∷ fs) h = (let a = h .0 in omega arith, near-more n m l fs (h .1))
+
+-- ---- a report
+pub report-is : (n : Count) (l : List ℕ) (c k : ℕ) {r : Count} {m : List ℕ} {at word : ℕ}
+    → m ≡ set l at word → at ≡ n .reports → word ≡ reportWord (record { number = n .records; condition = c; column = k })
+    → r ≡ counted n c → told r m ≡ toldAs (told n l) c k
+unfolding toldAs
+report-is n l c k {r} {m} e a w g =
+    let s : m ≡ set l (n .reports) (reportWord (record { number = n .records; condition = c; column = k })) = e ∙ (λ i. set l (a i) (w i)) in
+    λ i. told (g i) (s i)
+
+pub as-if : (x : Told) (c : ℕ) {so : Bool} → so ≡ true → toldAs x c 0 ≡ toldIf x so c
+as-if x c {so} e = sym (cond-true so (toldAs x c 0) x e)
+
+pub as-unless : (x : Told) (c : ℕ) {so : Bool} → so ≡ false → x ≡ toldIf x so c
+as-unless x c {so} e = sym (cond-false so (toldAs x c 0) x e)
+
+-- the same for counters that are known by an equation
+pub as-from : (l : List ℕ) (c k : ℕ) {n m : Count} {x : Told} → x ≡ toldAs (told n l) c k → n ≡ m → x ≡ toldAs (told m l) c k
+as-from l c k e f = e ∙ ap (λ (z : Count). toldAs (told z l) c k) f
 
 -- ---- faults of a record with the characters xs
 module _ (xs : List ℕ) where
-  -- ---- one
-  pub report-is : (n : Count) (l : List ℕ) (f : Fault) {r : Count} {k : List ℕ} {at word column : ℕ}
-      → k ≡ set l at word → at ≡ n .reports → word ≡ reportWord (record { number = n .records; condition = f .condition; column = column })
-      → column ≡ columnOf xs (f .place) → r ≡ counted n (f .condition) → told r k ≡ toldOne xs (told n l) f
-  unfolding toldOne
-  report-is n l f {r} {k} {at} {word} {column} e a w c g =
-      let v : word ≡ reportWord (reportOf (n .records) xs f) =
-      w ∙ ap (λ (j : ℕ). reportWord (record { number = n .records; condition = f .condition; column = j })) c in
-      let s : k ≡ set l (n .reports) (reportWord (reportOf (n .records) xs f)) = e ∙ (λ i. set l (a i) (v i)) in
-      λ i. told (g i) (s i)
+  -- one that blames no field has column 0
+  pub none-told : (x : Told) (c : ℕ) → toldAs x c 0 ≡ toldOne xs x (blameNone c)
+  none-told x c = ap (toldAs x c) (sym (column-none xs))
+
+  pub if-told : (x : Told) (b : Bool) (c : ℕ) → toldIf x b c ≡ toldAll xs x (oneIf b (blameNone c))
+  unfolding toldAll
+  if-told x true c = none-told x c
+  if-told x false c = refl
+
+  -- one in its column
+  pub column-told : (x : Told) (f : Fault) {y : Told} {k : ℕ} → y ≡ toldAs x (f .condition) k → k ≡ columnOf xs (f .place) → y ≡ toldOne xs x f
+  column-told x f e a = e ∙ ap (toldAs x (f .condition)) a
 
   pub told-none : (x : Told) → x ≡ toldAll xs x []
   unfolding toldAll
@@ -48,30 +92,25 @@ module _ (xs : List ℕ) where
   unfolding toldAll
   told-single x f = refl
 
-  pub told-if : (x : Told) (f : Fault) {so : Bool} → so ≡ true → toldOne xs x f ≡ toldAll xs x (oneIf so f)
-  told-if x f e = told-single x f ∙ ap (λ (b : Bool). toldAll xs x (oneIf b f)) (sym e)
+  -- a record that stops the load is reported if it has a condition
+  pub stop-told : (x : Told) (f : Fault) → 0 < f .condition → toldOne xs x f ≡ toldAll xs x (oneIf (ltb 0 (f .condition)) f)
+  stop-told x f h = told-single x f ∙ ap (λ (b : Bool). toldAll xs x (oneIf b f)) (sym (lt-ltb 0 (f .condition) h))
 
-  pub told-unless : (x : Told) (f : Fault) {so : Bool} → so ≡ false → x ≡ toldAll xs x (oneIf so f)
-  told-unless x f e = told-none x ∙ ap (λ (b : Bool). toldAll xs x (oneIf b f)) (sym e)
+  pub stop-none : (x : Told) (f : Fault) → f .condition ≤ 0 → x ≡ toldAll xs x (oneIf (ltb 0 (f .condition)) f)
+  stop-none x f h = told-none x ∙ ap (λ (b : Bool). toldAll xs x (oneIf b f)) (sym (le-ltb 0 (f .condition) h))
 
-  -- the same for counters, and for faults, that are known by an equation
-  pub told-from : (l : List ℕ) {f g : Fault} {n m : Count} {x : Told} → x ≡ toldOne xs (told n l) f → n ≡ m → f ≡ g → x ≡ toldOne xs (told m l) g
-  told-from l e a b = e ∙ (λ i. toldOne xs (told (a i) l) (b i))
-
+  -- the same for counters that are known by an equation
   pub all-from : (l : List ℕ) (fs : List Fault) {n m : Count} {x : Told} → x ≡ toldAll xs (told n l) fs → n ≡ m → x ≡ toldAll xs (told m l) fs
   all-from l fs e f = e ∙ ap (λ (k : Count). toldAll xs (told k l) fs) f
 
-  pub all-of : (x : Told) (g : Fault → List Fault) {f h : Fault} {y : Told} → y ≡ toldAll xs x (g f) → f ≡ h → y ≡ toldAll xs x (g h)
-  all-of x g e f = e ∙ ap (λ (k : Fault). toldAll xs x (g k)) f
-
   -- ---- what telling leaves of the counters
   told-records : (x : Told) (fs : List Fault) → toldAll xs x fs .count .records ≡ x .count .records
-  unfolding toldAll toldOne counted
+  unfolding toldAll toldAs counted
   told-records x [] = refl
   told-records x (f ∷ fs) = told-records (toldOne xs x f) fs
 
   told-reports : (x : Told) (fs : List Fault) → toldAll xs x fs .count .reports ≡ x .count .reports + length fs
-  unfolding toldAll toldOne counted
+  unfolding toldAll toldAs counted
   told-reports x [] = let e : x .count .reports ≡ x .count .reports + 0 = omega arith in e
   told-reports x (f ∷ fs) =
       told-reports (toldOne xs x f) fs ∙ (let e : x .count .reports + 1 + length fs ≡ x .count .reports + suc (length fs) = omega arith in e)
@@ -91,7 +130,7 @@ module _ (xs : List ℕ) where
   front n fs gs h =
       let l : length (fs ++ gs) ≡ length fs + length gs = length-append fs gs in
       let r : n .reports + length (fs ++ gs) ≤ mostReports = h .room in
-      record { numbered = h .numbered; room = omega arith; fit = fit-front fs gs (h .fit) }
+      record { numbered = h .numbered; room = omega arith; short = h .short; fit = fit-front fs gs (h .fit) }
 
   rest : (n : Count) (k : List ℕ) (fs gs : List Fault) {r : Count} {l : List ℕ} → told r l ≡ toldAll xs (told n k) fs
       → Tellable n xs (fs ++ gs) → Tellable r xs gs
@@ -101,10 +140,7 @@ module _ (xs : List ℕ) where
       let p : r .reports ≡ n .reports + length fs = ap (λ (x : Told). x .count .reports) e ∙ told-reports (told n k) fs in
       let q : r .records ≡ n .records = ap (λ (x : Told). x .count .records) e ∙ told-records (told n k) fs in
       let m : n .records ≤ mostRecords = h .numbered in
-      record { numbered = omega arith; room = omega arith; fit = fit-behind fs gs (h .fit) }
-
-  pub tellable-if : (n : Count) (f : Fault) {so : Bool} → so ≡ true → Tellable n xs (oneIf so f) → Tellable n xs (f ∷ [])
-  tellable-if n f e h = subst (λ (b : Bool). Tellable n xs (oneIf b f)) e h
+      record { numbered = omega arith; room = omega arith; short = h .short; fit = fit-behind fs gs (h .fit) }
 
   pub tellable-from : {n m : Count} {fs : List Fault} → n ≡ m → Tellable m xs fs → Tellable n xs fs
   tellable-from {n} {m} {fs} e h = subst (λ (k : Count). Tellable k xs fs) (sym e) h
@@ -112,40 +148,44 @@ module _ (xs : List ℕ) where
   pub tellable-of : {n : Count} (f : Outcome → List Fault) {o v : Outcome} → o ≡ v → Tellable n xs (f o) → Tellable n xs (f v)
   tellable-of {n} f e h = subst (λ (u : Outcome). Tellable n xs (f u)) e h
 
-  pub tellable-as : {n : Count} (g : Fault → List Fault) {f h : Fault} → f ≡ h → Tellable n xs (g h) → Tellable n xs (g f)
-  tellable-as {n} g e t = subst (λ (k : Fault). Tellable n xs (g k)) (sym e) t
+  pub tellable-stop : {n : Count} {f : Fault} → Tellable n xs (oneIf (ltb 0 (f .condition)) f) → 0 < f .condition → Tellable n xs (f ∷ [])
+  tellable-stop {n} {f} h l = subst (λ (b : Bool). Tellable n xs (oneIf b f)) (lt-ltb 0 (f .condition) l) h
 
-  -- the parts of a fault's word are in their bits
-  pub parts : {n : Count} {f : Fault} {column : ℕ} → column ≡ columnOf xs (f .place) → Tellable n xs (f ∷ [])
-      → (n .records ≤ mostRecords) × (f .condition < conditionSpan) × (column ≤ longest)
+  -- a fault's report: its parts fit their bits, and its place is within the record
+  pub tellable-place : {n : Count} {f : Fault} → Tellable n xs (f ∷ []) → f .place ≤ length xs
   unfolding Fit
-  parts {n} {f} {column} e h = (h .numbered, h .fit .0, subst (λ (k : ℕ). k ≤ longest) (sym e) (h .fit .1))
+  tellable-place h = h .fit .1
 
-  -- ---- what fits: a fault that blames no field; every fault of a record that is not over-long
-  pub none-fits : (c : ℕ) → c < conditionSpan → Fit xs (blameNone c ∷ [])
+  pub tellable-report : {n : Count} {f : Fault} {k : ℕ} → Tellable n xs (f ∷ []) → k ≡ columnOf xs (f .place) → Reportable n (f .condition) k
   unfolding Fit
-  none-fits c h = (h, (let e = column-none xs in omega arith), tt)
+  tellable-report {n} {f} {k} h e =
+      let a : columnOf xs (f .place) ≤ length xs = column-within xs (f .place) in
+      let b : length xs ≤ longest = h .short in
+      let c : n .reports + length (f ∷ []) ≤ mostReports = h .room in
+      record { numbered = h .numbered; room = omega arith; small = h .fit .0; narrow = omega arith }
 
-  pub short-fits : length xs ≤ longest → (fs : List Fault) → Small fs → Fit xs fs
-  unfolding Small Fit
-  short-fits l [] h = tt
-  short-fits l (f ∷ fs) h = (h .0, (let e = column-within xs (f .place) in omega arith), short-fits l fs (h .1))
+  -- of ignored characters no field is blamed
+  pub tellable-if : {n : Count} {b : Bool} {c : ℕ} → Tellable n xs (oneIf b (blameNone c)) → b ≡ true → Reportable n c 0
+  tellable-if {n} {b} {c} h e =
+      tellable-report (subst (λ (z : Bool). Tellable n xs (oneIf z (blameNone c))) e h) (sym (column-none xs))
 
-  -- the one fault of an over-long record
-  pub long-tellable : (n : Count) (o : Outcome) {r : Count} {f : Fault} → r ≡ tallied n o → f ≡ blameNone overLongRecord → Countable n
-      → n .reports ≤ mostRecords → Tellable r xs (f ∷ [])
-  unfolding tallied
-  long-tellable n o {r} e z h g =
-      let a : n .records < mostRecords = h .below in
-      let b : r .records ≡ n .records + 1 = ap (λ (k : Count). k .records) e in
-      let p : r .reports ≡ n .reports = ap (λ (k : Count). k .reports) e in
-      tellable-as (λ (k : Fault). k ∷ []) z (record { numbered = omega arith; room = omega arith; fit = none-fits overLongRecord (omega arith) })
+  -- where no character is ignored, the place is the column
+  pub place-told : {b : Bool} {k : ℕ} → Marred b xs → b ≡ false → k ≤ length xs → k ≡ columnOf xs k
+  place-told {b} {k} m e h =
+      let z : (has isHigh xs || has isControl xs) ≡ false = sym m ∙ e in
+      sym (column-unmarred xs k h (or-left (has isHigh xs) (has isControl xs) z) (or-right (has isHigh xs) (has isControl xs) z))
+
+  -- ---- what fits: small conditions, places within the record
+  pub fit-near : (fs : List Fault) → Small fs → Near (length xs) fs → Fit xs fs
+  unfolding Small Near Fit
+  fit-near [] h g = tt
+  fit-near (f ∷ fs) h g = (h .0, g .0, fit-near fs (h .1) (g .1))
 
   -- a record's faults: two at most of ignored characters, and the modest ones of its step
   pub said-room : (n : Count) (o : Outcome) (size : ℕ) (high control : Bool) (said : List Fault) → Countable n → n .reports + size ≤ mostRecords
-      → length xs ≤ longest → Modest size said → Tellable (tallied n o) xs (ignoredBy high control ++ said)
+      → length xs ≤ longest → Modest size said → Near (length xs) said → Tellable (tallied n o) xs (ignoredBy high control ++ said)
   unfolding tallied
-  said-room n o size high control said h g l m =
+  said-room n o size high control said h g l m q =
       let ig : List Fault = ignoredBy high control in
       let a : length (ig ++ said) ≡ length ig + length said = length-append ig said in
       let w : length ig ≤ 2 = two high control in
@@ -154,7 +194,8 @@ module _ (xs : List ℕ) where
       record {
         numbered = omega arith;
         room = omega arith;
-        fit = short-fits l (ig ++ said) (small-join ig said (ignored-small high control) (m .small));
+        short = l;
+        fit = fit-near (ig ++ said) (small-join ig said (ignored-small high control) (m .small)) (near-join (length xs) ig said (ignored-near (length xs) high control) q);
       }
     where
       two : (a b : Bool) → length (ignoredBy a b) ≤ 2
@@ -186,7 +227,7 @@ module _ (xs : List ℕ) where
         let v = getD fs i (faultIn 0) in
         let z = drop (suc i) fs in
         let g : i < length fs = omega (arith, faults-length) in
-        tellable-as (λ (x : Fault). x ∷ []) (q ∙ sym fault-at)
+        subst (λ (x : Fault). Tellable r xs (x ∷ [])) (sym (q ∙ sym fault-at))
         (front r (v ∷ []) z (rest n k (take i fs) (v ∷ z) e (subst (λ (w : List Fault). Tellable n xs w) (split-at fs i (faultIn 0) g) t)))
 
     pub turn-told : (x : Told) {y z : Told} {f : Fault} → i < length ws → y ≡ toldAll xs x (take i fs) → f ≡ faultIn (getD ws i 0)
@@ -222,7 +263,7 @@ module _ (xs : List ℕ) where
     pub room-a : {us : List Fault} → length us ≤ length zs → Fit xs us → Tellable n xs us
     room-a {us} k s =
         let r : n .reports + length zs ≤ mostReports = h .room in
-        record { numbered = h .numbered; room = omega arith; fit = s }
+        record { numbered = h .numbered; room = omega arith; short = h .short; fit = s }
 
     module _ (l : List ℕ) (ys : List Fault) {l₁ : List ℕ} {n₁ : Count} (e : told n₁ l₁ ≡ toldAll xs (told n l) ys) where
       pub room-b : {us : List Fault} → length ys + length us ≤ length zs → Fit xs us → Tellable n₁ xs us
@@ -231,7 +272,7 @@ module _ (xs : List ℕ) where
           let m : n .records ≤ mostRecords = h .numbered in
           let p : n₁ .reports ≡ n .reports + length ys = ap (λ (x : Told). x .count .reports) e ∙ told-reports (told n l) ys in
           let q : n₁ .records ≡ n .records = ap (λ (x : Told). x .count .records) e ∙ told-records (told n l) ys in
-          record { numbered = omega arith; room = omega arith; fit = s }
+          record { numbered = omega arith; room = omega arith; short = h .short; fit = s }
 
   module _ {n : Count} {zs : List Fault} (h : Tellable n xs zs) (l : List ℕ) (us vs : List Fault) {l₁ : List ℕ} {n₁ : Count}
       (e : told n₁ l₁ ≡ toldAll xs (told n l) us) {l₂ : List ℕ} {n₂ : Count} (f : told n₂ l₂ ≡ toldAll xs (told n₁ l₁) vs) where
@@ -257,3 +298,12 @@ module _ (xs : List ℕ) where
 -- a record that is stopped, by the fault that stops it
 pub stopped-by : (n : Count) {f g : Fault} {r : Count} → r ≡ tallied n (Stopped f) → f ≡ g → r ≡ tallied n (Stopped g)
 stopped-by n e h = e ∙ ap (λ (f : Fault). tallied n (Stopped f)) h
+
+-- the one report of an over-long record
+pub long-reportable : (n : Count) (o : Outcome) {r : Count} → r ≡ tallied n o → Countable n → n .reports ≤ mostRecords → Reportable r overLongRecord 0
+unfolding tallied
+long-reportable n o {r} e h g =
+    let a : n .records < mostRecords = h .below in
+    let b : r .records ≡ n .records + 1 = ap (λ (k : Count). k .records) e in
+    let p : r .reports ≡ n .reports = ap (λ (k : Count). k .reports) e in
+    record { numbered = omega arith; room = omega arith; small = omega arith; narrow = omega arith }

@@ -1,20 +1,21 @@
 -- The counters of a load, and the lent list of reports: how one more record and one more report change them, and what they are after
 -- those so far (paper 01, "Reports, tallies, closing number").
 -- Assumes nothing.
-use mathlib.Core.Bool.{Bool, cond, not}
+use mathlib.Core.Bool.{Bool, cond, not, _||_}
+use mathlib.Core.Path.{_≡_}
 use mathlib.Core.List.{List, [], _∷_, _++_, map}
 use Prim.Native.Nat.{ℕ, _+_, _≤_, _<_}
 use lib.Dec.{eqb}
 use lib.ListN.{length, set}
 use Rattle.text_records.specs.Received.{longest}
-use Rattle.text_records.specs.Cleaning.{columnOf}
+use Rattle.text_records.specs.Cleaning.{isHigh, isControl, columnOf, has}
 use Rattle.load.specs.declared.Fault.{Fault}
 use Rattle.load.specs.declared.Outcome.{Outcome}
 use Rattle.load.specs.declared.Totals.{Totals}
 use Rattle.load.specs.Condition.{isError, ignoredHigh, ignoredControl}
 use Rattle.load.specs.Item.{blameNone}
 use Rattle.load.specs.Step.{oneIf, outcomeFaults}
-use Rattle.load.specs.Run.{Report, reportOf, Class, blank, passed, dropped, obeyed, classOf, eqClass, tallyOf, lastOf, conditionSpan, reportWord}
+use Rattle.load.specs.Run.{Report, Class, blank, passed, dropped, obeyed, classOf, eqClass, tallyOf, lastOf, conditionSpan, reportWord}
 use Rattle.load.specs.Fits.{faultIn}
 use Rattle.load_tell.specs.declared.Count.{Count}
 
@@ -86,10 +87,19 @@ pub record Told : Type 0 where
 abbrev pub told : Count → List ℕ → Told
 told n reps = record { count = n; list = reps }
 
--- a fault of the record with the characters r. A full list stores no more, but the count goes on: past its end `set` changes nothing
-unfoldable pub toldOne : List ℕ → Told → Fault → Told
-toldOne r x f =
-    told (counted (x .count) (f .condition)) (set (x .list) (x .count .reports) (reportWord (reportOf (x .count .records) r f)))
+-- a condition, and a column. A full list stores no more, but the count goes on: past its end `set` changes nothing
+unfoldable pub toldAs : Told → ℕ → ℕ → Told
+toldAs x c k =
+    told (counted (x .count) c)
+    (set (x .list) (x .count .reports) (reportWord (record { number = x .count .records; condition = c; column = k })))
+
+-- a condition that blames no field, if it is so
+abbrev pub toldIf : Told → Bool → ℕ → Told
+toldIf x b c = cond b (toldAs x c 0) x
+
+-- a fault of the record with the characters r
+abbrev pub toldOne : List ℕ → Told → Fault → Told
+toldOne r x f = toldAs x (f .condition) (columnOf r (f .place))
 
 unfoldable pub toldAll : List ℕ → Told → List Fault → Told
 toldAll r x [] = x
@@ -115,16 +125,28 @@ mostRecords = 262143
 abbrev pub mostReports : ℕ
 mostReports = 1048576
 
--- faults, of a record with the characters r, that fit a report
+-- counters that can take a report
+pub record Reportable (n : Count) (c k : ℕ) : Type 0 where
+  pub numbered : n .records ≤ mostRecords
+  pub room : n .reports < mostReports
+  pub small : c < conditionSpan
+  pub narrow : k ≤ longest
+
+-- faults of a record with the characters r, each within its text
 unfoldable pub Fit : List ℕ → List Fault → Type 0
 Fit r [] = Unit {0}
-Fit r (f ∷ fs) = (f .condition < conditionSpan) × (columnOf r (f .place) ≤ longest) × Fit r fs
+Fit r (f ∷ fs) = (f .condition < conditionSpan) × (f .place ≤ length r) × Fit r fs
 
 -- counters that can take these
 pub record Tellable (n : Count) (r : List ℕ) (fs : List Fault) : Type 0 where
   pub numbered : n .records ≤ mostRecords
   pub room : n .reports + length fs ≤ mostReports
+  pub short : length r ≤ longest
   pub fit : Fit r fs
+
+-- whether a record has a character that is ignored
+abbrev pub Marred : Bool → List ℕ → Type 0
+Marred b r = b ≡ (has isHigh r || has isControl r)
 
 -- counters that can take one more record
 pub record Countable (n : Count) : Type 0 where

@@ -1,17 +1,19 @@
 // What becomes of a record's outcome: the counters of a load, and the reports in the lent list (paper 01, "Reports, tallies, closing
 // number"; §4.2; paper 02, C-11). Every load counts and tells with these.
 ghost use mathlib.Core.Path.{_≡_};
-ghost use mathlib.Core.List.{[], _∷_};
+ghost use mathlib.Core.List.{[]};
+ghost use mathlib.Core.Bool.{true, _||_};
 ghost use Prim.Native.Nat.{_≤_, _<_};
-ghost use lib.ListN.{set};
+ghost use lib.ListN.{length, set};
 ghost use Rattle.text_records.specs.Received.{longest};
+ghost use Rattle.text_records.specs.Cleaning.{columnOf};
 ghost use Rattle.load.specs.Condition.{isError, overLongRecord};
 ghost use Rattle.load.specs.Item.{blameNone};
-ghost use Rattle.load.specs.Step.{oneIf, outcomeFaults};
+ghost use Rattle.load.specs.Step.{outcomeFaults};
 ghost use Rattle.load.specs.Run.{stops as stopsAt, conditionSpan, reportWord};
 ghost use Rattle.load.specs.Fits.{faultIn};
-ghost use Rattle.load_tell.specs.Count.{countOf, closingBy, totalsBy, tallied, counted as countedOf, told, toldOne, toldAll};
-ghost use Rattle.load_tell.specs.Count.{faultsAs, saidOf, mostRecords, mostReports, Tellable, Countable};
+ghost use Rattle.load_tell.specs.Count.{countOf, closingBy, totalsBy, tallied, counted as countedOf, told, toldAs, toldIf, toldAll};
+ghost use Rattle.load_tell.specs.Count.{faultsAs, saidOf, mostRecords, mostReports, Reportable, Tellable, Marred, Countable};
 use cells::place;
 use load::Fault;
 use load::Outcome;
@@ -109,38 +111,60 @@ fn report_word(number: u32, condition: u32, column: usize) -> u64
     ((number * CONDITION_SPAN + condition) * COLUMN_SPAN + column) * ZERO_SPAN
 }
 
-// The one place where a report is made and written: a place in the text is told as its column in the record as received.
-pub fn report(reports: &mut [u64], count: Count, received: &[u8], fault: Fault) -> Count
-    requires { ⌜ Tellable count (now received) (fault ∷ []) ⌝ }
-    ensures { λ r. ⌜ told r (now (reports .exit)) ≡ toldOne (now (received .entry)) (told count (now (reports .entry))) fault ⌝ }
+// The one place where a report is made and written.
+pub fn report(reports: &mut [u64], count: Count, condition: u32, column: usize) -> Count
+    requires { ⌜ Reportable count condition column ⌝ }
+    ensures { λ r. ⌜ told r (now (reports .exit)) ≡ toldAs (told count (now (reports .entry))) condition column ⌝ }
 {
-    let column = text_records::column(received, fault.place);
-    let word = report_word(count.records, fault.condition, column);
+    let word = report_word(count.records, condition, column);
     store_word(reports, place(count.reports), word);
-    counted(count, fault.condition)
+    counted(count, condition)
 }
 
-fn report_if(reports: &mut [u64], count: Count, received: &[u8], so: bool, fault: Fault) -> Count
-    requires { ⌜ Tellable count (now received) (oneIf so fault) ⌝ }
-    ensures { λ r. ⌜ told r (now (reports .exit)) ≡ toldAll (now (received .entry)) (told count (now (reports .entry))) (oneIf so fault) ⌝ }
+// No field is blamed.
+fn report_if(reports: &mut [u64], count: Count, so: bool, condition: u32) -> Count
+    requires { ⌜ (so ≡ true → Reportable count condition 0) ⌝ }
+    ensures { λ r. ⌜ told r (now (reports .exit)) ≡ toldIf (told count (now (reports .entry))) so condition ⌝ }
 {
     if so {
-        return report(reports, count, received, fault);
+        return report(reports, count, condition, 0);
     }
     count
 }
 
+// A place in the text is told as its column in the record as received. Where nothing is ignored they are the same.
+fn column_of(received: &[u8], marred: bool, place: usize) -> usize
+    requires { ⌜ Marred marred (now received) ⌝ }
+    requires { ⌜ place ≤ length (now received) ⌝ }
+    ensures { λ r. ⌜ r ≡ columnOf (now (received .entry)) place ⌝ }
+{
+    if marred {
+        return text_records::column(received, place);
+    }
+    place
+}
+
 // ENDDATA stops a load without a report.
-fn report_outcome(reports: &mut [u64], count: Count, received: &[u8], outcome: Outcome) -> Count
+fn report_outcome(reports: &mut [u64], count: Count, received: &[u8], marred: bool, outcome: Outcome) -> Count
     requires { ⌜ Tellable count (now received) (outcomeFaults outcome) ⌝ }
+    requires { ⌜ Marred marred (now received) ⌝ }
     ensures { λ r. ⌜ told r (now (reports .exit)) ≡ toldAll (now (received .entry)) (told count (now (reports .entry))) (outcomeFaults outcome) ⌝ }
 {
     match outcome {
         Outcome::Blank => count,
         Outcome::Passed => count,
-        Outcome::Dropped(f) => report(reports, count, received, f),
+        Outcome::Dropped(f) => {
+            let column = column_of(received, marred, f.place);
+            report(reports, count, f.condition, column)
+        }
         Outcome::Obeyed => count,
-        Outcome::Stopped(f) => report_if(reports, count, received, 0 < f.condition, f),
+        Outcome::Stopped(f) => {
+            if 0 < f.condition {
+                let column = column_of(received, marred, f.place);
+                return report(reports, count, f.condition, column);
+            }
+            count
+        }
     }
 }
 
@@ -155,14 +179,17 @@ fn fault_in(word: u32) -> Fault
 }
 
 // The items that a record dropped.
-fn report_faults(reports: &mut [u64], count: Count, received: &[u8], faults: &[u32]) -> Count
+fn report_faults(reports: &mut [u64], count: Count, received: &[u8], marred: bool, faults: &[u32]) -> Count
     requires { ⌜ Tellable count (now received) (faultsAs (now faults)) ⌝ }
+    requires { ⌜ Marred marred (now received) ⌝ }
     ensures { λ r. ⌜ told r (now (reports .exit)) ≡ toldAll (now (received .entry)) (told count (now (reports .entry))) (faultsAs (now (faults .entry))) ⌝ }
 {
     let mut n = count;
     let mut i = 0;
     while i < faults.len() {
-        n = report(reports, n, received, fault_in(faults[i]));
+        let f = fault_in(faults[i]);
+        let column = column_of(received, marred, f.place);
+        n = report(reports, n, f.condition, column);
         i += 1;
     }
     n
@@ -243,6 +270,15 @@ pub fn stops(outcome: Outcome) -> bool
     }
 }
 
+fn either(a: bool, b: bool) -> bool
+    ensures { λ r. ⌜ r ≡ (a || b) ⌝ }
+{
+    if a {
+        return true;
+    }
+    b
+}
+
 // A record's outcome tallied, and its faults reported: ignored characters, the outcome's, the dropped items'.
 pub fn tell(
     reports: &mut [u64],
@@ -255,28 +291,23 @@ pub fn tell(
 ) -> Count
     requires { ⌜ Countable count ⌝ }
     requires { ⌜ Tellable (tallied count outcome) (now received) (saidOf high control outcome (now faults)) ⌝ }
+    requires { ⌜ Marred (high || control) (now received) ⌝ }
     ensures { λ r. ⌜ told r (now (reports .exit)) ≡ toldAll (now (received .entry)) (told (tallied count outcome) (now (reports .entry))) (saidOf high control outcome (now (faults .entry))) ⌝ }
 {
     let a = tally(count, outcome);
-    let b = report_if(reports, a, received, high, load::blameless(IGNORED_HIGH));
-    let c = report_if(
-        reports,
-        b,
-        received,
-        control,
-        load::blameless(IGNORED_CONTROL),
-    );
-    let d = report_outcome(reports, c, received, outcome);
-    report_faults(reports, d, received, faults)
+    let b = report_if(reports, a, high, IGNORED_HIGH);
+    let c = report_if(reports, b, control, IGNORED_CONTROL);
+    let marred = either(high, control);
+    let d = report_outcome(reports, c, received, marred, outcome);
+    report_faults(reports, d, received, marred, faults)
 }
 
 // An over-long record stops the load, whatever its characters are.
-pub fn tell_long(reports: &mut [u64], count: Count, received: &[u8]) -> Count
+pub fn tell_long(reports: &mut [u64], count: Count) -> Count
     requires { ⌜ Countable count ⌝ }
     requires { ⌜ count .reports ≤ mostRecords ⌝ }
-    ensures { λ r. ⌜ told r (now (reports .exit)) ≡ toldOne (now (received .entry)) (told (tallied count (Outcome.Stopped (blameNone overLongRecord))) (now (reports .entry))) (blameNone overLongRecord) ⌝ }
+    ensures { λ r. ⌜ told r (now (reports .exit)) ≡ toldAs (told (tallied count (Outcome.Stopped (blameNone overLongRecord))) (now (reports .entry))) overLongRecord 0 ⌝ }
 {
-    let fault = load::blameless(OVER_LONG_RECORD);
-    let n = tally(count, Outcome::Stopped(fault));
-    report(reports, n, received, fault)
+    let n = tally(count, Outcome::Stopped(load::blameless(OVER_LONG_RECORD)));
+    report(reports, n, OVER_LONG_RECORD, 0)
 }

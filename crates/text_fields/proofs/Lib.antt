@@ -3,3 +3,4 @@ pub mod Words
 pub mod Keys
 pub mod Runs
 pub mod Counts
+pub mod Placed

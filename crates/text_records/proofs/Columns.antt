@@ -73,6 +73,12 @@ module _ (xs : List ℕ) (i n : ℕ) {k : ℕ} (e : i + columnOf (drop i xs) n �
       omega arith
 
 -- ---- where nothing up to there is ignored, the column is the place
+none-front : (p : ℕ → Bool) (xs : List ℕ) (n : ℕ) → has p xs ≡ false → has p (take n xs) ≡ false
+unfolding has
+none-front p xs zero e = refl
+none-front p [] (suc n) e = refl
+none-front p (c ∷ cs) (suc n) e = or-false (p c) (has p (take n cs)) (or-left (p c) (has p cs) e) (none-front p cs n (or-right (p c) (has p cs) e))
+
 column-clean : (xs : List ℕ) (n : ℕ) → n ≤ length xs → has isHigh (take n xs) ≡ false → has isControl (take n xs) ≡ false → columnOf xs n ≡ n
 unfolding has
 column-clean xs zero h a b = column-none xs
@@ -83,6 +89,10 @@ column-clean (c ∷ cs) (suc n) h a b =
     column-on c cs n (left-kept c n z)
     ∙ ap suc
     (column-clean cs n (omega arith) (or-right (isHigh c) (has isHigh (take n cs)) a) (or-right (isControl c) (has isControl (take n cs)) b))
+
+-- and so in a record where nothing is ignored
+pub column-unmarred : (xs : List ℕ) (n : ℕ) → n ≤ length xs → has isHigh xs ≡ false → has isControl xs ≡ false → columnOf xs n ≡ n
+column-unmarred xs n h a b = column-clean xs n h (none-front isHigh xs n a) (none-front isControl xs n b)
 
 -- as the code has it: from what was seen up to there
 pub column-seen : (xs : List ℕ) (n : ℕ) {v : Seen} → v ≡ seenOf (take n xs) → n ≤ length xs → v .high ≡ false → v .control ≡ false → n ≡ columnOf xs n

@@ -1,18 +1,25 @@
--- `blamed_at` meets its contract: the field that is blamed is the first word from there on.
+-- `blamed_at` meets its contract: the first field from there on is there where it starts within the text.
 -- Assumes nothing.
+use Rattle.load.proofs.Blames.{blamed-there, blamed-past}
 use borrow.Author.Needs.{needs}
 use Rattle.load.proofs.blamed_at.Statement.{statement}
 use Rattle.load.proofs.blamed_at.Tie as tie
-use Rattle.load.proofs.Blames.{start-short, blamed-word}
 
-field-at-requires : tie.Need-field-at-requires
-field-at-requires c κs = search needs
+field-start-requires : tie.Need-field-start-requires
+field-start-requires c κs = search needs
 
-blamed-requires : tie.Need-blamed-requires
-blamed-requires c κs = start-short _ _ (c .field-at .ensures) (c .before .before .pre .0) (c .before .before .pre .1)
+add-t7 : tie.Need-add-t7
+add-t7 c = search needs
 
 returns : tie.Need-returns
-returns c = blamed-word _ _ (c .before .field-at .ensures) _ (c .blamed .ensures)
+returns c = blamed-there _ _ _ (c .before .field-start .ensures) (c .if1 .taken)
+
+blameless-requires : tie.Need-blameless-requires
+blameless-requires c κs = search needs
+
+returns-2 : tie.Need-returns-2
+returns-2 c = blamed-past _ _ _ (c .before .before .field-start .ensures) (c .before .if1 .left) (c .blameless .ensures)
 
 pub blamed-at-spec : {M : Type 1} → statement M
-blamed-at-spec = tie.close (tie.spec field-at-requires blamed-requires returns)
+blamed-at-spec =
+    tie.close (tie.spec field-start-requires add-t7 returns blameless-requires returns-2)

@@ -58,7 +58,7 @@ blamed-at-requires-2 : tie.Need-blamed-at-requires-2
 blamed-at-requires-2 c κs =
     let l = first-good (c .before .before) in
     let r = channel l in
-    (omega (arith, second r .within, third (l .before .before) .within), began r .pre .short)
+    omega (arith, second r .within, third (l .before .before) .within)
 
 returns-2 : tie.Need-returns-2
 returns-2 c =
@@ -69,7 +69,7 @@ returns-2 c =
 blamed-at-requires-3 : tie.Need-blamed-at-requires-3
 blamed-at-requires-3 c κs =
     let l = first-good (second-good (c .before .before)) in
-    (third (l .before .before) .within, began (channel l) .pre .short)
+    third (l .before .before) .within
 
 returns-3 : tie.Need-returns-3
 returns-3 c =

@@ -52,7 +52,7 @@ enum-told-2 c = search needs
 blamed-at-requires : tie.Need-blamed-at-requires
 blamed-at-requires c κs =
     let f = timed (known (c .before .before)) .before in
-    (line-next (began f .pre) (f .field-at .ensures) .within, began f .pre .short)
+    line-next (began f .pre) (f .field-at .ensures) .within
 
 returns-2 : tie.Need-returns-2
 unfolding timesOf

@@ -35,10 +35,7 @@ ended c = c .before .before .before
 abbrev took : tie.After-faults2 Inv-loop μ-loop → tie.After-take-record Inv-loop μ-loop
 took c = c .before .before .before .before .before
 
-abbrev blamed : tie.After-report-arg2 Inv-loop μ-loop → tie.After-blameless Inv-loop μ-loop
-blamed c = c .before .before
-
-abbrev over : tie.After-blameless Inv-loop μ-loop → tie.After-loop Inv-loop μ-loop
+abbrev over : tie.After-report-arg Inv-loop μ-loop → tie.After-loop Inv-loop μ-loop
 over c = c .before .before
 
 abbrev closed : tie.After-totals2 Inv-loop μ-loop → tie.After-report Inv-loop μ-loop
@@ -154,36 +151,23 @@ loop-again-2 c =
       k .take-record .kept .1 .1 .1 .1 .1 .1 .1 .1 .0 ∙ w .1,
     )
 
-blameless-requires : tie.Need-blameless-requires Inv-loop μ-loop
-blameless-requires c κs = search needs
-
-sub-report : tie.Need-sub-report Inv-loop μ-loop
-sub-report c = over (c .before) .before .loop .inv .0 .within
-
-part-report-start : tie.Need-part-report-start Inv-loop μ-loop
-part-report-start c = over (c .before) .before .loop .inv .0 .within
-
-part-report-end : tie.Need-part-report-end Inv-loop μ-loop
-part-report-end c = search needs
-
 report-requires : tie.Need-report-requires Inv-loop μ-loop
-report-requires c κs = let b = blamed c in end-room (over b .before .loop .inv .0) _ _ (omega arith) (b .blameless .ensures)
+report-requires c κs = end-room (over c .before .loop .inv .0) _ (omega arith)
 
 totals-requires-2 : tie.Need-totals-requires-2 Inv-loop μ-loop
 totals-requires-2 c κs = search needs
 
 same-length-3 : tie.Need-same-length-3 Inv-loop μ-loop
-same-length-3 c = over (blamed (closed c .before)) .before .loop .inv .0 .store-length
+same-length-3 c = over (closed c .before) .before .loop .inv .0 .store-length
 
 same-length-4 : tie.Need-same-length-4 Inv-loop μ-loop
-same-length-4 c = let r = closed c in r .report .kept .0 ∙ over (blamed (r .before)) .before .loop .inv .0 .list-length
+same-length-4 c = let r = closed c in r .report .kept .0 ∙ over (r .before) .before .loop .inv .0 .list-length
 
 returns-2 : tie.Need-returns-2 Inv-loop μ-loop
 returns-2 c =
     let r = closed c in
-    let b = blamed (r .before) in
-    let o = over b in
-    answered _ _ (c .totals2 .ensures) (loop-end (o .before .loop .inv .0) (o .loop-test .left) _ (b .blameless .ensures) (r .report .ensures))
+    let o = over (r .before) in
+    answered _ _ (c .totals2 .ensures) (loop-end (o .before .loop .inv .0) (o .loop-test .left) (r .report .ensures))
 
 pub run-spec : {M : Type 1} → statement M
 run-spec =
@@ -210,10 +194,6 @@ run-spec =
     next-start-requires-2
     loop-less-2
     loop-again-2
-    blameless-requires
-    sub-report
-    part-report-start
-    part-report-end
     report-requires
     totals-requires-2
     same-length-3

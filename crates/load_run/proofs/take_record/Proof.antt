@@ -19,7 +19,7 @@ abbrev received : tie.After-over-long → tie.After-receive
 received c = c .before .before
 
 abbrev long : tie.After-tell-long → tie.Then1
-long c = c .before .before .before .before .before
+long c = c .before .before .before .before
 
 abbrev joined : tie.After-take-text-arg4 → tie.Joined2
 joined c = c .before .before .before .before .before
@@ -52,15 +52,6 @@ receive-requires c κs = spans-in _ _ _ (began c .pre .0)
 
 over-long-requires : tie.Need-over-long-requires
 over-long-requires c κs = search needs
-
-sub-tell-long : tie.Need-sub-tell-long
-sub-tell-long c = search needs
-
-part-tell-long-start : tie.Need-part-tell-long-start
-part-tell-long-start c = search needs
-
-part-tell-long-end : tie.Need-part-tell-long-end
-part-tell-long-end c = spans-in _ _ _ (began (received (c .before .before .before .before) .before) .pre .0) .1
 
 tell-long-requires : tie.Need-tell-long-requires
 tell-long-requires c κs = search needs
@@ -137,9 +128,6 @@ take-record-spec =
     (tie.spec
     receive-requires
     over-long-requires
-    sub-tell-long
-    part-tell-long-start
-    part-tell-long-end
     tell-long-requires
     same-length
     returns

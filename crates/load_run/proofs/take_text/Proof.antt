@@ -1,6 +1,6 @@
 -- `take_text` meets its contract: from what the step and the telling ensure; the faults told are those at the front of the lent list.
 -- Assumes nothing.
-use Rattle.load_run.proofs.Taking.{step-room, text-said, step-taken}
+use Rattle.load_run.proofs.Taking.{step-room, text-said, text-near, step-taken}
 use Rattle.load.proofs.Steps.{step-small}
 use Rattle.load_tell.specs.Count.{ignoredBy}
 use native.Mathlib.Omega.{arith}
@@ -23,7 +23,7 @@ told c = c .before .before .before
 step-requires : tie.Need-step-requires
 step-requires c κs =
     let s = began c in
-    (record { fitting = s .pre .1 .0 .fitting; short = s .pre .0 .0; ready = s .pre .1 .0 .ready }, s .pre .1 .1)
+    (record { fitting = s .pre .1 .0 .fitting; short = omega (arith, s .pre .0 .short, s .pre .0 .within); ready = s .pre .1 .0 .ready }, s .pre .1 .1)
 
 slice-reshare-prefix-tell : tie.Need-slice-reshare-prefix-tell
 slice-reshare-prefix-tell c = search needs
@@ -36,7 +36,14 @@ tell-requires c κs =
     let k = stepped c in
     let s = began (k .before) in
     let t = s .pre .1 .0 in
-    (t .countable, step-room _ _ _ (k .step .ensures .0) (step-small _ _ _ _) (k .step .ensures .1) (s .pre .1 .1) _ _ _ (s .args .high) (s .args .control) (t .countable) (t .room) (omega arith) (text-said _ _ _ _))
+    (
+      t .countable,
+      (
+        step-room _ _ _ (k .step .ensures .0) (step-small _ _ _ _) (k .step .ensures .1) (s .pre .1 .1) _ _ _ (s .args .high) (s .args .control) (t .countable) (t .room)
+            (s .pre .0 .short) (text-said _ _ _ _) (text-near _ _ (s .args .received .now) (s .args .text .now) _ (t .fitting) (s .pre .0 .within)),
+        s .pre .0 .marred,
+      ),
+    )
 
 parted-requires : tie.Need-parted-requires
 parted-requires c κs = search needs
