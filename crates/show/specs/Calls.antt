@@ -20,8 +20,8 @@ use Rattle.store_desk.specs.Name.{Name}
 use Rattle.store_desk.specs.Refusal.{Reply, replied, refused, refusalWord}
 use Rattle.store.specs.Slots.{find, levelsAt}
 use Rattle.store.specs.Change.{emptied as emptiedStore}
-use Rattle.store.specs.declared.Form.{Form}
-use Rattle.store.specs.declared.Form.the-variants.{Good, BadSlot, Repeated, BadEntry}
+use Rattle.store.specs.declared.StoreForm.{StoreForm}
+use Rattle.store.specs.declared.StoreForm.the-variants.{Good, BadSlot, Repeated, BadEntry}
 use Rattle.store.specs.Form.{formOf}
 use Rattle.load.specs.declared.Totals.{Totals}
 use Rattle.load.specs.Run.{Run, loadOf, totalsOf, storedIn, allReports}
@@ -42,7 +42,7 @@ abbrev pub mostBytes : ℕ
 mostBytes = 262143
 
 -- R4a, a slot out of form; R4b, a slot used twice for one memory; R4c, a patch entry out of form; each with its place, from 1
-unfoldable pub formAdmission : Form → Admission
+unfoldable pub formAdmission : StoreForm → Admission
 formAdmission Good = Admitted
 formAdmission (BadSlot i) = Away (R4a (i + 1))
 formAdmission (Repeated i) = Away (R4b (i + 1))

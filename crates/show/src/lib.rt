@@ -1,7 +1,7 @@
 // The public calls (paper 01, "Calls turned away"). None has a `requires`: every desk, store, stream and output gets an answer, and a
 // call that is turned away changes no lent byte; but the word that `look_up` is lent for its answer always has it.
 use load::Totals;
-use store::Form;
+use store::StoreForm;
 use store::Place;
 use store_desk::Desk;
 use store_desk::Key;
@@ -53,10 +53,10 @@ fn turned_away(desk: Desk, store: &[u8]) -> Admission
         return Admission::Away(Refusal::R3);
     }
     match store_form::form(desk, store) {
-        Form::Good => Admission::Admitted,
-        Form::BadSlot(slot) => Admission::Away(Refusal::R4a(slot + 1)),
-        Form::Repeated(slot) => Admission::Away(Refusal::R4b(slot + 1)),
-        Form::BadEntry(entry) => Admission::Away(Refusal::R4c(entry + 1)),
+        StoreForm::Good => Admission::Admitted,
+        StoreForm::BadSlot(slot) => Admission::Away(Refusal::R4a(slot + 1)),
+        StoreForm::Repeated(slot) => Admission::Away(Refusal::R4b(slot + 1)),
+        StoreForm::BadEntry(entry) => Admission::Away(Refusal::R4c(entry + 1)),
     }
 }
 

@@ -8,10 +8,10 @@ use Prim.Native.Nat.{ℕ, zero, suc, _<_, _≤_}
 use native.Mathlib.Omega.{arith}
 use lib.Dec.{eqb}
 use lib.ListN.{length, replicate}
-use borrow.Author.Tests.{eqb-true, not-true}
+use borrow.Author.Tests.{eqb-true, not-true, not-false}
 use Rattle.cells.specs.Search.{Found, at, nowhere, allFrom, IsFirst}
-use Rattle.cells.proofs.Search.{at-inj, first-at, first-is, first-nowhere, all-at, all-is}
-use Rattle.cells.proofs.Split.{by-bool, by-eq, cond-true, cond-false, clash, and-true, and-left, and-right, not-of-false}
+use Rattle.cells.proofs.Search.{at-inj, first-at, first-is, first-nowhere, none-is, all-at, all-is}
+use Rattle.cells.proofs.Split.{by-bool, by-eq, cond-true, cond-false, clash, and-true, and-left, and-right, not-of-true, not-of-false}
 use Rattle.store_desk.specs.declared.Desk.{Desk}
 use Rattle.store_desk.specs.declared.Key.{Key}
 use Rattle.store_desk.specs.declared.Kind.{Kind}
@@ -21,46 +21,77 @@ use Rattle.store_desk.specs.Name.{Name, firstSlot, slotCount, slotsEnd, kindAt,
 use Rattle.store_desk.proofs.Name.{eq-key-true, eq-name, eq-name-true, eq-name-refl, kind-of, kind-at, kind-end, sub-parts, sub-inside, sub-same}
 use Rattle.store_head.specs.declared.Head.{Head}
 use Rattle.store_head.specs.Layout.{decodeHead, decodePatch}
+use Rattle.store.specs.declared.StoreForm.{StoreForm}
+use Rattle.store.specs.declared.StoreForm.the-variants.{Good, BadSlot, Repeated, BadEntry}
 use Rattle.store.specs.Slots.{slotAt, putSlot, headAt, keyOf, isUsed, holdsAt, find, onFound}
 use Rattle.store.specs.Change.{lowestUnused, newSeat, seat}
-use Rattle.store.specs.Form.{shares, goodForm, isZero, valuesFit, placeFits, nameAt, slotFits, patchFits, entryFits}
+use Rattle.store.specs.Form.{shares, badSlot, repeats, repeatedSlot, badEntry, formBy, formOf, isGood, goodForm, isZero, valuesFit, placeFits, nameAt, slotFits, patchFits, entryFits}
 use Rattle.store.specs.Good.{GoodForm, Ready}
 use Rattle.store.proofs.Places.{slot-length, put-length, slot-same, slot-other, slot-patch}
 use Rattle.store.proofs.Find.{head-same, holds-own, holds-true, holds-unused, holds-one, Placed, placed-slot, put-find}
 
+-- ---- what a search that finds no place says
+module _ (d : Desk) (s : List ℕ) where
+  pub slots-fit : badSlot d s ≡ nowhere → (i : ℕ) → i < slotsOf d → slotFits d s i ≡ true
+  unfolding badSlot
+  slots-fit e i h = not-false (slotFits d s i) (first-nowhere (λ j. not (slotFits d s j)) (slotsOf d) 0 e i (omega arith) (omega arith))
+
+  pub slots-apart : repeatedSlot d s ≡ nowhere → (i j : ℕ) → j < i → i < slotsOf d → shares d s i j ≡ false
+  unfolding repeatedSlot repeats
+  slots-apart e i j l h =
+      not-true (shares d s i j)
+      (all-at (λ k. not (shares d s i k)) i 0
+      (not-false (allFrom (λ k. not (shares d s i k)) i 0) (first-nowhere (repeats d s) (slotsOf d) 0 e i (omega arith) (omega arith)))
+      j (omega arith) (omega arith))
+
+  entries-fit : badEntry d s ≡ nowhere → (i : ℕ) → i < entriesOf d → entryFits d s i ≡ true
+  unfolding badEntry
+  entries-fit e i h = not-false (entryFits d s i) (first-nowhere (λ j. not (entryFits d s j)) (entriesOf d) 0 e i (omega arith) (omega arith))
+
+-- ---- the form of a store, by what is out of form first
+module _ (d : Desk) (s : List ℕ) where
+  pub by-form : (P : StoreForm → Type 0)
+      → ((i : ℕ) → IsFirst (λ j. not (slotFits d s j)) (slotsOf d) 0 i → P (BadSlot i))
+      → ((i : ℕ) → badSlot d s ≡ nowhere → IsFirst (repeats d s) (slotsOf d) 0 i → P (Repeated i))
+      → ((i : ℕ) → badSlot d s ≡ nowhere → repeatedSlot d s ≡ nowhere → IsFirst (λ j. not (entryFits d s j)) (entriesOf d) 0 i → P (BadEntry i))
+      → (GoodForm d s → P Good)
+      → P (formOf d s)
+  unfolding formOf formBy badSlot repeatedSlot badEntry
+  by-form P bad twice entry good = cases (badSlot d s) (repeatedSlot d s) (badEntry d s) refl refl refl
+    where
+      cases : (x y z : Found) → badSlot d s ≡ x → repeatedSlot d s ≡ y → badEntry d s ≡ z → P (formBy x y z)
+      cases (at i) y z e f g = bad i (first-at _ _ _ i e)
+      cases nowhere (at i) z e f g = twice i e (first-at _ _ _ i f)
+      cases nowhere nowhere (at i) e f g = entry i e f (first-at _ _ _ i g)
+      cases nowhere nowhere nowhere e f g = good (record { slots = slots-fit d s e; single = slots-apart d s f; entries = entries-fit d s g })
+
 -- ---- the test is the facts
 module _ (d : Desk) (s : List ℕ) where
   pub good-sound : goodForm d s ≡ true → GoodForm d s
-  unfolding goodForm
-  good-sound e =
-      let a = allFrom (slotFits d s) (slotsOf d) 0 in
-      let b = allFrom (λ i. allFrom (λ j. not (shares d s i j)) i 0) (slotsOf d) 0 in
-      let c = allFrom (entryFits d s) (entriesOf d) 0 in
-      let ab : (a && b) ≡ true = and-left (a && b) c e in
-      record {
-        slots = λ i h. all-at (slotFits d s) (slotsOf d) 0 (and-left a b ab) i (omega arith) (omega arith);
-        single =
-            λ i j l h.
-            not-true (shares d s i j)
-            (all-at (λ k. not (shares d s i k)) i 0
-            (all-at (λ k. allFrom (λ m. not (shares d s k m)) k 0) (slotsOf d) 0 (and-right a b ab) i (omega arith) (omega arith))
-            j (omega arith) (omega arith));
-        entries = λ i h. all-at (entryFits d s) (entriesOf d) 0 (and-right (a && b) c e) i (omega arith) (omega arith);
-      }
+  unfolding goodForm isGood
+  good-sound =
+      by-form d s (λ (x : StoreForm). isGood x ≡ true → GoodForm d s)
+      (λ i r e. clash e refl) (λ i a r e. clash e refl) (λ i a b r e. clash e refl) (λ g e. g)
 
   pub good-complete : GoodForm d s → goodForm d s ≡ true
-  unfolding goodForm
+  unfolding goodForm formOf formBy isGood badSlot repeatedSlot badEntry repeats
   good-complete g =
-      and-true (allFrom (slotFits d s) (slotsOf d) 0 && allFrom (λ i. allFrom (λ j. not (shares d s i j)) i 0) (slotsOf d) 0)
-      (allFrom (entryFits d s) (entriesOf d) 0)
-      (and-true (allFrom (slotFits d s) (slotsOf d) 0) (allFrom (λ i. allFrom (λ j. not (shares d s i j)) i 0) (slotsOf d) 0)
-      (all-is (slotFits d s) (slotsOf d) 0 (λ i h l. g .slots i (omega arith)))
-      (all-is (λ i. allFrom (λ j. not (shares d s i j)) i 0) (slotsOf d) 0
-      (λ i h l. all-is (λ j. not (shares d s i j)) i 0 (λ j a b. not-of-false (shares d s i j) (g .single i j (omega arith) (omega (arith, l)))))))
-      (all-is (entryFits d s) (entriesOf d) 0 (λ i h l. g .entries i (omega arith)))
+      let a : badSlot d s ≡ nowhere =
+      none-is (λ i. not (slotFits d s i)) (slotsOf d) 0 (λ i h l. not-of-true (slotFits d s i) (g .slots i (omega arith)))
+      in
+      let b : repeatedSlot d s ≡ nowhere =
+      none-is (repeats d s) (slotsOf d) 0
+      (λ i h l.
+      not-of-true (allFrom (λ j. not (shares d s i j)) i 0)
+      (all-is (λ j. not (shares d s i j)) i 0 (λ j x y. not-of-false (shares d s i j) (g .single i j (omega arith) (omega (arith, l))))))
+      in
+      let c : badEntry d s ≡ nowhere =
+      none-is (λ i. not (entryFits d s i)) (entriesOf d) 0 (λ i h l. not-of-true (entryFits d s i) (g .entries i (omega arith)))
+      in
+      λ i. isGood (formBy (a i) (b i) (c i))
 
 -- slots that share a name are used, under that name
-shares-parts : (d : Desk) (s : List ℕ) (i j : ℕ) → shares d s i j ≡ true
+pub shares-parts : (d : Desk) (s : List ℕ) (i j : ℕ) → shares d s i j ≡ true
     → (isUsed (headAt d s i) ≡ true) × (isUsed (headAt d s j) ≡ true) × (nameAt d s i ≡ nameAt d s j)
 unfolding shares
 shares-parts d s i j e =

@@ -2,7 +2,7 @@ pub mod Places
 pub mod Levels
 pub mod Find
 pub mod Form
-pub mod First
+pub mod Repeats
 pub mod Start
 pub mod Edits
 pub mod Clear

@@ -1,7 +1,6 @@
 -- The definitions tried on a small desk, by computation: two channels, two dimmers, two cues, one group, one submaster.
 -- Assumes nothing.
 use mathlib.Core.Path.{_≡_, refl}
-use mathlib.Core.Bool.{true, false}
 use mathlib.Core.List.{List, [], _∷_, _++_}
 use Prim.Native.Nat.{ℕ}
 use lib.ListN.{take, set, replicate}
@@ -13,10 +12,11 @@ use Rattle.store_desk.specs.Size.{allOf, levelWidth, levelsLength, slotLength, 
 use Rattle.store_desk.specs.Name.{Name, firstSlot, slotCount, pagesOf, kindAt, supported, eqKind, eqKey, eqName, lessKey, okNumber, okSub, okWithin, okPage, okName, subSlot, entryOf}
 use Rattle.store_head.specs.Pack.{total, packed, unpacked}
 use Rattle.store_head.specs.Layout.{encodeHead, decodeHead, encodePatch, decodePatch}
+use Rattle.store.specs.declared.StoreForm.the-variants.{Good, BadSlot, Repeated, BadEntry}
 use Rattle.store.specs.declared.Edit.the-variants.{Up, Link, Level}
 use Rattle.store.specs.Slots.{slotAt, putSlot, entryAt, putEntry, headAt, levelPlace, holdsAt, find, onFound}
 use Rattle.store.specs.Change.{lowestUnused, newSeat, seat, blankHead, blankSlot, started, editHead, withHead, editSlot, editAt, edited, patched, hitsAt, clearFrom, cleared}
-use Rattle.store.specs.Form.{hasTimes, hasLink, isZero, linkFits, valuesFit, placeFits, slotFits, patchFits, entryFits, shares, goodForm}
+use Rattle.store.specs.Form.{hasTimes, hasLink, isZero, linkFits, valuesFit, placeFits, slotFits, patchFits, entryFits, shares, badSlot, repeats, repeatedSlot, badEntry, formBy, formOf}
 use Rattle.store.specs.Order.{usedFrom, insertSlot, sortSlots, inOrder}
 
 abbrev pub small : Desk
@@ -58,16 +58,19 @@ pub shown-bytes : shown
 unfolding started seat newSeat lowestUnused blankSlot blankHead edited editAt editSlot withHead editHead patched slotAt putSlot putEntry headAt levelPlace holdsAt find onFound firstFrom put allOf eqKey levelWidth levelsLength slotLength subSlots slotsOf patchStart entryOf firstSlot slotCount total packed unpacked encodeHead decodeHead encodePatch
 shown-bytes = refl
 
--- the tests of good form: the bytes above are in form, and with a byte changed they are not: used bits out of range, a repeat, a patch entry
-pub trial-form : goodForm small shown
-    ∷ goodForm small (set shown 110 9)
-    ∷ goodForm small (set shown 23 1)
-    ∷ goodForm small (put shown 26 (take 26 shown))
-    ∷ goodForm small (set shown 109 1)
-    ∷ goodForm small (set shown 60 1)
+-- the form of a store: the bytes above are in form, and with a byte changed they are not: bits out of range in slot 0, slot 1 as slot 0, the
+-- second patch entry, slot 2 that is not used. Where more than one is so, a slot by itself comes before a repeat, and that before an entry.
+pub trial-form : formOf small shown
+    ∷ formOf small (set shown 110 9)
+    ∷ formOf small (set shown 23 1)
+    ∷ formOf small (put shown 26 (take 26 shown))
+    ∷ formOf small (set shown 109 1)
+    ∷ formOf small (set shown 60 1)
+    ∷ formOf small (set (put shown 26 (take 26 shown)) 60 1)
+    ∷ formOf small (set (put shown 26 (take 26 shown)) 109 1)
     ∷ []
-    ≡ true ∷ true ∷ false ∷ false ∷ false ∷ false ∷ []
-unfolding goodForm allFrom shares eqName eqKind slotFits entryFits valuesFit linkFits hasTimes hasLink isZero placeFits patchFits okName okPage okWithin okNumber okSub supported pagesOf kindAt entriesOf entryAt decodePatch lessKey started seat newSeat lowestUnused blankSlot blankHead edited editAt editSlot withHead editHead patched slotAt putSlot putEntry headAt levelPlace holdsAt find onFound firstFrom put allOf eqKey levelWidth levelsLength slotLength subSlots slotsOf patchStart entryOf firstSlot slotCount subSlot total packed unpacked encodeHead decodeHead encodePatch
+    ≡ Good ∷ Good ∷ BadSlot 0 ∷ Repeated 1 ∷ BadEntry 1 ∷ BadSlot 2 ∷ BadSlot 2 ∷ Repeated 1 ∷ []
+unfolding formOf formBy badSlot repeats repeatedSlot badEntry allFrom shares eqName eqKind slotFits entryFits valuesFit linkFits hasTimes hasLink isZero placeFits patchFits okName okPage okWithin okNumber okSub supported pagesOf kindAt entriesOf entryAt decodePatch lessKey started seat newSeat lowestUnused blankSlot blankHead edited editAt editSlot withHead editHead patched slotAt putSlot putEntry headAt levelPlace holdsAt find onFound firstFrom put allOf eqKey levelWidth levelsLength slotLength subSlots slotsOf patchStart entryOf firstSlot slotCount subSlot total packed unpacked encodeHead decodeHead encodePatch
 trial-form = refl
 
 -- in order: page 1 comes first, though it came second; cleared of page 1, the other is left

@@ -15,8 +15,8 @@ use Rattle.store_desk.specs.Name.{Name, kindAt, eqName, okNumber, okName, subSl
 use Rattle.store_head.specs.declared.Head.{Head}
 use Rattle.store_head.specs.declared.Patch.{Patch}
 use Rattle.store_head.specs.Layout.{decodePatch}
-use Rattle.store.specs.declared.Form.{Form}
-use Rattle.store.specs.declared.Form.the-variants.{Good, BadSlot, Repeated, BadEntry}
+use Rattle.store.specs.declared.StoreForm.{StoreForm}
+use Rattle.store.specs.declared.StoreForm.the-variants.{Good, BadSlot, Repeated, BadEntry}
 use Rattle.store.specs.Slots.{slotAt, entryAt, headAt, keyOf, isUsed}
 
 -- ---- which values a kind can have (§6.3: CHAN, UP and DOWN, FOLLOWON and LINK)
@@ -106,17 +106,17 @@ repeatedSlot d s = firstFrom (repeats d s) (slotsOf d) 0
 unfoldable pub badEntry : Desk → List ℕ → Found
 badEntry d s = firstFrom (λ i. not (entryFits d s i)) (entriesOf d) 0
 
-unfoldable pub formBy : Found → Found → Found → Form
+unfoldable pub formBy : Found → Found → Found → StoreForm
 formBy (at i) b e = BadSlot i
 formBy nowhere (at i) e = Repeated i
 formBy nowhere nowhere (at i) = BadEntry i
 formBy nowhere nowhere nowhere = Good
 
-unfoldable pub formOf : Desk → List ℕ → Form
+unfoldable pub formOf : Desk → List ℕ → StoreForm
 formOf d s = formBy (badSlot d s) (repeatedSlot d s) (badEntry d s)
 
 -- none of the three
-unfoldable pub isGood : Form → Bool
+unfoldable pub isGood : StoreForm → Bool
 isGood Good = true
 isGood (BadSlot i) = false
 isGood (Repeated i) = false

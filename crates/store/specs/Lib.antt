@@ -2,7 +2,6 @@ pub mod Slots
 pub mod View
 pub mod Change
 pub mod Form
-pub mod First
 pub mod Order
 pub mod Memories
 pub mod Fits

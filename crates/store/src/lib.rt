@@ -17,7 +17,7 @@ pub enum Place {
 
 // The form of a store: good, or the first slot that is out of form by itself, else the first that repeats an earlier one, else the first patch
 // entry that is out of form; counted from 0.
-pub enum Form {
+pub enum StoreForm {
     Good,
     BadSlot(usize),
     Repeated(usize),

@@ -1,17 +1,19 @@
--- A refusal's number is never 0, and its number and what it tells beside it tell it from every other; so no second answer of `needed`
--- fits its promise, and its refusal tells nothing but the number. By the cases of a refusal.
+-- A refusal's number is never 0 and takes eight bits; its number, its place and what it tells beside them tell it from every other. So no second
+-- answer of `needed` fits its promise, and its refusal tells nothing but the number. By the cases of a refusal.
 -- Assumes nothing.
 use mathlib.Core.Path.{_≡_, refl, sym, ap, _∙_}
+use mathlib.Core.Bool.{cond}
 use mathlib.Core.List.{List, [], _∷_}
-use Prim.Native.Nat.{ℕ, _≤_}
+use Prim.Native.Nat.{ℕ, _≤_, _<_}
 use native.Mathlib.Omega.{arith}
+use lib.Dec.{eqb}
 use lib.ListN.{getD}
 use Rattle.store_desk.specs.declared.Desk.{Desk}
 use Rattle.store_desk.specs.declared.Needed.{Needed}
 use Rattle.store_desk.specs.declared.Needed.the-variants.{Away, Length}
 use Rattle.store_desk.specs.declared.Refusal.{Refusal}
-use Rattle.store_desk.specs.declared.Refusal.the-variants.{R1, R2, R3, R4, R5, R6}
-use Rattle.store_desk.specs.Refusal.{refusalNumber, Reply, replied, refused, neededReply, neededCall, NeededPromise}
+use Rattle.store_desk.specs.declared.Refusal.the-variants.{R1, R2, R3, R4a, R4b, R4c, R5, R6}
+use Rattle.store_desk.specs.Refusal.{refusalNumber, Reply, replied, refused, placeUnit, neededReply, neededCall, NeededPromise}
 use Rattle.store_desk.specs.Size.{inRangeOf}
 use Rattle.cells.proofs.Split.{by-test}
 
@@ -19,25 +21,43 @@ pub refusal-some : (r : Refusal) → 1 ≤ refusalNumber r
 refusal-some R1 = omega arith
 refusal-some R2 = omega arith
 refusal-some R3 = omega arith
-refusal-some R4 = omega arith
+refusal-some (R4a p) = omega arith
+refusal-some (R4b p) = omega arith
+refusal-some (R4c p) = omega arith
 refusal-some R5 = omega arith
 refusal-some (R6 n) = omega arith
 
--- the refusal of a number and what is told beside it
-named : ℕ → List ℕ → Refusal
-named n told = getD (R1 ∷ R1 ∷ R2 ∷ R3 ∷ R4 ∷ R5 ∷ R6 (getD told 0 0) ∷ []) n R1
+pub refusal-below : (r : Refusal) → refusalNumber r < placeUnit
+refusal-below R1 = omega arith
+refusal-below R2 = omega arith
+refusal-below R3 = omega arith
+refusal-below (R4a p) = omega arith
+refusal-below (R4b p) = omega arith
+refusal-below (R4c p) = omega arith
+refusal-below R5 = omega arith
+refusal-below (R6 n) = omega arith
 
-named-again : (r : Refusal) → named (refused r .number) (refused r .told) ≡ r
+-- the refusal of a number, a place and what is told beside them
+named : Reply → Refusal
+named a =
+    cond (eqb (a .number) 0x4A) (R4a (a .place))
+    (cond (eqb (a .number) 0x4B) (R4b (a .place))
+    (cond (eqb (a .number) 0x4C) (R4c (a .place))
+    (getD (R1 ∷ R1 ∷ R2 ∷ R3 ∷ R1 ∷ R5 ∷ R6 (getD (a .told) 0 0) ∷ []) (a .number) R1)))
+
+named-again : (r : Refusal) → named (refused r) ≡ r
 unfolding named
 named-again R1 = refl
 named-again R2 = refl
 named-again R3 = refl
-named-again R4 = refl
+named-again (R4a p) = refl
+named-again (R4b p) = refl
+named-again (R4c p) = refl
 named-again R5 = refl
 named-again (R6 n) = refl
 
 pub refused-apart : {r q : Refusal} → refused r ≡ refused q → r ≡ q
-refused-apart {r} {q} e = sym (named-again r) ∙ ap (λ (x : Reply). named (x .number) (x .told)) e ∙ named-again q
+refused-apart {r} {q} e = sym (named-again r) ∙ ap named e ∙ named-again q
 
 pub refused-no-reply : {X : Type 0} (r : Refusal) {l : List ℕ} → refused r ≡ replied l → X
 refused-no-reply r e =

@@ -1,6 +1,6 @@
 // Good form of a store (paper 01, "The store"), and where it is broken (paper 02, C-11): a slot out of form by itself (R4a), a slot that
 // repeats an earlier one (R4b), a patch entry out of form (R4c).
-use store::Form;
+use store::StoreForm;
 use store::Place;
 use store_desk::Desk;
 use store_desk::Key;
@@ -301,18 +301,18 @@ pub fn bad_entry(desk: Desk, store: &[u8]) -> Place
 // ---- the test
 
 // The form of a store: each search goes over the whole store before the next.
-pub fn form(desk: Desk, store: &[u8]) -> Form
+pub fn form(desk: Desk, store: &[u8]) -> StoreForm
     requires { ⌜ Fitting desk (now store) ⌝ }
     ensures { λ r. ⌜ r ≡ formOf desk (now (store .entry)) ⌝ }
 {
     if let Place::At(slot) = bad_slot(desk, store) {
-        return Form::BadSlot(slot);
+        return StoreForm::BadSlot(slot);
     }
     if let Place::At(slot) = repeated_slot(desk, store) {
-        return Form::Repeated(slot);
+        return StoreForm::Repeated(slot);
     }
     if let Place::At(entry) = bad_entry(desk, store) {
-        return Form::BadEntry(entry);
+        return StoreForm::BadEntry(entry);
     }
-    Form::Good
+    StoreForm::Good
 }
