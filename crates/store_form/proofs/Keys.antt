@@ -11,64 +11,41 @@ use native.Mathlib.Omega.{arith}
 use lib.Dec.{eqb, ltb}
 use lib.ListN.{length, getD, replicate, set}
 use borrow.Author.Tests.{eqb-true, eq-eqb, ne-eqb, lt-ltb, le-ltb, not-false}
-use Rattle.cells.proofs.Split.{by-bool, by-eq, by-lt, cond-true, cond-false, and-true, and-left, and-right, and-false-left}
-use Rattle.cells.proofs.Search.{first-hit, first-miss, first-none, first-nowhere, first-is, none-is, by-first, first-same, first-skip, first-front, count-none, count-hit, count-miss, count-same, count-turn, count-skip}
+use Rattle.cells.proofs.Split.{by-bool, by-eq, by-lt, cond-true, cond-false, and-left, and-right, not-of-true, not-of-false}
+use Rattle.cells.proofs.Search.{none-is, by-first, first-same, first-skip, first-front, all-is, count-none, count-miss, count-same, count-turn, count-skip}
 use Rattle.cells.proofs.Table.{length-tab, tab-at}
 use Rattle.cells.proofs.Pad.{padded-add, padded-nil, getD-padded}
 use Rattle.cells.specs.Pad.{padded}
-use Rattle.cells.specs.Search.{Found, at, nowhere, firstFrom, countFrom}
+use Rattle.cells.specs.Search.{Found, nowhere, firstFrom, allFrom, countFrom}
 use Rattle.cells.specs.Table.{tab}
 use Rattle.store_desk.specs.declared.Desk.{Desk}
 use Rattle.store_desk.specs.declared.Kind.{Kind}
 use Rattle.store_desk.specs.declared.Kind.the-variants.{Group, Sub}
 use Rattle.store_desk.specs.Size.{InRange, slotsOf, subSlots}
 use Rattle.store_desk.specs.Name.{firstSlot, slotCount, kindAt, eqKey, okName, subSlot}
-use Rattle.store_desk.proofs.Name.{eq-key, eq-key-true, kind-at, kind-of}
+use Rattle.store_desk.proofs.Name.{eq-key, kind-of}
 use Rattle.store_head.specs.Pack.{Bytes}
 use Rattle.store_head.specs.Fits.{usedWord, wordOf}
-use Rattle.store.specs.Slots.{headAt, keyOf, isUsed, holdsAt, find}
-use Rattle.store.specs.Form.{placeFits, valuesFit, nameAt, slotFits}
-use Rattle.store.specs.First.{isAt, repeatsAt, badSlot, repeatedSlot, isNowhere}
+use Rattle.store.specs.Slots.{headAt, keyOf, isUsed, holdsAt}
+use Rattle.store.specs.Form.{placeFits, valuesFit, nameAt, slotFits, badSlot, repeats, repeatedSlot}
 use Rattle.store.specs.Order.{slotWord}
 use Rattle.store.proofs.Find.{head-fits}
+use Rattle.store.proofs.Form.{slots-fit}
+use Rattle.store.proofs.Repeats.{repeats-unused, repeats-found}
 use Rattle.store.proofs.Ordered.{word-is}
 use Rattle.store_code.specs.Fits.{Fitting}
 use Rattle.store_code.proofs.Word.{word-test, unused-test}
 use Rattle.store_form.specs.Keys.{mostKeys, keyWords, isKeyWord, countWord, kindStart, seenBefore, Topped, topOf}
 
--- ---- a search, and the number of places that pass
-count-found : (p : ℕ → Bool) (m n i : ℕ) → n ≡ m → ltb 0 (countFrom p n i) ≡ not (isNowhere (firstFrom p n i))
-unfolding isNowhere
-count-found p zero n i e =
-    ap (λ (k : ℕ). ltb 0 (countFrom p k i)) e ∙ ap (λ (k : ℕ). ltb 0 k) (count-none p i)
-    ∙ ap (λ (f : Found). not (isNowhere f)) (sym (first-none p i)) ∙ ap (λ (k : ℕ). not (isNowhere (firstFrom p k i))) (sym e)
-count-found p (suc m) n i e =
-    let l : 0 < n = omega arith in
-    by-bool (p i)
-    (λ t.
-    let c : countFrom p n i ≡ suc (countFrom p (n - 1) (i + 1)) = count-hit p n i l refl t in
-    lt-ltb 0 (countFrom p n i) (omega arith) ∙ sym (ap (λ (f : Found). not (isNowhere f)) (first-hit p n i l refl t)))
-    (λ t.
-    let q : n - 1 ≡ m = omega arith in
-    ap (λ (k : ℕ). ltb 0 k) (count-miss p n i l refl t)
-    ∙ count-found p m (n - 1) (i + 1) q
-    ∙ sym (ap (λ (f : Found). not (isNowhere f)) (first-miss p n i l refl t)))
+-- ---- some place passes exactly where their number is not 0
+some-more : (b : Bool) (n : ℕ) (none : Bool) → ltb 0 n ≡ not none → ltb 0 (cond b (suc n) n) ≡ not (cond (not b) none false)
+some-more true n none e = lt-ltb 0 (suc n) (omega arith)
+some-more false n none e = e
 
--- a place that passes is the first exactly where none before it does
-first-or-before : (p : ℕ → Bool) (n a i : ℕ) → a ≤ i → i < a + n → p i ≡ true → isAt i (firstFrom p n a) ≡ isNowhere (firstFrom p (i - a) a)
-unfolding isAt isNowhere
-first-or-before p n a i h l t =
-    by-first p (i - a) a
-    (λ j e r.
-    let g : j < a + (i - a) = r .below in
-    let m : i - a + (n - (i - a)) ≡ n = omega arith in
-    let b : firstFrom p n a ≡ at j = ap (λ (k : ℕ). firstFrom p k a) (sym m) ∙ first-front p (i - a) (n - (i - a)) a j e in
-    ap (isAt i) b ∙ ne-eqb i j (λ z. omega arith) ∙ sym (ap isNowhere e))
-    (λ e g.
-    let b : firstFrom p n a ≡ at i =
-    first-is p n a i (record { from = h; below = l; passes = t; before = λ k x y. g k x (omega arith) })
-    in
-    ap (isAt i) b ∙ eq-eqb i i refl ∙ sym (ap isNowhere e))
+count-some : (p : ℕ → Bool) (n i : ℕ) → ltb 0 (countFrom p n i) ≡ not (allFrom (λ j. not (p j)) n i)
+unfolding countFrom allFrom
+count-some p zero i = refl
+count-some p (suc n) i = some-more (p i) (countFrom p n (suc i)) (allFrom (λ j. not (p j)) n (suc i)) (count-some p n (suc i))
 
 -- where the places after the first n do not pass
 first-only : (p : ℕ → Bool) (n m i : ℕ) → ((k : ℕ) → i + n ≤ k → k < i + n + m → p k ≡ false) → firstFrom p (n + m) i ≡ firstFrom p n i
@@ -89,26 +66,6 @@ module _ (d : Desk) (s : List ℕ) (f : Fitting d s) (b : Bytes s) where
       let g = head-fits d s i in
       word-test d s j f l b (keyOf x) (record { page = g .page; whole = g .whole; fraction = g .fraction }) refl
       (word-is d s (f .long) b i h ∙ ap (λ (z : ℕ). wordOf z (x .page) (x .whole) (x .fraction)) (eqb-true (x .used) 1 u))
-
--- a used slot repeats where one of its kind before it holds its key
-module _ (d : Desk) (s : List ℕ) (i : ℕ) (h : i < slotsOf d) (u : isUsed (headAt d s i) ≡ true) where
-  holds-own : holdsAt d s (keyOf (headAt d s i)) i ≡ true
-  unfolding holdsAt
-  holds-own = and-true _ _ u (eq-key-true (keyOf (headAt d s i)) (keyOf (headAt d s i)) refl)
-
-  repeats-is : (a : ℕ) → a ≡ firstSlot d (kindAt d i)
-      → repeatsAt d s i ≡ not (isNowhere (firstFrom (holdsAt d s (keyOf (headAt d s i))) (i - a) a))
-  unfolding repeatsAt find
-  repeats-is a e =
-      let r = kind-at d i h in
-      ap (λ (x : Bool). x && not (isAt i (find d s (nameAt d s i)))) u
-      ∙ ap not
-      (first-or-before (holdsAt d s (keyOf (headAt d s i))) (slotCount d (kindAt d i)) (firstSlot d (kindAt d i)) i (r .0) (r .1) holds-own
-      ∙ ap (λ (x : ℕ). isNowhere (firstFrom (holdsAt d s (keyOf (headAt d s i))) (i - x) x)) (sym e))
-
-unused-not : (d : Desk) (s : List ℕ) (i : ℕ) → isUsed (headAt d s i) ≡ false → repeatsAt d s i ≡ false
-unfolding repeatsAt
-unused-not d s i u = and-false-left _ _ u
 
 -- ---- cues and groups
 start-is : (d : Desk) (i : ℕ) → i < firstSlot d Sub → kindStart (d .cues) i ≡ firstSlot d (kindAt d i)
@@ -138,7 +95,7 @@ module _ (d : Desk) (s : List ℕ) (f : Fitting d s) (b : Bytes s) where
       let l : length (tab (slotWord d s) 0 (firstSlot d Sub)) ≡ firstSlot d Sub = length-tab (slotWord d s) 0 (firstSlot d Sub) in
       getD-padded mostKeys (tab (slotWord d s) 0 (firstSlot d Sub)) i (omega arith) ∙ tab-at (slotWord d s) (firstSlot d Sub) i 0 h
 
-  seen-repeats : (i : ℕ) → i < firstSlot d Sub → seenBefore (d .cues) (keyWords d s) i ≡ repeatsAt d s i
+  seen-repeats : (i : ℕ) → i < firstSlot d Sub → seenBefore (d .cues) (keyWords d s) i ≡ repeats d s i
   unfolding seenBefore countWord
   seen-repeats i h =
       let w : ℕ = getD (keyWords d s) i 0 in
@@ -155,27 +112,21 @@ module _ (d : Desk) (s : List ℕ) (f : Fitting d s) (b : Bytes s) where
       let g : j < firstSlot d Sub = omega arith in
       let k : j < slotsOf d = omega arith in
       ap (λ (z : ℕ). eqb z w) (key-at j g) ∙ ap (λ (z : ℕ). eqb (slotWord d s j) z) (key-at i h) ∙ same-word d s f b i j l k u))
-      ∙ count-found (holdsAt d s (keyOf (headAt d s i))) (i - a) (i - a) a refl
-      ∙ sym (repeats-is d s i l u a (start-is d i h)))
+      ∙ count-some (holdsAt d s (keyOf (headAt d s i))) (i - a) a
+      ∙ sym (repeats-found d s i l u a (start-is d i h)))
       (λ u.
       cond-true (ltb w usedWord) false (ltb 0 (countFrom (isKeyWord (keyWords d s) w) (i - a) a)) (q ∙ ap not u)
-      ∙ sym (unused-not d s i u))
+      ∙ sym (repeats-unused d s i u))
 
 -- ---- submasters
 module _ (d : Desk) (s : List ℕ) (g : badSlot d s ≡ nowhere) where
-  in-form : (i : ℕ) → i < slotsOf d → slotFits d s i ≡ true
-  unfolding badSlot
-  in-form i h =
-      let l : i < 0 + slotsOf d = omega arith in
-      not-false (slotFits d s i) (first-nowhere (λ j. not (slotFits d s j)) (slotsOf d) 0 g i (omega arith) l)
-
   own-place : (i : ℕ) → i < slotsOf d → isUsed (headAt d s i) ≡ true → kindAt d i ≡ Sub → i ≡ subSlot d (keyOf (headAt d s i))
   unfolding slotFits placeFits
   own-place i h u k =
       let o : Bool = okName d (nameAt d s i) in
       let p : Bool = placeFits d (kindAt d i) i (keyOf (headAt d s i)) in
       let v : Bool = valuesFit (kindAt d i) (headAt d s i) in
-      let e : (o && p && v) ≡ true = sym (cond-true _ _ _ u) ∙ in-form i h in
+      let e : (o && p && v) ≡ true = sym (cond-true _ _ _ u) ∙ slots-fit d s g i h in
       let q : p ≡ true = and-right o p (and-left (o && p) v e) in
       eqb-true i (subSlot d (keyOf (headAt d s i))) (subst (λ (z : Kind). placeFits d z i (keyOf (headAt d s i)) ≡ true) k q)
 
@@ -194,29 +145,25 @@ module _ (d : Desk) (s : List ℕ) (g : badSlot d s ≡ nowhere) where
       absurd (omega arith))
       (λ t. t)
 
-  none-none : not (isNowhere nowhere) ≡ false
-  unfolding isNowhere
-  none-none = refl
-
-  sub-once : (i : ℕ) → firstSlot d Sub ≤ i → i < slotsOf d → repeatsAt d s i ≡ false
+  sub-once : (i : ℕ) → firstSlot d Sub ≤ i → i < slotsOf d → repeats d s i ≡ false
   unfolding slotCount
   sub-once i l h =
       let n : firstSlot d Sub + subSlots d ≡ slotsOf d = subs-after d in
       let k : kindAt d i ≡ Sub = kind-of d Sub i l (omega arith) in
       by-bool (isUsed (headAt d s i))
       (λ u.
-      repeats-is d s i h u (firstSlot d Sub) (ap (firstSlot d) (sym k))
-      ∙ ap (λ (z : Found). not (isNowhere z))
-      (none-is (holdsAt d s (keyOf (headAt d s i))) (i - firstSlot d Sub) (firstSlot d Sub) (λ j x y. other i j h u k x (omega arith)))
-      ∙ none-none)
-      (λ u. unused-not d s i u)
+      repeats-found d s i h u (firstSlot d Sub) (ap (firstSlot d) (sym k))
+      ∙ not-of-true _
+      (all-is (λ j. not (holdsAt d s (keyOf (headAt d s i)) j)) (i - firstSlot d Sub) (firstSlot d Sub)
+      (λ j x y. not-of-false _ (other i j h u k x (omega arith)))))
+      (λ u. repeats-unused d s i u)
 
-  pub repeated-before : firstFrom (repeatsAt d s) (firstSlot d Sub) 0 ≡ repeatedSlot d s
+  pub repeated-before : firstFrom (repeats d s) (firstSlot d Sub) 0 ≡ repeatedSlot d s
   unfolding repeatedSlot
   repeated-before =
       let n : firstSlot d Sub + subSlots d ≡ slotsOf d = subs-after d in
-      sym (first-only (repeatsAt d s) (firstSlot d Sub) (subSlots d) 0 (λ k x y. sub-once k (omega arith) (omega arith)))
-      ∙ ap (λ (z : ℕ). firstFrom (repeatsAt d s) z 0) n
+      sym (first-only (repeats d s) (firstSlot d Sub) (subSlots d) 0 (λ k x y. sub-once k (omega arith) (omega arith)))
+      ∙ ap (λ (z : ℕ). firstFrom (repeats d s) z 0) n
 
 -- ---- what the code finds among the words
 pub repeated-is : (d : Desk) (s : List ℕ) → Fitting d s → Bytes s → badSlot d s ≡ nowhere → {c n : ℕ} {ks : List ℕ} {r : Found}
@@ -225,7 +172,7 @@ unfolding firstSlot
 repeated-is d s f b g {c} {n} {ks} e q k r =
     r ∙ ap (λ (z : ℕ). firstFrom (seenBefore z ks) n 0) e ∙ ap (λ (z : List ℕ). firstFrom (seenBefore (d .cues) z) n 0) k
     ∙ ap (λ (z : ℕ). firstFrom (seenBefore (d .cues) (keyWords d s)) z 0) q
-    ∙ first-same (seenBefore (d .cues) (keyWords d s)) (repeatsAt d s) (firstSlot d Sub) 0 (λ i x y. seen-repeats d s f b i (omega arith))
+    ∙ first-same (seenBefore (d .cues) (keyWords d s)) (repeats d s) (firstSlot d Sub) 0 (λ i x y. seen-repeats d s f b i (omega arith))
     ∙ repeated-before d s g
 
 -- ---- the words one by one

@@ -1,5 +1,5 @@
 -- What the tests of a slot, of a patch entry and of a store compute: bytes joined are zero where each is, tests joined one by one are the
--- definition's, and a search's answer as the code has it. By cases on tests.
+-- definition's, and the first search that finds a place tells the form. By cases on tests.
 -- Assumes nothing.
 use mathlib.Core.Path.{_≡_, refl, sym, ap, _∙_}
 use mathlib.Core.Bool.{Bool, true, false, cond, not, _&&_}
@@ -12,8 +12,8 @@ use lib.Dec.{eqb, leb}
 use lib.ListN.{length, getD, drop, drop-of-length-le}
 use lib.Seq.{drop-cons}
 use borrow.Author.Tests.{eqb-true, eq-eqb, ne-eqb, lt-ltb, le-ltb}
-use Rattle.cells.proofs.Split.{cond-true, cond-false, same-test, and-true, and-left, and-right, and-false-left, and-false-right}
-use Rattle.cells.specs.Search.{Found, firstFrom}
+use Rattle.cells.proofs.Split.{cond-true, cond-false, same-test, and-true, and-left, and-right, and-false-left}
+use Rattle.cells.specs.Search.{Found, at, nowhere, firstFrom}
 use Rattle.store_desk.specs.declared.Desk.{Desk}
 use Rattle.store_desk.specs.declared.Kind.{Kind}
 use Rattle.store_desk.specs.declared.Kind.the-variants.{Cue, Group, Sub}
@@ -22,12 +22,9 @@ use Rattle.store_desk.specs.Name.{firstSlot, kindAt, okName}
 use Rattle.store_head.specs.declared.Head.{Head}
 use Rattle.store_head.specs.declared.Patch.{Patch}
 use Rattle.store_head.specs.Layout.{decodeHead, decodePatch}
-use Rattle.store.specs.declared.Place.the-variants.{At, Nowhere}
-use Rattle.store.specs.Slots.{slotAt, entryAt, headAt, keyOf, placeOf}
-use Rattle.store.specs.Form.{hasTimes, hasLink, timeFits, linkFits, isZero, placeFits, valuesFit, usedFits, slotFits, patchFits, entryFits, goodForm}
-use Rattle.store.proofs.First.{good-searched}
-use Rattle.store.specs.First.{badSlot, repeatedSlot, badEntry, isNowhere}
-use Rattle.store_code.proofs.Found.{place-at, place-nowhere}
+use Rattle.store.specs.declared.StoreForm.the-variants.{Good, BadSlot, Repeated, BadEntry}
+use Rattle.store.specs.Slots.{slotAt, entryAt, headAt, keyOf}
+use Rattle.store.specs.Form.{hasTimes, hasLink, timeFits, linkFits, isZero, placeFits, valuesFit, usedFits, slotFits, patchFits, entryFits, badSlot, repeatedSlot, badEntry, formBy, formOf}
 
 -- ---- bytes joined
 or-zero : (a b : ℕ) → bitOr a b ≡ 0 → (a ≡ 0) × (b ≡ 0)
@@ -156,28 +153,20 @@ pub entries-start : (d : Desk) (s : List ℕ) {n : ℕ} → n ≡ entriesOf d �
 unfolding badEntry
 entries-start d s {n} e = let m : n - 0 ≡ entriesOf d = omega arith in ap (λ (k : ℕ). firstFrom (λ i. not (entryFits d s i)) k 0) m
 
--- ---- the three searches
-at-found : (f : Found) (i : ℕ) → At i ≡ placeOf f → isNowhere f ≡ false
-unfolding isNowhere
-at-found f i e = ap isNowhere (place-at e refl)
+-- ---- the three searches, one after the other
+module _ (d : Desk) (s : List ℕ) where
+  pub bad-first : {i : ℕ} → badSlot d s ≡ at i → BadSlot i ≡ formOf d s
+  unfolding formOf formBy
+  bad-first a = ap (λ (x : Found). formBy x (repeatedSlot d s) (badEntry d s)) (sym a)
 
-none-true : (f : Found) → Nowhere ≡ placeOf f → isNowhere f ≡ true
-unfolding isNowhere
-none-true f e = ap isNowhere (place-nowhere e refl)
+  pub repeated-first : {i : ℕ} → badSlot d s ≡ nowhere → repeatedSlot d s ≡ at i → Repeated i ≡ formOf d s
+  unfolding formOf formBy
+  repeated-first a b = λ k. formBy (sym a k) (sym b k) (badEntry d s)
 
-pub first-bad : (d : Desk) (s : List ℕ) {i : ℕ} → At i ≡ placeOf (badSlot d s) → false ≡ goodForm d s
-first-bad d s {i} e =
-    sym (and-false-left _ _ (and-false-left _ (isNowhere (repeatedSlot d s)) (at-found (badSlot d s) i e))) ∙ sym (good-searched d s)
+  pub entry-first : {i : ℕ} → badSlot d s ≡ nowhere → repeatedSlot d s ≡ nowhere → badEntry d s ≡ at i → BadEntry i ≡ formOf d s
+  unfolding formOf formBy
+  entry-first a b c = λ k. formBy (sym a k) (sym b k) (sym c k)
 
-pub second-bad : (d : Desk) (s : List ℕ) {i : ℕ} → At i ≡ placeOf (repeatedSlot d s) → false ≡ goodForm d s
-second-bad d s {i} e =
-    sym (and-false-left _ _ (and-false-right (isNowhere (badSlot d s)) _ (at-found (repeatedSlot d s) i e))) ∙ sym (good-searched d s)
-
-pub third-bad : (d : Desk) (s : List ℕ) {i : ℕ} → At i ≡ placeOf (badEntry d s) → false ≡ goodForm d s
-third-bad d s {i} e =
-    sym (and-false-right (isNowhere (badSlot d s) && isNowhere (repeatedSlot d s)) _ (at-found (badEntry d s) i e)) ∙ sym (good-searched d s)
-
-pub none-bad : (d : Desk) (s : List ℕ)
-    → Nowhere ≡ placeOf (badSlot d s) → Nowhere ≡ placeOf (repeatedSlot d s) → Nowhere ≡ placeOf (badEntry d s) → true ≡ goodForm d s
-none-bad d s a b c =
-    sym (and-true _ _ (and-true _ _ (none-true (badSlot d s) a) (none-true (repeatedSlot d s) b)) (none-true (badEntry d s) c)) ∙ sym (good-searched d s)
+  pub none-first : badSlot d s ≡ nowhere → repeatedSlot d s ≡ nowhere → badEntry d s ≡ nowhere → Good ≡ formOf d s
+  unfolding formOf formBy
+  none-first a b c = λ k. formBy (sym a k) (sym b k) (sym c k)

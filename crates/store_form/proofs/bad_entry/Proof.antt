@@ -2,7 +2,7 @@
 -- Assumes nothing.
 use native.Mathlib.Omega.{arith}
 use Rattle.store.specs.Form.{entryFits}
-use Rattle.store.specs.First.{badEntry}
+use Rattle.store.specs.Form.{badEntry}
 use Rattle.store_code.proofs.Found.{at-place, nowhere-place}
 use Rattle.store_form.proofs.Laws.{entries-start}
 use Rattle.cells.proofs.Search.{search-hit, search-miss, search-end}

@@ -2,7 +2,7 @@
 -- Assumes nothing.
 use native.Mathlib.Omega.{arith}
 use Rattle.store.specs.Form.{slotFits}
-use Rattle.store.specs.First.{badSlot}
+use Rattle.store.specs.Form.{badSlot}
 use Rattle.store_code.proofs.Found.{at-place, nowhere-place}
 use Rattle.store_form.proofs.Laws.{slots-start}
 use Rattle.cells.proofs.Search.{search-hit, search-miss, search-end}
