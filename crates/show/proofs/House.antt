@@ -5,17 +5,18 @@ use mathlib.Core.Path.{_≡_, sym, ap, _∙_}
 use mathlib.Core.List.{List}
 use Prim.Native.Nat.{ℕ, _≤_}
 use native.Mathlib.Omega.{arith}
-use lib.Dec.{ltb, leb}
+use lib.Dec.{ltb}
 use lib.ListN.{length}
 use borrow.Author.Tests.{ltb-true}
 use Rattle.cells.proofs.Split.{by-test}
-use Rattle.store_desk.specs.Size.{house, inRangeOf, storeLength}
-use Rattle.store.specs.Form.{goodForm}
+use Rattle.store_desk.specs.Size.{house}
 use Rattle.save.specs.Lines.{streamOf}
 use Rattle.save.proofs.House.{house-most}
 use Rattle.show.specs.declared.Admission.{Admission}
+use Rattle.show.specs.declared.Admission.the-variants.{Admitted, Away}
 use Rattle.show.specs.declared.Written.{Written}
 use Rattle.show.specs.Calls.{mostBytes, admissionOf, WriteCall, writeReply, putCall, writeBy, writeCall, WritePromise}
+use Rattle.show.proofs.Laws.{awayReply, StoreAway, store-away}
 
 abbrev NotR5 : WriteCall → Type 0
 NotR5 x = x .reply .number ≡ 5 → ⊥
@@ -30,22 +31,15 @@ put-short stream out h =
     (λ f q. omega arith)
     (λ f q. omega arith))
 
--- what is tested ahead of the writing is R2, R3 and R4
+-- what is tested ahead of the writing is R2, R3 and the store's form
+by-short : (a : Admission) → StoreAway (awayReply a) → (s out : List ℕ) → NotR5 (writeBy a house s out)
+unfolding writeBy
+by-short Admitted m s out = put-short (streamOf house s) out (let a = house-most s in omega arith)
+by-short (Away r) m s out = m .fifth
+
 write-short : (s out : List ℕ) → NotR5 (writeCall house s out)
-unfolding writeCall admissionOf writeBy
-write-short s out =
-    by-test By (inRangeOf house) _ _
-    (λ e.
-    by-test By (leb (storeLength house) (length s)) _ _
-    (λ f.
-    by-test By (goodForm house s) _ _
-    (λ g. put-short (streamOf house s) out (let a = house-most s in omega arith))
-    (λ g q. omega arith))
-    (λ f q. omega arith))
-    (λ e q. omega arith)
-  where
-    By : Admission → Type 0
-    By a = NotR5 (writeBy a house s out)
+unfolding writeCall
+write-short s out = by-short (admissionOf house s) (store-away house s) s out
 
 pub house-no-r5 : (s out : List ℕ) (a : Written) {o : List ℕ} → WritePromise house s out a o → writeReply a .number ≡ 5 → ⊥
 house-no-r5 s out a e f = write-short s out (ap (λ (x : WriteCall). x .reply .number) (sym e) ∙ f)

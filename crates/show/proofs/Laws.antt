@@ -10,18 +10,21 @@ use lib.Dec.{ltb, leb}
 use lib.ListN.{length}
 use borrow.Author.Tests.{lt-ltb, le-ltb, le-leb, lt-leb, leb-true, leb-false, not-true, not-false}
 use Rattle.cells.specs.Put.{put}
-use Rattle.cells.specs.Search.{Found, at, nowhere}
-use Rattle.cells.proofs.Split.{by-test, by-bool, clash, not-of-false}
+use Rattle.cells.specs.Search.{Found, at, nowhere, IsFirst}
+use Rattle.cells.proofs.Split.{by-test, clash}
 use Rattle.store_desk.specs.declared.Desk.{Desk}
 use Rattle.store_desk.specs.declared.Key.{Key}
-use Rattle.store_desk.specs.Size.{InRange, inRangeOf, storeLength, headLength, slotLength, slotsOf}
+use Rattle.store_desk.specs.Size.{InRange, inRangeOf, storeLength, headLength, slotLength, slotsOf, entriesOf}
 use Rattle.store_desk.specs.Name.{Name, okName}
-use Rattle.store_desk.proofs.Size.{in-range, in-range-true}
+use Rattle.store_desk.proofs.Size.{in-range, in-range-true, slots-le, entries-le}
 use Rattle.store.specs.declared.Place.the-variants.{Nowhere}
+use Rattle.store.specs.declared.StoreForm.{StoreForm}
+use Rattle.store.specs.declared.StoreForm.the-variants.{Good, BadSlot, Repeated, BadEntry}
 use Rattle.store.specs.Slots.{find, placeOf, levelsAt}
 use Rattle.store.specs.Change.{emptied as emptiedStore}
-use Rattle.store.specs.Form.{goodForm}
-use Rattle.store.proofs.Form.{good-sound}
+use Rattle.store.specs.Form.{slotFits, repeats, entryFits, badSlot, repeatedSlot, formOf, goodForm}
+use Rattle.store.specs.Good.{Ready}
+use Rattle.store.proofs.Form.{by-form, form-is-good, good-sound, good-complete}
 use Rattle.store.proofs.Start.{found-ok}
 use Rattle.store_code.specs.Fits.{Fitting}
 use Rattle.store_code.proofs.Laws.{slot-small, slot-long}
@@ -31,18 +34,17 @@ use Rattle.load.specs.Run.{loadOf}
 use Rattle.load_run.specs.Loaded.{Loaded as Ran, loadedOf, runLoaded as ran}
 use Rattle.text_room.specs.Wrote.{Wrote, wrote, wroteAt}
 use Rattle.store_desk.specs.declared.Refusal.{Refusal}
-use Rattle.store_desk.specs.Refusal.{refusalNumber, refusalTold, Reply, replied, refused}
-use Rattle.store_desk.specs.declared.Refusal.the-variants.{R1, R2, R3, R4, R5, R6}
+use Rattle.store_desk.specs.Refusal.{Reply, replied, refused, mostPlaces}
+use Rattle.store_desk.specs.declared.Refusal.the-variants.{R1, R2, R3, R4a, R4b, R4c, R5, R6}
 use Rattle.show.specs.declared.Admission.{Admission}
 use Rattle.show.specs.declared.Admission.the-variants.{Admitted, Away}
-use Rattle.show.specs.Calls.{mostBytes, admissionOf, totalsTold, loadedAs, loadBy, loadCall, writtenAs, putCall, writeBy, writeCall, emptiedAs, emptyCall}
+use Rattle.show.specs.Calls.{mostBytes, formAdmission, admissionOf, totalsTold, loadedAs, loadBy, loadCall, writtenAs, putCall, writeBy, writeCall, emptiedAs, emptyCall}
 use Rattle.show.specs.Calls.{keptWord, notKeptWord, Look, look, cueName, cueKey, lookAt, lookBy, lookCall, LookedUp}
-use Rattle.show.specs.Calls.{findReply, placedAt, PlacedAs, findBy, findCall}
-use Rattle.show.specs.declared.Placed.{Placed}
-use Rattle.show.specs.declared.Placed.the-variants.{Away as FindAway, NotKept, At as PlacedAt}
+use Rattle.show.specs.Calls.{findReply, placedAt, findBy, findCall}
+use Rattle.show.specs.declared.Placed.the-variants.{NotKept, At as PlacedAt}
 use denote.Ref.{RefT, ptr, now}
 
--- ---- R2, R3, R4
+-- ---- R2, R3, R4a, R4b, R4c
 
 pub ranged : (d : Desk) {b : Bool} → b ≡ inRangeOf d → not b ≡ false → InRange d
 ranged d {b} e t = in-range d (sym e ∙ not-false b t)
@@ -62,62 +64,92 @@ module _ (d : Desk) (s : List ℕ) where
   pub fitting : {n : ℕ} → InRange d → n ≡ storeLength d → n ≤ length s → Fitting d s
   fitting {n} h e l = record { range = h; long = subst (λ (k : ℕ). k ≤ length s) e l }
 
-  pub admitted : {b : Bool} → Fitting d s → b ≡ goodForm d s → b ≡ true → Admitted ≡ admissionOf d s
+  -- then the store's form decides
+  pub formed : {r : StoreForm} (x : StoreForm) → Fitting d s → r ≡ formOf d s → r ≡ x → formAdmission x ≡ admissionOf d s
   unfolding admissionOf
-  admitted {b} h e t =
+  formed x h e q =
       let a : inRangeOf d ≡ true = in-range-true d (h .range) in
       let f : leb (storeLength d) (length s) ≡ true = le-leb _ _ (h .long) in
-      let g : goodForm d s ≡ true = sym e ∙ t in
-      rw (a, f, g)
+      rw (a, f) (ap formAdmission (sym q ∙ e))
 
-  pub away-form : {b : Bool} → Fitting d s → b ≡ goodForm d s → b ≡ false → Away R4 ≡ admissionOf d s
-  unfolding admissionOf
-  away-form {b} h e t =
-      let a : inRangeOf d ≡ true = in-range-true d (h .range) in
-      let f : leb (storeLength d) (length s) ≡ true = le-leb _ _ (h .long) in
-      let g : goodForm d s ≡ false = sym e ∙ t in
-      rw (a, f, g)
+  pub admitted : Ready d s → Admitted ≡ admissionOf d s
+  unfolding formAdmission
+  admitted r = formed Good (record { range = r .range; long = r .long }) refl (form-is-good d s (r .form))
+
+  -- a call on a store, by what turns it away
+  pub by-admission : (P : Admission → Type 0)
+      → ((InRange d → ⊥) → P (Away R2))
+      → (InRange d → length s < storeLength d → P (Away R3))
+      → (Fitting d s → (i : ℕ) → IsFirst (λ j. not (slotFits d s j)) (slotsOf d) 0 i → P (Away (R4a (i + 1))))
+      → (Fitting d s → (i : ℕ) → badSlot d s ≡ nowhere → IsFirst (repeats d s) (slotsOf d) 0 i → P (Away (R4b (i + 1))))
+      → (Fitting d s → (i : ℕ) → badSlot d s ≡ nowhere → repeatedSlot d s ≡ nowhere
+          → IsFirst (λ j. not (entryFits d s j)) (entriesOf d) 0 i → P (Away (R4c (i + 1))))
+      → (Ready d s → P Admitted)
+      → P (admissionOf d s)
+  unfolding admissionOf formAdmission
+  by-admission P range short slot twice entry good =
+      by-test P (inRangeOf d) _ _
+      (λ e.
+      let r : InRange d = in-range d e in
+      by-test P (leb (storeLength d) (length s)) _ _
+      (λ f.
+      let l : storeLength d ≤ length s = leb-true _ _ f in
+      let h : Fitting d s = record { range = r; long = l } in
+      by-form d s (λ (x : StoreForm). P (formAdmission x)) (slot h) (twice h) (entry h) (λ g. good (record { range = r; long = l; form = g })))
+      (λ f. short r (leb-false _ _ f)))
+      (λ e. range (λ h. clash (in-range-true d h) e))
 
   -- a call that is not turned away has a store that fits, in good form
-  pub taken : Admitted ≡ admissionOf d s → Fitting d s × (goodForm d s ≡ true)
-  taken e =
-      by-bool (inRangeOf d)
-      (λ a. by-bool (leb (storeLength d) (length s))
-      (λ f. by-bool (goodForm d s)
-      (λ g. (record { range = in-range d a; long = leb-true _ _ f }, g))
-      (λ g. absurd (away-clash (away-form (record { range = in-range d a; long = leb-true _ _ f }) refl g))))
-      (λ f. absurd (away-clash (away-short (in-range d a) refl (leb-false _ _ f)))))
-      (λ a. absurd (away-clash (away-range refl (not-of-false _ a))))
+  pub let-in : Admitted ≡ admissionOf d s → Ready d s
+  let-in =
+      by-admission (λ (a : Admission). Admitted ≡ a → Ready d s)
+      (λ h e. away-clash e) (λ h l e. away-clash e) (λ h i f e. away-clash e) (λ h i n f e. away-clash e) (λ h i n m f e. away-clash e)
+      (λ r e. r)
     where
-      away-clash : {r : Refusal} → Away r ≡ admissionOf d s → ⊥
-      away-clash q = let z : _≡_ {A = ℕ} 0 1 = cc in omega arith
+      away-clash : {r : Refusal} → Admitted ≡ Away r → Ready d s
+      away-clash q = absurd (let z : _≡_ {A = ℕ} 0 1 = cc in omega arith)
 
--- what is tested here is R2, R3 and R4: never R1, and nothing is told beside the number
-abbrev pub awayNumber : Admission → ℕ
-awayNumber Admitted = 0
-awayNumber (Away r) = refusalNumber r
+  pub taken : Admitted ≡ admissionOf d s → Fitting d s × (goodForm d s ≡ true)
+  taken e = let r = let-in e in (record { range = r .range; long = r .long }, good-complete d s (r .form))
 
-abbrev pub awayTold : Admission → List ℕ
-awayTold Admitted = []
-awayTold (Away r) = refusalTold r
+-- the slot or entry that a form names is one of the desk's
+abbrev pub formPlace : StoreForm → ℕ
+formPlace Good = 0
+formPlace (BadSlot i) = i
+formPlace (Repeated i) = i
+formPlace (BadEntry i) = i
 
-pub record StoreAway (a : Admission) : Type 0 where
-  pub second : awayNumber a ≡ 1 → ⊥
-  pub fourth : awayNumber a ≤ 4
-  pub mute : awayTold a ≡ []
+pub form-inside : (d : Desk) (s : List ℕ) {r : StoreForm} (x : StoreForm) → Fitting d s → r ≡ formOf d s → r ≡ x → formPlace x < mostPlaces
+form-inside d s x h e q =
+    subst (λ (y : StoreForm). formPlace y < mostPlaces) (sym e ∙ q)
+    (by-form d s (λ (y : StoreForm). formPlace y < mostPlaces)
+    (λ i r. slot-most i (r .below)) (λ i n r. slot-most i (r .below)) (λ i n m r. entry-most i (r .below)) (λ g. omega arith))
+  where
+    slot-most : (i : ℕ) → i < 0 + slotsOf d → i < mostPlaces
+    slot-most i l = let m = slots-le d (h .range) in omega arith
 
-pub store-away : (d : Desk) (s : List ℕ) → StoreAway (admissionOf d s)
-unfolding admissionOf
+    entry-most : (i : ℕ) → i < 0 + entriesOf d → i < mostPlaces
+    entry-most i l = let m = entries-le d (h .range) in omega arith
+
+-- what is tested ahead of every call on a store is never R5 or R6, and tells nothing beside number and place
+abbrev pub awayReply : Admission → Reply
+awayReply Admitted = replied []
+awayReply (Away r) = refused r
+
+pub record StoreAway (x : Reply) : Type 0 where
+  pub fifth : x .number ≡ 5 → ⊥
+  pub sixth : x .number ≡ 6 → ⊥
+  pub mute : x .told ≡ []
+
+pub store-away : (d : Desk) (s : List ℕ) → StoreAway (awayReply (admissionOf d s))
 store-away d s =
-    by-test StoreAway (inRangeOf d) _ _
-    (λ e.
-    by-test StoreAway (leb (storeLength d) (length s)) _ _
-    (λ f.
-    by-test StoreAway (goodForm d s) _ _
-    (λ g. record { second = λ q. omega arith; fourth = omega arith; mute = refl })
-    (λ g. record { second = λ q. omega arith; fourth = omega arith; mute = refl }))
-    (λ f. record { second = λ q. omega arith; fourth = omega arith; mute = refl }))
-    (λ e. record { second = λ q. omega arith; fourth = omega arith; mute = refl })
+    by-admission d s (λ (a : Admission). StoreAway (awayReply a))
+    (λ h. record { fifth = λ q. omega arith; sixth = λ q. omega arith; mute = refl })
+    (λ h l. record { fifth = λ q. omega arith; sixth = λ q. omega arith; mute = refl })
+    (λ h i r. record { fifth = λ q. omega arith; sixth = λ q. omega arith; mute = refl })
+    (λ h i n r. record { fifth = λ q. omega arith; sixth = λ q. omega arith; mute = refl })
+    (λ h i n m r. record { fifth = λ q. omega arith; sixth = λ q. omega arith; mute = refl })
+    (λ r. record { fifth = λ q. omega arith; sixth = λ q. omega arith; mute = refl })
 
 -- ---- load
 
@@ -209,13 +241,6 @@ pub find-by : (d : Desk) (s : List ℕ) (page whole tenths : ℕ) (a : Admission
 unfolding findCall
 find-by d s page whole tenths a e = ap (λ (b : Admission). findBy b d s (cueKey page whole tenths)) e
 
--- no stream is read: a call that is turned away before it begins is not R1
-pub find-away : (d : Desk) (s : List ℕ) (page whole tenths : ℕ) {r : Refusal} → Away r ≡ admissionOf d s
-    → PlacedAs (findCall d s page whole tenths) (FindAway r)
-unfolding findBy
-find-away d s page whole tenths {r} e =
-    (find-by d s page whole tenths (Away r) e, λ q. store-away d s .second (ap awayNumber (sym e) ∙ ap (λ (x : Placed). findReply x .number) q))
-
 pub place-small : (d : Desk) {i n : ℕ} → i < slotsOf d → InRange d → n ≡ slotLength d → i * n + headLength ≤ 1643264
 place-small d {i} {n} h r e =
     let a : i * slotLength d + slotLength d ≤ 1643264 = slot-small d i h r in
@@ -223,17 +248,13 @@ place-small d {i} {n} h r e =
     let c : i * slotLength d + headLength ≤ 1643264 = omega arith in
     subst (λ (k : ℕ). i * k + headLength ≤ 1643264) (sym e) c
 
-pub placed-at : (d : Desk) {f : Found} {i n : ℕ} → f ≡ at i → n ≡ slotLength d → PlacedAs (placedAt d f) (PlacedAt (i * n + headLength))
+pub placed-at : (d : Desk) {f : Found} {i n : ℕ} → f ≡ at i → n ≡ slotLength d → findReply (PlacedAt (i * n + headLength)) ≡ placedAt d f
 unfolding placedAt
-placed-at d {f} {i} {n} e h =
-    (ap (λ (k : ℕ). findReply (PlacedAt (i * k + headLength))) h ∙ sym (ap (placedAt d) e), λ q. let z : _≡_ {A = ℕ} 0 1 = cc in omega arith)
+placed-at d {f} {i} {n} e h = ap (λ (k : ℕ). findReply (PlacedAt (i * k + headLength))) h ∙ sym (ap (placedAt d) e)
 
-pub placed-none : (d : Desk) {f : Found} → f ≡ nowhere → PlacedAs (placedAt d f) NotKept
+pub placed-none : (d : Desk) {f : Found} → f ≡ nowhere → findReply NotKept ≡ placedAt d f
 unfolding placedAt
-placed-none d e = (sym (ap (placedAt d) e), λ q. let z : _≡_ {A = ℕ} 0 1 = cc in omega arith)
-
-pub placed-as : {x y : Reply} {a : Placed} → PlacedAs x a → x ≡ y → PlacedAs y a
-placed-as p e = (p .0 ∙ e, p .1)
+placed-none d e = sym (ap (placedAt d) e)
 
 look-kept : (d : Desk) (s : List ℕ) (key : Key) (i : ℕ) → find d s (cueName key) ≡ at i
     → look keptWord (i * slotLength d + headLength) (levelsAt d s i) ≡ lookAt d s (find d s (cueName key))

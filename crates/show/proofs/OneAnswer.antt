@@ -1,6 +1,6 @@
 -- No second answer fits a public call's promise, of the answer itself and of each lent list; and a refused call leaves every lent list
--- as it was. The record that a promise speaks of gives back what it was built from, and an answer is told by its number and by what is
--- told beside it; a refusal's record is built from the lists at entry.
+-- as it was. The record that a promise speaks of gives back what it was built from, and an answer is told by its number, its place and
+-- what is told beside them; a refusal's record is built from the lists at entry.
 -- Assumes nothing.
 use mathlib.Core.Path.{_≡_, refl, sym, ap, _∙_}
 use mathlib.Core.List.{List, [], _∷_}
@@ -14,10 +14,9 @@ use Rattle.cells.proofs.Split.{by-test}
 use Rattle.store_desk.specs.declared.Desk.{Desk}
 use Rattle.store_desk.specs.declared.Key.{Key}
 use Rattle.store_desk.specs.declared.Refusal.{Refusal}
-use Rattle.store_desk.specs.declared.Refusal.the-variants.{R1}
 use Rattle.store_desk.specs.Size.{inRangeOf, storeLength}
-use Rattle.store_desk.specs.Refusal.{Reply}
-use Rattle.store_desk.proofs.Reply.{refused-apart, refused-no-reply}
+use Rattle.store_desk.specs.Refusal.{refusalNumber, Reply, replied, refused}
+use Rattle.store_desk.proofs.Reply.{refusal-most, refused-apart, refused-no-reply}
 use Rattle.store.specs.Slots.{find}
 use Rattle.load.specs.declared.Totals.{Totals}
 use Rattle.save.specs.Lines.{streamOf}
@@ -33,8 +32,8 @@ use Rattle.show.specs.declared.Placed.{Placed}
 use Rattle.show.specs.declared.Placed.the-variants.{Away as FindAway, NotKept, At as PlacedAt}
 use Rattle.show.specs.Calls.{mostBytes, admissionOf, LoadCall, loadReply, loadBy, loadCall, LoadPromise}
 use Rattle.show.specs.Calls.{WriteCall, writeReply, putCall, writeBy, writeCall, WritePromise}
-use Rattle.show.specs.Calls.{EmptyCall, emptyReply, emptyCall, EmptyPromise, LookPromise, cueName, cueKey, findReply, placedAt, findBy, findCall, FindPromise}
-use Rattle.show.proofs.Laws.{awayTold, StoreAway, store-away}
+use Rattle.show.specs.Calls.{EmptyCall, emptyReply, emptyCall, EmptyPromise, LookPromise, cueName, cueKey, notKept, findReply, placedAt, findBy, findCall, FindPromise}
+use Rattle.show.proofs.Laws.{awayReply, StoreAway, store-away}
 
 -- ---- answers that tell the same are the same
 
@@ -69,20 +68,26 @@ empty-apart (EmptyAway r) EmptyDone e = refused-no-reply r e
 empty-apart EmptyDone (EmptyAway q) e = refused-no-reply q (sym e)
 empty-apart EmptyDone EmptyDone e = refl
 
--- a refusal that is told as "not kept" is R1
-not-kept : {X : Type 0} (r : Refusal) → findReply (FindAway r) ≡ findReply NotKept → (FindAway r ≡ FindAway R1 → ⊥) → X
-not-kept r e h = absurd (h (ap (λ (x : Refusal). FindAway x) (refused-apart e)))
+-- no refusal has the number of "not kept"
+not-kept : {X : Type 0} (r : Refusal) → refused r ≡ notKept → X
+not-kept r e =
+    let f : refusalNumber r ≡ 255 = ap (λ (x : Reply). x .number) e in
+    let m = refusal-most r in
+    absurd (let z : ⊥ = omega arith in z)
 
-find-apart : (a b : Placed) → findReply a ≡ findReply b → (a ≡ FindAway R1 → ⊥) → (b ≡ FindAway R1 → ⊥) → a ≡ b
-find-apart (FindAway r) (FindAway q) e h k = ap (λ (x : Refusal). FindAway x) (refused-apart e)
-find-apart (FindAway r) NotKept e h k = not-kept r e h
-find-apart (FindAway r) (PlacedAt m) e h k = refused-no-reply r e
-find-apart NotKept (FindAway q) e h k = not-kept q (sym e) k
-find-apart NotKept NotKept e h k = refl
-find-apart NotKept (PlacedAt m) e h k = refused-no-reply R1 e
-find-apart (PlacedAt n) (FindAway q) e h k = refused-no-reply q (sym e)
-find-apart (PlacedAt n) NotKept e h k = refused-no-reply R1 (sym e)
-find-apart (PlacedAt n) (PlacedAt m) e h k = ap (λ (x : Reply). PlacedAt (getD (x .told) 0 0)) e
+not-placed : {X : Type 0} {n : ℕ} → notKept ≡ replied (n ∷ []) → X
+not-placed e = absurd (let z : _≡_ {A = ℕ} 255 0 = ap (λ (x : Reply). x .number) e in let o : ⊥ = omega arith in o)
+
+find-apart : (a b : Placed) → findReply a ≡ findReply b → a ≡ b
+find-apart (FindAway r) (FindAway q) e = ap (λ (x : Refusal). FindAway x) (refused-apart e)
+find-apart (FindAway r) NotKept e = not-kept r e
+find-apart (FindAway r) (PlacedAt m) e = refused-no-reply r e
+find-apart NotKept (FindAway q) e = not-kept q (sym e)
+find-apart NotKept NotKept e = refl
+find-apart NotKept (PlacedAt m) e = not-placed e
+find-apart (PlacedAt n) (FindAway q) e = refused-no-reply q (sym e)
+find-apart (PlacedAt n) NotKept e = not-placed (sym e)
+find-apart (PlacedAt n) (PlacedAt m) e = ap (λ (x : Reply). PlacedAt (getD (x .told) 0 0)) e
 
 -- ---- one answer
 
@@ -111,15 +116,15 @@ one-look d s page whole tenths e f =
 
 pub one-find : (d : Desk) (s : List ℕ) (page whole tenths : ℕ) {a b : Placed}
     → FindPromise d s page whole tenths a → FindPromise d s page whole tenths b → a ≡ b
-one-find d s page whole tenths {a} {b} e f = find-apart a b (e .0 ∙ sym (f .0)) (e .1) (f .1)
+one-find d s page whole tenths {a} {b} e f = find-apart a b (e ∙ sym f)
 
 -- ---- refused, untouched
 
--- a call's record either has the number 0, or has the lists of entry and tells nothing beside its number
+-- a call's record either has the number 0, or has the lists of entry and tells nothing beside its number and place
 LoadKept : List ℕ → List ℕ → LoadCall → Type 0
 LoadKept s reps x = (x .reply .number ≡ 0 → ⊥) → (x .store ≡ s) × (x .reports ≡ reps) × (x .reply .told ≡ [])
 
-load-by-kept : (a : Admission) → awayTold a ≡ [] → (d : Desk) (s reps stream : List ℕ) → LoadKept s reps (loadBy a d s reps stream)
+load-by-kept : (a : Admission) → awayReply a .told ≡ [] → (d : Desk) (s reps stream : List ℕ) → LoadKept s reps (loadBy a d s reps stream)
 unfolding LoadKept loadBy
 load-by-kept Admitted m d s reps stream h = absurd (h refl)
 load-by-kept (Away r) m d s reps stream h = (refl, refl, m)
@@ -153,11 +158,11 @@ put-kept stream out =
     (λ f. record { same = λ h. refl; mute = λ h k. absurd (k refl); needs = λ q. refl })
     (λ f. record { same = λ h. absurd (h refl); mute = λ h k. absurd (h refl); needs = λ q. absurd (omega arith) }))
 
-write-by-kept : (a : Admission) → StoreAway a → (d : Desk) (s out : List ℕ) → WriteKept (streamOf d s) out (writeBy a d s out)
+write-by-kept : (a : Admission) → StoreAway (awayReply a) → (d : Desk) (s out : List ℕ) → WriteKept (streamOf d s) out (writeBy a d s out)
 unfolding writeBy
 write-by-kept Admitted m d s out = put-kept (streamOf d s) out
 write-by-kept (Away r) m d s out =
-    record { same = λ h. refl; mute = λ h k. m .mute; needs = λ q. let l = m .fourth in absurd (omega arith) }
+    record { same = λ h. refl; mute = λ h k. m .mute; needs = λ q. absurd (m .sixth q) }
 
 pub write-kept : (d : Desk) (s out : List ℕ) → WriteKept (streamOf d s) out (writeCall d s out)
 unfolding writeCall
@@ -187,7 +192,7 @@ unfolding placedAt
 place-mute d (at i) h = absurd (h refl)
 place-mute d nowhere h = refl
 
-find-by-mute : (a : Admission) → awayTold a ≡ [] → (d : Desk) (s : List ℕ) (key : Key)
+find-by-mute : (a : Admission) → awayReply a .told ≡ [] → (d : Desk) (s : List ℕ) (key : Key)
     → (findBy a d s key .number ≡ 0 → ⊥) → findBy a d s key .told ≡ []
 unfolding findBy
 find-by-mute Admitted m d s key h = place-mute d (find d s (cueName key)) h

@@ -1,11 +1,12 @@
 -- Each call's number is that of the first of the paper's lines that holds: the promises' tests are those lines, one after the other; and
--- since no two lines of a call share a number, a line's number is the answer only where it holds.
+-- since no two lines of a call share a number, a line's number is the answer only where it holds. The place that is told is that of the search
+-- that found it, and the answer's word has number and place apart.
 -- Assumes nothing.
 use mathlib.Core.Path.{_≡_, refl, sym, ap, _∙_, subst}
-use mathlib.Core.Bool.{Bool, true, not, _&&_}
+use mathlib.Core.Bool.{Bool, true, false, not, _&&_}
 use mathlib.Core.List.{List, [], _∷_}
 use mathlib.Core.Logic.{_⊎_, inl, inr}
-use Prim.Native.Nat.{ℕ}
+use Prim.Native.Nat.{ℕ, _+_, _/_, _%_, _≤_, _<_}
 use native.Mathlib.Omega.{arith}
 use lib.Dec.{eqb, ltb, leb}
 use lib.ListN.{length}
@@ -14,18 +15,20 @@ use denote.Ref.{RefT, now}
 use Rattle.cells.specs.Search.{Found, at, nowhere}
 use Rattle.cells.proofs.Split.{by-test, clash, and-left, and-right}
 use Rattle.store_desk.specs.declared.Desk.{Desk}
+use Rattle.store_desk.specs.declared.Key.{Key}
 use Rattle.store_desk.specs.declared.Needed.{Needed}
 use Rattle.store_desk.specs.declared.Refusal.{Refusal}
-use Rattle.store_desk.specs.declared.Refusal.the-variants.{R2, R3, R4}
-use Rattle.store_desk.specs.Size.{inRangeOf, storeLength}
-use Rattle.store_desk.specs.Refusal.{refusalNumber, Reply, neededReply, neededCall, NeededPromise}
-use Rattle.store_desk.proofs.Size.{in-range, in-range-true}
+use Rattle.store_desk.specs.declared.Refusal.the-variants.{R2, R3, R4a, R4b, R4c}
+use Rattle.store_desk.specs.Size.{InRange, inRangeOf, slotsOf, entriesOf, storeLength}
+use Rattle.store_desk.specs.Refusal.{refusalNumber, refusalPlace, Reply, placeUnit, replyWord, mostPlaces, neededReply, neededCall, NeededPromise}
+use Rattle.store_desk.proofs.Size.{in-range, in-range-true, slots-le, entries-le}
 use Rattle.store.specs.Slots.{find}
-use Rattle.store.specs.Form.{goodForm}
+use Rattle.store.specs.Form.{slotFits, shares, entryFits}
 use Rattle.store.specs.Good.{Ready}
-use Rattle.store.proofs.Form.{good-sound, good-complete}
+use Rattle.store.proofs.Form.{slots-fit, slots-apart}
+use Rattle.store.proofs.Repeats.{by-repeats}
 use Rattle.store.proofs.Find.{kept-absent}
-use Rattle.store.proofs.Start.{absent-at}
+use Rattle.store.proofs.Start.{absent-at, kept-memory}
 use Rattle.save.specs.Lines.{streamOf}
 use Rattle.show.specs.declared.Admission.{Admission}
 use Rattle.show.specs.declared.Admission.the-variants.{Admitted, Away}
@@ -35,11 +38,11 @@ use Rattle.show.specs.declared.Emptied.{Emptied}
 use Rattle.show.specs.declared.Placed.{Placed}
 use Rattle.show.specs.Calls.{mostBytes, admissionOf, LoadCall, loadReply, loadBy, loadCall, LoadPromise}
 use Rattle.show.specs.Calls.{WriteCall, writeReply, putCall, writeBy, writeCall, WritePromise}
-use Rattle.show.specs.Calls.{EmptyCall, emptyReply, emptyCall, EmptyPromise, cueName, cueKey, lookAt, lookBy, lookCall, LookPromise}
+use Rattle.show.specs.Calls.{EmptyCall, emptyReply, emptyCall, EmptyPromise, notKeptWord, cueName, cueKey, lookAt, lookBy, lookCall, LookPromise}
 use Rattle.show.specs.Calls.{findReply, placedAt, findBy, findCall, FindPromise}
-use Rattle.store.proofs.Start.{kept-memory}
-use Rattle.show.specs.Refusals.{Line, Told, r1, r2, r3, r4, r5, r6, notKept}
-use Rattle.show.specs.Refusals.{LoadRefused, WriteRefused, EmptyRefused, NeededRefused, FindRefused}
+use Rattle.show.specs.Refusals.{Line, Told, r1, r2, r3, SlotUnfit, r4a, SlotTwice, r4b, EntryUnfit, r4c, r5, r6, lacking}
+use Rattle.show.specs.Refusals.{PlaceTold, WordTold, LoadRefused, WriteRefused, EmptyRefused, NeededRefused, FindRefused}
+use Rattle.show.proofs.Laws.{by-admission, awayReply}
 
 -- ---- the first line that holds
 
@@ -76,32 +79,66 @@ told (l ∷ ls) n h (inr f) = (
 
 -- ---- the tests are the lines
 
--- a call that tests R2, R3 and R4, and then other lines
-store-first : (d : Desk) (s : List ℕ) (ls : List Line) (number : Admission → ℕ) → ((r : Refusal) → number (Away r) ≡ refusalNumber r)
-    → (Ready d s → First ls (number Admitted)) → First (r2 d ∷ r3 d s ∷ r4 d s ∷ ls) (number (admissionOf d s))
-unfolding First admissionOf
-store-first d s ls number away rest =
-    by-test (λ (a : Admission). First (r2 d ∷ r3 d s ∷ r4 d s ∷ ls) (number a)) (inRangeOf d) _ _
-    (λ e.
-    inr (
-      λ h. h (in-range d e),
-      by-test (λ (a : Admission). First (r3 d s ∷ r4 d s ∷ ls) (number a)) (leb (storeLength d) (length s)) _ _
-          (λ f.
-          let l = leb-true (storeLength d) (length s) f in
-          inr (
-            λ h. omega arith,
-            by-test (λ (a : Admission). First (r4 d s ∷ ls) (number a)) (goodForm d s) _ _
-                (λ g. inr (λ h. h (good-sound d s g), rest (record { range = in-range d e; long = l; form = good-sound d s g })))
-                (λ g. inl (λ h. clash (good-complete d s h) g, away R4)),
-          ))
-          (λ f. inl (leb-false (storeLength d) (length s) f, away R3)),
-    ))
-    (λ e. inl (λ h. clash (in-range-true d h) e, away R2))
+-- where a search finds no place its line does not hold
+none-unfit : (d : Desk) (s : List ℕ) → ((i : ℕ) → i < slotsOf d → slotFits d s i ≡ true) → SlotUnfit d s → ⊥
+none-unfit d s f u = clash (f (u .slot) (u .within)) (u .unfit)
 
-load-first : (d : Desk) (s reps stream : List ℕ) → First (r1 stream ∷ r2 d ∷ r3 d s ∷ r4 d s ∷ []) (loadCall d s reps stream .reply .number)
+none-twice : (d : Desk) (s : List ℕ) → ((i j : ℕ) → j < i → i < slotsOf d → shares d s i j ≡ false) → SlotTwice d s → ⊥
+none-twice d s f t = clash (t .shared) (f (t .slot) (t .earlier) (t .before) (t .within))
+
+none-entry : (d : Desk) (s : List ℕ) → ((i : ℕ) → i < entriesOf d → entryFits d s i ≡ true) → EntryUnfit d s → ⊥
+none-entry d s f u = clash (f (u .entry) (u .within)) (u .unfit)
+
+-- a call that tests R2, R3 and the store's form, and then other lines
+abbrev storeLines : Desk → List ℕ → List Line → List Line
+storeLines d s ls = r2 d ∷ r3 d s ∷ r4a d s ∷ r4b d s ∷ r4c d s ∷ ls
+
+sized : (d : Desk) (s : List ℕ) (ls : List Line) (n : ℕ) → InRange d → storeLength d ≤ length s → First ls n → First (r2 d ∷ r3 d s ∷ ls) n
+unfolding First
+sized d s ls n r l f = inr (λ h. h r, inr (λ h. omega arith, f))
+
+store-first : (d : Desk) (s : List ℕ) (ls : List Line) (number : Admission → ℕ) → ((r : Refusal) → number (Away r) ≡ refusalNumber r)
+    → (Ready d s → First ls (number Admitted)) → First (storeLines d s ls) (number (admissionOf d s))
+unfolding First
+store-first d s ls number away rest =
+    by-admission d s (λ (a : Admission). First (storeLines d s ls) (number a))
+    (λ h. inl (h, away R2))
+    (λ r l. inr (λ h. h r, inl (l, away R3)))
+    (λ h i f.
+    let l = f .below in
+    sized d s (r4a d s ∷ r4b d s ∷ r4c d s ∷ ls) (number (Away (R4a (i + 1)))) (h .range) (h .long)
+    (inl (record { slot = i; within = omega arith; unfit = not-true (slotFits d s i) (f .passes) }, away (R4a (i + 1)))))
+    (λ h i n f.
+    let l = f .below in
+    sized d s (r4a d s ∷ r4b d s ∷ r4c d s ∷ ls) (number (Away (R4b (i + 1)))) (h .range) (h .long)
+    (inr (
+      none-unfit d s (slots-fit d s n),
+      inl (
+        by-repeats d s i (f .passes) (λ j k q. record { slot = i; earlier = j; before = k; within = omega arith; shared = q }),
+        away (R4b (i + 1)),
+      ),
+    )))
+    (λ h i n m f.
+    let l = f .below in
+    sized d s (r4a d s ∷ r4b d s ∷ r4c d s ∷ ls) (number (Away (R4c (i + 1)))) (h .range) (h .long)
+    (inr (
+      none-unfit d s (slots-fit d s n),
+      inr (
+        none-twice d s (slots-apart d s m),
+        inl (record { entry = i; within = omega arith; unfit = not-true (entryFits d s i) (f .passes) }, away (R4c (i + 1))),
+      ),
+    )))
+    (λ r.
+    sized d s (r4a d s ∷ r4b d s ∷ r4c d s ∷ ls) (number Admitted) (r .range) (r .long)
+    (inr (
+      none-unfit d s (r .form .slots),
+      inr (none-twice d s (r .form .single), inr (none-entry d s (r .form .entries), rest r)),
+    )))
+
+load-first : (d : Desk) (s reps stream : List ℕ) → First (r1 stream ∷ storeLines d s []) (loadCall d s reps stream .reply .number)
 unfolding First loadCall loadBy
 load-first d s reps stream =
-    by-test (λ (x : LoadCall). First (r1 stream ∷ r2 d ∷ r3 d s ∷ r4 d s ∷ []) (x .reply .number)) (ltb mostBytes (length stream)) _
+    by-test (λ (x : LoadCall). First (r1 stream ∷ storeLines d s []) (x .reply .number)) (ltb mostBytes (length stream)) _
     (loadBy (admissionOf d s) d s reps stream)
     (λ e. inl (ltb-true mostBytes (length stream) e, refl))
     (λ e.
@@ -143,12 +180,12 @@ needed-first d =
 
 -- the search finds the cue that is kept, and nothing where none is
 module _ (d : Desk) (s : List ℕ) (page whole tenths : ℕ) where
-  kept-first : (number : Found → ℕ) → ((i : ℕ) → number (at i) ≡ 0) → number nowhere ≡ 1
-      → First (notKept d s page whole tenths ∷ []) (number (find d s (cueName (cueKey page whole tenths))))
+  kept-first : (number : Found → ℕ) → ((i : ℕ) → number (at i) ≡ 0) → number nowhere ≡ notKeptWord
+      → First (lacking d s page whole tenths ∷ []) (number (find d s (cueName (cueKey page whole tenths))))
   unfolding First
   kept-first number kept none = cases (find d s (cueName (cueKey page whole tenths))) refl
     where
-      cases : (a : Found) → find d s (cueName (cueKey page whole tenths)) ≡ a → First (notKept d s page whole tenths ∷ []) (number a)
+      cases : (a : Found) → find d s (cueName (cueKey page whole tenths)) ≡ a → First (lacking d s page whole tenths ∷ []) (number a)
       cases (at i) e = inr (λ h. kept-absent (sym (kept-memory d s (cueName (cueKey page whole tenths)) i e) ∙ h), kept i)
       cases nowhere e = inl (absent-at d s (cueName (cueKey page whole tenths)) e, none)
 
@@ -176,15 +213,170 @@ pub find-lines : (d : Desk) (s : List ℕ) (page whole tenths : ℕ) → FindRef
 unfolding apart other findCall findBy placedAt
 find-lines d s page whole tenths =
     told _ _ refl
-    (store-first d s (notKept d s page whole tenths ∷ []) (λ b. findBy b d s (cueKey page whole tenths) .number) (λ r. refl)
+    (store-first d s (lacking d s page whole tenths ∷ []) (λ b. findBy b d s (cueKey page whole tenths) .number) (λ r. refl)
     (λ h. kept-first d s page whole tenths (λ f. placedAt d f .number) (λ i. refl) refl))
 
-look-lines : (d : Desk) (s : List ℕ) (page whole tenths : ℕ) → FindRefused d s page whole tenths (lookCall d s page whole tenths .word)
-unfolding apart other lookCall lookBy lookAt
-look-lines d s page whole tenths =
-    told _ _ refl
-    (store-first d s (notKept d s page whole tenths ∷ []) (λ b. lookBy b d s (cueKey page whole tenths) .word) (λ r. refl)
-    (λ h. kept-first d s page whole tenths (λ f. lookAt d s f .word) (λ i. refl) refl))
+-- ---- the place, and the word
+
+-- what is said of every answer of a call on a store
+pub record Said (d : Desk) (s : List ℕ) (x : Reply) : Type 0 where
+  pub place : PlaceTold d s (x .number) (x .place)
+  pub below : x .number < placeUnit
+
+-- an answer without a place
+plain-said : (d : Desk) (s : List ℕ) (n : ℕ) (l : List ℕ) → (n ≡ 0x4A → ⊥) → (n ≡ 0x4B → ⊥) → (n ≡ 0x4C → ⊥) → n < placeUnit
+    → Said d s (record { number = n; place = 0; told = l })
+plain-said d s n l a b c h =
+    record {
+      place =
+          record {
+            unfit = λ q. absurd (a q);
+            twice = λ q. absurd (b q);
+            entry = λ q. absurd (c q);
+            other = λ x y z. refl;
+            most = omega arith;
+          };
+      below = h;
+    }
+
+small-said : (d : Desk) (s : List ℕ) (n : ℕ) (l : List ℕ) → n ≤ 6 → Said d s (record { number = n; place = 0; told = l })
+small-said d s n l h = plain-said d s n l (λ q. omega arith) (λ q. omega arith) (λ q. omega arith) (omega arith)
+
+store-said : (d : Desk) (s : List ℕ) → Said d s (awayReply (admissionOf d s))
+store-said d s =
+    by-admission d s (λ (a : Admission). Said d s (awayReply a))
+    (λ h. small-said d s 2 [] (omega arith))
+    (λ h l. small-said d s 3 [] (omega arith))
+    (λ h i f.
+    let l = f .below in
+    let m = slots-le d (h .range) in
+    record {
+      place =
+          record {
+            unfit = λ q. record { index = i; counted = refl; first = f };
+            twice = λ q. absurd (omega arith);
+            entry = λ q. absurd (omega arith);
+            other = λ x y z. absurd (x refl);
+            most = omega arith;
+          };
+      below = omega arith;
+    })
+    (λ h i n f.
+    let l = f .below in
+    let m = slots-le d (h .range) in
+    record {
+      place =
+          record {
+            unfit = λ q. absurd (omega arith);
+            twice = λ q. record { index = i; counted = refl; first = f };
+            entry = λ q. absurd (omega arith);
+            other = λ x y z. absurd (y refl);
+            most = omega arith;
+          };
+      below = omega arith;
+    })
+    (λ h i n k f.
+    let l = f .below in
+    let m = entries-le d (h .range) in
+    record {
+      place =
+          record {
+            unfit = λ q. absurd (omega arith);
+            twice = λ q. absurd (omega arith);
+            entry = λ q. record { index = i; counted = refl; first = f };
+            other = λ x y z. absurd (z refl);
+            most = omega arith;
+          };
+      below = omega arith;
+    })
+    (λ r. small-said d s 0 [] (omega arith))
+
+pub away-most : (d : Desk) (s : List ℕ) {r : Refusal} → Away r ≡ admissionOf d s → refusalPlace r ≤ mostPlaces
+away-most d s e = subst (λ (a : Admission). awayReply a .place ≤ mostPlaces) (sym e) (store-said d s .place .most)
+
+load-by-said : (a : Admission) (d : Desk) (s reps stream : List ℕ) → Said d s (awayReply a) → Said d s (loadBy a d s reps stream .reply)
+unfolding loadBy
+load-by-said Admitted d s reps stream h = small-said d s 0 _ (omega arith)
+load-by-said (Away r) d s reps stream h = h
+
+pub load-said : (d : Desk) (s reps stream : List ℕ) → Said d s (loadCall d s reps stream .reply)
+unfolding loadCall
+load-said d s reps stream =
+    by-test (λ (x : LoadCall). Said d s (x .reply)) (ltb mostBytes (length stream)) _ (loadBy (admissionOf d s) d s reps stream)
+    (λ e. small-said d s 1 [] (omega arith)) (λ e. load-by-said (admissionOf d s) d s reps stream (store-said d s))
+
+put-said : (d : Desk) (s stream out : List ℕ) → Said d s (putCall stream out .reply)
+unfolding putCall
+put-said d s stream out =
+    by-test (λ (x : WriteCall). Said d s (x .reply)) (ltb mostBytes (length stream)) _ _ (λ e. small-said d s 5 [] (omega arith))
+    (λ e.
+    by-test (λ (x : WriteCall). Said d s (x .reply)) (ltb (length out) (length stream)) _ _
+    (λ f. small-said d s 6 _ (omega arith)) (λ f. small-said d s 0 _ (omega arith)))
+
+write-by-said : (a : Admission) (d : Desk) (s out : List ℕ) → Said d s (awayReply a) → Said d s (writeBy a d s out .reply)
+unfolding writeBy
+write-by-said Admitted d s out h = put-said d s (streamOf d s) out
+write-by-said (Away r) d s out h = h
+
+pub write-said : (d : Desk) (s out : List ℕ) → Said d s (writeCall d s out .reply)
+unfolding writeCall
+write-said d s out = write-by-said (admissionOf d s) d s out (store-said d s)
+
+pub empty-said : (d : Desk) (s : List ℕ) → Said d s (emptyCall d s .reply)
+unfolding emptyCall
+empty-said d s =
+    by-test (λ (x : EmptyCall). Said d s (x .reply)) (inRangeOf d) _ _
+    (λ e.
+    by-test (λ (x : EmptyCall). Said d s (x .reply)) (leb (storeLength d) (length s)) _ _
+    (λ f. small-said d s 0 [] (omega arith)) (λ f. small-said d s 3 [] (omega arith)))
+    (λ e. small-said d s 2 [] (omega arith))
+
+pub needed-said : (d : Desk) → Said d [] (neededCall d)
+unfolding neededCall
+needed-said d =
+    by-test (Said d []) (inRangeOf d) _ _ (λ e. small-said d [] 0 _ (omega arith)) (λ e. small-said d [] 2 [] (omega arith))
+
+placed-said : (d : Desk) (s : List ℕ) (a : Found) → Said d s (placedAt d a)
+unfolding placedAt
+placed-said d s (at i) = small-said d s 0 _ (omega arith)
+placed-said d s nowhere = plain-said d s 255 [] (λ q. omega arith) (λ q. omega arith) (λ q. omega arith) (omega arith)
+
+find-by-said : (a : Admission) (d : Desk) (s : List ℕ) (key : Key) → Said d s (awayReply a) → Said d s (findBy a d s key)
+unfolding findBy
+find-by-said Admitted d s key h = placed-said d s (find d s (cueName key))
+find-by-said (Away r) d s key h = h
+
+pub find-said : (d : Desk) (s : List ℕ) (page whole tenths : ℕ) → Said d s (findCall d s page whole tenths)
+unfolding findCall
+find-said d s page whole tenths = find-by-said (admissionOf d s) d s (cueKey page whole tenths) (store-said d s)
+
+-- a number below 256 and any place are told apart in the word
+pub word-told : (x : Reply) → x .number < placeUnit → WordTold x
+word-told x h = record { number = omega arith; place = omega arith }
+
+-- a word up to 6 is a number without a place, and such a number is its word
+pub word-number : {d : Desk} {s : List ℕ} {x : Reply} → Said d s x → replyWord x ≤ 6 → x .number ≡ replyWord x
+word-number {x = x} h l = omega arith
+
+pub number-word : {d : Desk} {s : List ℕ} {x : Reply} → Said d s x → x .number ≤ 6 → replyWord x ≡ x .number
+number-word {x = x} h l =
+    let p : x .place ≡ 0 = h .place .other (λ q. omega arith) (λ q. omega arith) (λ q. omega arith) in
+    omega arith
+
+-- a look-up's word is that of what `find` answers
+look-at-word : (d : Desk) (s : List ℕ) (a : Found) → lookAt d s a .word ≡ replyWord (placedAt d a)
+unfolding lookAt placedAt
+look-at-word d s (at i) = refl
+look-at-word d s nowhere = refl
+
+look-by-word : (a : Admission) (d : Desk) (s : List ℕ) (key : Key) → lookBy a d s key .word ≡ replyWord (findBy a d s key)
+unfolding lookBy findBy
+look-by-word Admitted d s key = look-at-word d s (find d s (cueName key))
+look-by-word (Away r) d s key = refl
+
+pub look-word : (d : Desk) (s : List ℕ) (page whole tenths : ℕ) → lookCall d s page whole tenths .word ≡ replyWord (findCall d s page whole tenths)
+unfolding lookCall findCall
+look-word d s page whole tenths = look-by-word (admissionOf d s) d s (cueKey page whole tenths)
 
 -- ---- the promises
 
@@ -207,9 +399,40 @@ needed-refused d a e = subst (NeededRefused d) (sym (ap (λ (y : Reply). y .numb
 pub find-refused : (d : Desk) (s : List ℕ) (page whole tenths : ℕ) (a : Placed) → FindPromise d s page whole tenths a
     → FindRefused d s page whole tenths (findReply a .number)
 find-refused d s page whole tenths a e =
-    subst (FindRefused d s page whole tenths) (sym (ap (λ (y : Reply). y .number) (e .0))) (find-lines d s page whole tenths)
+    subst (FindRefused d s page whole tenths) (sym (ap (λ (y : Reply). y .number) e)) (find-lines d s page whole tenths)
 
+-- of a look-up by its word
 pub look-refused : (d : Desk) (s : RefT (List ℕ)) (page whole tenths : ℕ) {r : RefT (List ℕ)} {answer : ℕ}
-    → LookPromise d s page whole tenths r answer → FindRefused d (now s) page whole tenths answer
+    → LookPromise d s page whole tenths r answer → FindRefused d (now s) page whole tenths (answer % placeUnit)
 look-refused d s page whole tenths e =
-    subst (FindRefused d (now s) page whole tenths) (sym (e .says)) (look-lines d (now s) page whole tenths)
+    let x = findCall d (now s) page whole tenths in
+    subst (FindRefused d (now s) page whole tenths)
+    (sym (ap (λ (w : ℕ). w % placeUnit) (e .says ∙ look-word d (now s) page whole tenths)
+    ∙ word-told x (find-said d (now s) page whole tenths .below) .number))
+    (find-lines d (now s) page whole tenths)
+
+-- and the place
+pub load-place : (d : Desk) (s reps stream : List ℕ) (a : Loaded) {t q : List ℕ} → LoadPromise d s reps stream a t q
+    → PlaceTold d s (loadReply a .number) (loadReply a .place)
+load-place d s reps stream a e =
+    subst (λ (y : Reply). PlaceTold d s (y .number) (y .place)) (sym (ap (λ (y : LoadCall). y .reply) e)) (load-said d s reps stream .place)
+
+pub write-place : (d : Desk) (s out : List ℕ) (a : Written) {o : List ℕ} → WritePromise d s out a o
+    → PlaceTold d s (writeReply a .number) (writeReply a .place)
+write-place d s out a e =
+    subst (λ (y : Reply). PlaceTold d s (y .number) (y .place)) (sym (ap (λ (y : WriteCall). y .reply) e)) (write-said d s out .place)
+
+pub find-place : (d : Desk) (s : List ℕ) (page whole tenths : ℕ) (a : Placed) → FindPromise d s page whole tenths a
+    → PlaceTold d s (findReply a .number) (findReply a .place)
+find-place d s page whole tenths a e =
+    subst (λ (y : Reply). PlaceTold d s (y .number) (y .place)) (sym e) (find-said d s page whole tenths .place)
+
+pub look-place : (d : Desk) (s : RefT (List ℕ)) (page whole tenths : ℕ) {r : RefT (List ℕ)} {answer : ℕ}
+    → LookPromise d s page whole tenths r answer → PlaceTold d (now s) (answer % placeUnit) (answer / placeUnit)
+look-place d s page whole tenths e =
+    let x = findCall d (now s) page whole tenths in
+    let f = find-said d (now s) page whole tenths in
+    let w = word-told x (f .below) in
+    subst (λ (v : ℕ). PlaceTold d (now s) (v % placeUnit) (v / placeUnit)) (sym (e .says ∙ look-word d (now s) page whole tenths))
+    (subst (λ (n : ℕ). PlaceTold d (now s) n (replyWord x / placeUnit)) (sym (w .number))
+    (subst (PlaceTold d (now s) (x .number)) (sym (w .place)) (f .place)))

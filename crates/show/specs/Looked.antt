@@ -8,6 +8,7 @@ use mathlib.Core.Path.{_≡_}
 use Prim.Native.Nat.{ℕ, _+_}
 use denote.Ref.{RefT, ptr}
 use Rattle.store_desk.specs.declared.Desk.{Desk}
+use Rattle.store_desk.specs.Refusal.{replyWord}
 use Rattle.store.specs.Good.{Ready}
 use Rattle.store.specs.View.{Memory, Kept, absent, kept, memoryOf}
 use Rattle.show.specs.declared.Placed.{Placed}
@@ -24,13 +25,13 @@ pub record KeptLevels (x : Kept) (levels : List ℕ) : Type 0 where
   pub held : x ≡ kept memory
   pub same : memory .levels ≡ levels
 
--- the part r and the answer word of a look-up: 0 with the levels of the kept cue; 1 exactly where the call is not turned away and no such
--- cue is kept
+-- the part r and the answer word of a look-up: 0 with the levels of the kept cue; 255 exactly where the call is not turned away and no
+-- such cue is kept
 pub record LookedShow (d : Desk) (s : List ℕ) (page whole tenths : ℕ) (r : List ℕ) (answer : ℕ) : Type 0 where
   pub levels : answer ≡ keptWord → KeptLevels (cueMemory d s page whole tenths) r
   pub none : (answer ≡ notKeptWord) ↔ (Ready d s × (cueMemory d s page whole tenths ≡ absent))
 
--- what `find` answers beside it: the same number, and the place where the part r of the store s begins
+-- what `find` answers beside it: the same word, and the place where the part r of the store s begins
 pub record FoundPart (s r : RefT (List ℕ)) (answer : ℕ) (a : Placed) : Type 0 where
-  pub number : findReply a .number ≡ answer
+  pub word : replyWord (findReply a) ≡ answer
   pub place : (n : ℕ) → a ≡ At n → (ptr r .0 ≡ ptr s .0) × (ptr r .1 ≡ ptr s .1 + n)

@@ -73,9 +73,9 @@ module _ (d : Desk) (s : List ℕ) where
       by-form d s (λ (x : StoreForm). isGood x ≡ true → GoodForm d s)
       (λ i r e. clash e refl) (λ i a r e. clash e refl) (λ i a b r e. clash e refl) (λ g e. g)
 
-  pub good-complete : GoodForm d s → goodForm d s ≡ true
-  unfolding goodForm formOf formBy isGood badSlot repeatedSlot badEntry repeats
-  good-complete g =
+  pub form-is-good : GoodForm d s → formOf d s ≡ Good
+  unfolding formOf formBy badSlot repeatedSlot badEntry repeats
+  form-is-good g =
       let a : badSlot d s ≡ nowhere =
       none-is (λ i. not (slotFits d s i)) (slotsOf d) 0 (λ i h l. not-of-true (slotFits d s i) (g .slots i (omega arith)))
       in
@@ -88,7 +88,11 @@ module _ (d : Desk) (s : List ℕ) where
       let c : badEntry d s ≡ nowhere =
       none-is (λ i. not (entryFits d s i)) (entriesOf d) 0 (λ i h l. not-of-true (entryFits d s i) (g .entries i (omega arith)))
       in
-      λ i. isGood (formBy (a i) (b i) (c i))
+      λ i. formBy (a i) (b i) (c i)
+
+  pub good-complete : GoodForm d s → goodForm d s ≡ true
+  unfolding goodForm isGood
+  good-complete g = ap isGood (form-is-good g)
 
 -- slots that share a name are used, under that name
 pub shares-parts : (d : Desk) (s : List ℕ) (i j : ℕ) → shares d s i j ≡ true

@@ -4,11 +4,11 @@
 use mathlib.Core.Path.{_≡_, refl, sym, ap, _∙_, subst}
 use mathlib.Core.Bool.{true, false, not, _&&_}
 use mathlib.Core.List.{List}
-use Prim.Native.Nat.{ℕ, _-_, _<_, _≤_}
+use Prim.Native.Nat.{ℕ, _+_, _-_, _<_, _≤_}
 use native.Mathlib.Omega.{arith}
 use borrow.Author.Tests.{not-true}
 use Rattle.cells.specs.Search.{allFrom}
-use Rattle.cells.proofs.Search.{all-at, all-is}
+use Rattle.cells.proofs.Search.{by-first, all-at, all-is}
 use Rattle.cells.proofs.Split.{by-bool, same-test, clash, and-true, not-of-true, not-of-false}
 use Rattle.store_desk.specs.declared.Desk.{Desk}
 use Rattle.store_desk.specs.declared.Kind.{Kind}
@@ -27,6 +27,16 @@ module _ (d : Desk) (s : List ℕ) (i : ℕ) where
       not-of-true (allFrom (λ j. not (shares d s i j)) i 0)
       (all-is (λ j. not (shares d s i j)) i 0
       (λ j h l. not-of-false (shares d s i j) (by-bool (shares d s i j) (λ e. clash (shares-parts d s i j e .0) u) (λ e. e))))
+
+  -- the earlier slot that it repeats
+  pub by-repeats : {X : Type 0} → repeats d s i ≡ true → ((j : ℕ) → j < i → shares d s i j ≡ true → X) → X
+  unfolding repeats
+  by-repeats r f =
+      by-first (shares d s i) i 0
+      (λ j e p. let l : j < 0 + i = p .below in f j (omega arith) (p .passes))
+      (λ e none.
+      clash (all-is (λ j. not (shares d s i j)) i 0 (λ j h l. not-of-false (shares d s i j) (none j h l)))
+      (not-true (allFrom (λ j. not (shares d s i j)) i 0) r))
 
   -- the first slot of the kind, and whether each slot from there on holds another key
   module _ (h : i < slotsOf d) (u : isUsed (headAt d s i) ≡ true) where

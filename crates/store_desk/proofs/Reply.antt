@@ -1,10 +1,10 @@
--- A refusal's number is never 0 and takes eight bits; its number, its place and what it tells beside them tell it from every other. So no second
+-- A refusal's number is 1 to 4C in hexadecimal; its number, its place and what it tells beside them tell it from every other. So no second
 -- answer of `needed` fits its promise, and its refusal tells nothing but the number. By the cases of a refusal.
 -- Assumes nothing.
 use mathlib.Core.Path.{_≡_, refl, sym, ap, _∙_}
 use mathlib.Core.Bool.{cond}
 use mathlib.Core.List.{List, [], _∷_}
-use Prim.Native.Nat.{ℕ, _≤_, _<_}
+use Prim.Native.Nat.{ℕ, _≤_}
 use native.Mathlib.Omega.{arith}
 use lib.Dec.{eqb}
 use lib.ListN.{getD}
@@ -13,7 +13,7 @@ use Rattle.store_desk.specs.declared.Needed.{Needed}
 use Rattle.store_desk.specs.declared.Needed.the-variants.{Away, Length}
 use Rattle.store_desk.specs.declared.Refusal.{Refusal}
 use Rattle.store_desk.specs.declared.Refusal.the-variants.{R1, R2, R3, R4a, R4b, R4c, R5, R6}
-use Rattle.store_desk.specs.Refusal.{refusalNumber, Reply, replied, refused, placeUnit, neededReply, neededCall, NeededPromise}
+use Rattle.store_desk.specs.Refusal.{refusalNumber, Reply, replied, refused, neededReply, neededCall, NeededPromise}
 use Rattle.store_desk.specs.Size.{inRangeOf}
 use Rattle.cells.proofs.Split.{by-test}
 
@@ -27,15 +27,16 @@ refusal-some (R4c p) = omega arith
 refusal-some R5 = omega arith
 refusal-some (R6 n) = omega arith
 
-pub refusal-below : (r : Refusal) → refusalNumber r < placeUnit
-refusal-below R1 = omega arith
-refusal-below R2 = omega arith
-refusal-below R3 = omega arith
-refusal-below (R4a p) = omega arith
-refusal-below (R4b p) = omega arith
-refusal-below (R4c p) = omega arith
-refusal-below R5 = omega arith
-refusal-below (R6 n) = omega arith
+-- the highest is R4c's
+pub refusal-most : (r : Refusal) → refusalNumber r ≤ 0x4C
+refusal-most R1 = omega arith
+refusal-most R2 = omega arith
+refusal-most R3 = omega arith
+refusal-most (R4a p) = omega arith
+refusal-most (R4b p) = omega arith
+refusal-most (R4c p) = omega arith
+refusal-most R5 = omega arith
+refusal-most (R6 n) = omega arith
 
 -- the refusal of a number, a place and what is told beside them
 named : Reply → Refusal
@@ -76,7 +77,11 @@ needed-apart (Length n) (Length m) e = ap (λ (x : Reply). Length (getD (x .told
 pub one-needed : (d : Desk) {a b : Needed} → NeededPromise d a → NeededPromise d b → a ≡ b
 one-needed d e f = needed-apart _ _ (e ∙ sym f)
 
--- R2 tells nothing beside its number
+-- R2 tells nothing beside its number, no place either
+pub needed-placeless : (d : Desk) → neededCall d .place ≡ 0
+unfolding neededCall
+needed-placeless d = by-test (λ (x : Reply). x .place ≡ 0) (inRangeOf d) _ _ (λ e. refl) (λ e. refl)
+
 pub needed-mute : (d : Desk) → (neededCall d .number ≡ 0 → ⊥) → neededCall d .told ≡ []
 unfolding neededCall
 needed-mute d =

@@ -1,10 +1,10 @@
 -- `find` meets its contract: a refusal is handed on, and otherwise `levels_place` answers.
 -- Assumes nothing.
-use Rattle.show.proofs.Laws.{taken, find-by, find-away, placed-as}
+use Rattle.show.proofs.Laws.{taken, find-by}
 use Rattle.show.proofs.find.Statement.{statement}
 use Rattle.show.proofs.find.Tie as tie
 use Rattle.show.specs.Calls.{findBy}
-use Rattle.show.specs.declared.Admission.the-variants.{Admitted}
+use Rattle.show.specs.declared.Admission.the-variants.{Admitted, Away}
 use borrow.Author.Needs.{needs}
 use mathlib.Core.Path.{sym, _∙_}
 
@@ -21,11 +21,12 @@ levels-place-requires : tie.Need-levels-place-requires
 levels-place-requires c κs = taken _ _ (sym (c .enum-told .given .1) ∙ c .before .before .turned-away .ensures)
 
 returns : tie.Need-returns
-returns c = find-away _ _ _ _ _ (sym (c .before .refusal .given .1) ∙ c .before .before .before .turned-away .ensures)
+unfolding findBy
+returns c = find-by _ _ _ _ _ (Away _) (sym (c .before .refusal .given .1) ∙ c .before .before .before .turned-away .ensures)
 
 returns-2 : tie.Need-returns-2
 unfolding findBy
-returns-2 c = placed-as (c .levels-place .ensures) (find-by _ _ _ _ _ Admitted (sym (c .before .enum-told .given .1) ∙ c .before .before .before .turned-away .ensures))
+returns-2 c = c .levels-place .ensures ∙ find-by _ _ _ _ _ Admitted (sym (c .before .enum-told .given .1) ∙ c .before .before .before .turned-away .ensures)
 
 pub find-spec : {M : Type 1} → statement M
 find-spec =

@@ -1,6 +1,7 @@
 -- `levels_of` meets its contract: the slot that is found holds the levels, and an empty part lies at the store's start.
 -- Assumes nothing.
 use Rattle.show.proofs.Laws.{looked-at, look-none, looked}
+use Rattle.show.specs.Calls.{notKeptWord}
 use Rattle.show.proofs.levels_of.Statement.{statement}
 use Rattle.show.proofs.levels_of.Tie as tie
 use Rattle.store_code.proofs.Found.{find-inside, place-at, place-nowhere}
@@ -33,7 +34,7 @@ returns : tie.Need-returns
 returns c = looked-at _ _ _ (place-at (c .before .before .before .before .cue-slot .ensures) (c .before .before .slot .given .1)) (c .levels .ensures)
 
 returns-2 : tie.Need-returns-2
-returns-2 c = looked 1 (look-none _ _ _ (place-nowhere (c .before .before .before .cue-slot .ensures) (c .before .enum-told .given .1))) refl refl refl (omega arith)
+returns-2 c = looked notKeptWord (look-none _ _ _ (place-nowhere (c .before .before .before .cue-slot .ensures) (c .before .enum-told .given .1))) refl refl refl (omega arith)
 
 pub levels-of-spec : {M : Type 1} → statement M
 levels-of-spec =

@@ -1,6 +1,7 @@
 -- `look_up` meets its contract: a refusal hands out the empty part at the store's start, and otherwise `levels_of` answers.
 -- Assumes nothing.
 use Rattle.show.proofs.Laws.{taken, look-by, looked, looked-as}
+use Rattle.show.proofs.Refusals.{away-most}
 use Rattle.show.proofs.look_up.Statement.{statement}
 use Rattle.show.proofs.look_up.Tie as tie
 use Rattle.show.specs.Calls.{lookBy}
@@ -15,8 +16,8 @@ turned-away-requires c κs = search needs
 enum-known-refusal : tie.Need-enum-known-refusal
 enum-known-refusal c = search needs
 
-number-requires : tie.Need-number-requires
-number-requires c κs = search needs
+word-requires : tie.Need-word-requires
+word-requires c κs = away-most _ _ (sym (c .before .refusal .given .1) ∙ c .before .before .before .turned-away .ensures)
 
 sub-result : tie.Need-sub-result
 sub-result c = search needs
@@ -35,7 +36,7 @@ levels-of-requires c κs = taken _ _ (sym (c .before .enum-told .given .1) ∙ c
 
 returns : tie.Need-returns
 unfolding lookBy
-returns c = looked _ (look-by _ _ _ _ _ (Away _) (sym (c .before .before .before .refusal .given .1) ∙ c .before .before .before .before .before .turned-away .ensures)) (c .before .number .ensures) refl refl (omega arith)
+returns c = looked _ (look-by _ _ _ _ _ (Away _) (sym (c .before .before .before .refusal .given .1) ∙ c .before .before .before .before .before .turned-away .ensures)) (c .before .word .ensures) refl refl (omega arith)
 
 returns-2 : tie.Need-returns-2
 unfolding lookBy
@@ -47,7 +48,7 @@ look-up-spec =
     (tie.spec
     turned-away-requires
     enum-known-refusal
-    number-requires
+    word-requires
     sub-result
     part-result-start
     part-result-end

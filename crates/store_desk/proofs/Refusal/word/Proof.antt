@@ -1,6 +1,6 @@
--- `word` meets its contract: the number takes eight bits (law `refusal-below`), the place stands above them.
+-- `word` meets its contract: the number takes eight bits (law `refusal-most`), the place stands above them.
 -- Assumes nothing.
-use Rattle.store_desk.proofs.Reply.{refusal-below}
+use Rattle.store_desk.proofs.Reply.{refusal-most}
 use native.Mathlib.Omega.{arith}
 use borrow.Author.Needs.{needs}
 use Rattle.store_desk.proofs.Refusal.word.Statement.{statement}
@@ -19,7 +19,7 @@ mul-result : tie.Need-mul-result
 mul-result c = search needs
 
 add-result : tie.Need-add-result
-add-result c = omega (arith, refusal-below (c .before .before .args .self), c .before .number .ensures, c .place .ensures)
+add-result c = omega (arith, refusal-most (c .before .before .args .self), c .before .number .ensures, c .place .ensures)
 
 returns : tie.Need-returns
 returns c = search needs
