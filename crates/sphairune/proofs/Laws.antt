@@ -115,25 +115,25 @@ some r e z =
 within : {d : Desk} {s : List ℕ} {x : Reply} (r : Refusal) → refused r ≡ x → Said d s x → refusalPlace r ≤ mostPlaces
 within r e h = subst (λ (y : Reply). y .place ≤ mostPlaces) (sym e) (h .place .most)
 
-module _ {d : Desk} where
-  pub needed-within : {a : Needed} {r : Refusal} → NeededPromise d a → a ≡ NeededAway r → refusalPlace r ≤ mostPlaces
-  needed-within {a} {r} f g = within r (sym (ap neededReply g) ∙ f) (needed-said d)
+pub needed-within : (d : Desk) {a : Needed} {r : Refusal} → NeededPromise d a → a ≡ NeededAway r → refusalPlace r ≤ mostPlaces
+needed-within d {a} {r} f g = within r (sym (ap neededReply g) ∙ f) (needed-said d)
 
-  pub empty-within : {s : List ℕ} {a : Emptied} {t : List ℕ} {r : Refusal} → EmptyPromise d s a t → a ≡ EmptyAway r → refusalPlace r ≤ mostPlaces
-  empty-within {s} {a} {t} {r} f g = within r (sym (ap emptyReply g) ∙ ap (λ (x : EmptyCall). x .reply) f) (empty-said d s)
+pub empty-within : (d : Desk) (s : List ℕ) {a : Emptied} {t : List ℕ} {r : Refusal} → EmptyPromise d s a t → a ≡ EmptyAway r
+    → refusalPlace r ≤ mostPlaces
+empty-within d s {a} {t} {r} f g = within r (sym (ap emptyReply g) ∙ ap (λ (x : EmptyCall). x .reply) f) (empty-said d s)
 
-  pub load-within : {s stream reps : List ℕ} {a : Loaded} {t q : List ℕ} {r : Refusal} → LoadPromise d s reps stream a t q → a ≡ LoadAway r
-      → refusalPlace r ≤ mostPlaces
-  load-within {s} {stream} {reps} {a} {t} {q} {r} f g =
-      within r (sym (ap loadReply g) ∙ ap (λ (x : LoadCall). x .reply) f) (load-said d s reps stream)
+pub load-within : (d : Desk) (s reps stream : List ℕ) {a : Loaded} {t q : List ℕ} {r : Refusal} → LoadPromise d s reps stream a t q
+    → a ≡ LoadAway r → refusalPlace r ≤ mostPlaces
+load-within d s reps stream {a} {t} {q} {r} f g =
+    within r (sym (ap loadReply g) ∙ ap (λ (x : LoadCall). x .reply) f) (load-said d s reps stream)
 
-  pub write-within : {s out : List ℕ} {a : Written} {o : List ℕ} {r : Refusal} → WritePromise d s out a o → a ≡ WriteAway r
-      → refusalPlace r ≤ mostPlaces
-  write-within {s} {out} {a} {o} {r} f g = within r (sym (ap writeReply g) ∙ ap (λ (x : WriteCall). x .reply) f) (write-said d s out)
+pub write-within : (d : Desk) (s out : List ℕ) {a : Written} {o : List ℕ} {r : Refusal} → WritePromise d s out a o → a ≡ WriteAway r
+    → refusalPlace r ≤ mostPlaces
+write-within d s out {a} {o} {r} f g = within r (sym (ap writeReply g) ∙ ap (λ (x : WriteCall). x .reply) f) (write-said d s out)
 
-  pub find-within : {s : List ℕ} {page whole tenths : ℕ} {a : Placed} {r : Refusal} → FindPromise d s page whole tenths a → a ≡ FindAway r
-      → refusalPlace r ≤ mostPlaces
-  find-within {s} {page} {whole} {tenths} {a} {r} f g = within r (sym (ap findReply g) ∙ f) (find-said d s page whole tenths)
+pub find-within : (d : Desk) (s : List ℕ) (page whole tenths : ℕ) {a : Placed} {r : Refusal} → FindPromise d s page whole tenths a
+    → a ≡ FindAway r → refusalPlace r ≤ mostPlaces
+find-within d s page whole tenths {a} {r} f g = within r (sym (ap findReply g) ∙ f) (find-said d s page whole tenths)
 
 module _ (limits : List ℕ) {d : Desk} (e : d ≡ deskOf limits) where
   pub needed-by : (l : List ℕ) {a : Needed} {k : List ℕ} → NeededPromise d a → (b : Needed) → a ≡ b → k ≡ notedFrom 0 l (neededReply b .told)

@@ -1,11 +1,11 @@
 -- `note_told` meets its contract: R6 tells the length needed, and every other refusal leaves the list.
 -- Assumes nothing.
 use Rattle.sphairune.proofs.Laws.{told-length, told-none}
-use Rattle.sphairune.proofs.note_told.Statement.{statement}
-use Rattle.sphairune.proofs.note_told.Tie as tie
-use Rattle.store_desk.specs.declared.Refusal.the-variants.{R1, R2, R3, R4, R5}
+use Rattle.store_desk.specs.declared.Refusal.the-variants.{R1, R2, R3, R4a, R4b, R4c, R5}
 use borrow.Author.Needs.{needs}
 use mathlib.Core.Path.{refl}
+use Rattle.sphairune.proofs.note_told.Statement.{statement}
+use Rattle.sphairune.proofs.note_told.Tie as tie
 
 enum-known-refusal : tie.Need-enum-known-refusal
 enum-known-refusal c = search needs
@@ -28,6 +28,12 @@ enum-told-4 c = search needs
 enum-told-5 : tie.Need-enum-told-5
 enum-told-5 c = search needs
 
+enum-told-6 : tie.Need-enum-told-6
+enum-told-6 c = search needs
+
+enum-told-7 : tie.Need-enum-told-7
+enum-told-7 c = search needs
+
 same-length : tie.Need-same-length
 same-length c = search needs
 
@@ -44,10 +50,16 @@ returns-4 : tie.Need-returns-4
 returns-4 c = told-none _ R3 (c .enum-told3 .given .1) refl
 
 returns-5 : tie.Need-returns-5
-returns-5 c = told-none _ R4 (c .enum-told4 .given .1) refl
+returns-5 c = told-none _ (R4a _) (c .enum-told4 .given .1) refl
 
 returns-6 : tie.Need-returns-6
-returns-6 c = told-none _ R5 (c .enum-told5 .given .1) refl
+returns-6 c = told-none _ (R4b _) (c .enum-told5 .given .1) refl
+
+returns-7 : tie.Need-returns-7
+returns-7 c = told-none _ (R4c _) (c .enum-told6 .given .1) refl
+
+returns-8 : tie.Need-returns-8
+returns-8 c = told-none _ R5 (c .enum-told7 .given .1) refl
 
 pub note-told-spec : {M : Type 1} → statement M
 note-told-spec =
@@ -60,10 +72,14 @@ note-told-spec =
     enum-told-3
     enum-told-4
     enum-told-5
+    enum-told-6
+    enum-told-7
     same-length
     returns
     returns-2
     returns-3
     returns-4
     returns-5
-    returns-6)
+    returns-6
+    returns-7
+    returns-8)

@@ -1,7 +1,7 @@
--- `sphairune_empty` meets its contract: a refusal gives its number, and done is 0.
+-- `sphairune_empty` meets its contract: a refusal gives its word, and done is 0.
 -- Assumes nothing.
 use Rattle.show.specs.declared.Emptied.the-variants.{Away, Done}
-use Rattle.sphairune.proofs.Laws.{answered, empty-by}
+use Rattle.sphairune.proofs.Laws.{answered, empty-within, empty-by}
 use Rattle.sphairune.proofs.sphairune_empty.Statement.{statement}
 use Rattle.sphairune.proofs.sphairune_empty.Tie as tie
 use borrow.Author.Needs.{needs}
@@ -15,8 +15,8 @@ empty-requires c κs = search needs
 enum-known-refusal : tie.Need-enum-known-refusal
 enum-known-refusal c = search needs
 
-number-requires : tie.Need-number-requires
-number-requires c κs = search needs
+word-requires : tie.Need-word-requires
+word-requires c κs = empty-within _ _ (c .before .before .before .before .before .empty .ensures) (c .before .refusal .given .1)
 
 enum-told : tie.Need-enum-told
 enum-told c = search needs
@@ -25,7 +25,7 @@ same-length : tie.Need-same-length
 same-length c = search needs
 
 returns : tie.Need-returns
-returns c = answered (c .number .ensures) (empty-by _ (c .before .before .before .before .before .before .before .before .desk-of .ensures) _ (c .before .before .before .before .before .before .empty .ensures) (Away _) (c .before .before .refusal .given .1))
+returns c = answered (c .word .ensures) (empty-by _ (c .before .before .before .before .before .before .before .before .desk-of .ensures) _ (c .before .before .before .before .before .before .empty .ensures) (Away _) (c .before .before .refusal .given .1))
 
 same-length-2 : tie.Need-same-length-2
 same-length-2 c = search needs
@@ -40,7 +40,7 @@ sphairune-empty-spec =
     desk-of-requires
     empty-requires
     enum-known-refusal
-    number-requires
+    word-requires
     enum-told
     same-length
     returns

@@ -1,7 +1,7 @@
--- `sphairune_find` meets its contract: a refusal gives its number, and the place goes into the lent list.
+-- `sphairune_find` meets its contract: a refusal gives its word, and the place goes into the lent list.
 -- Assumes nothing.
 use Rattle.show.specs.declared.Placed.the-variants.{NotKept, At}
-use Rattle.sphairune.proofs.Laws.{answered, mute-list, find-by, find-away}
+use Rattle.sphairune.proofs.Laws.{answered, find-within, mute-list, find-by, find-away}
 use Rattle.sphairune.proofs.sphairune_find.Statement.{statement}
 use Rattle.sphairune.proofs.sphairune_find.Tie as tie
 use borrow.Author.Needs.{needs}
@@ -16,8 +16,8 @@ find-requires c κs = search needs
 enum-known-refusal : tie.Need-enum-known-refusal
 enum-known-refusal c = search needs
 
-number-requires : tie.Need-number-requires
-number-requires c κs = search needs
+word-requires : tie.Need-word-requires
+word-requires c κs = find-within _ _ _ _ _ (c .before .before .before .find .ensures) (c .before .refusal .given .1)
 
 enum-told : tie.Need-enum-told
 enum-told c = search needs
@@ -29,7 +29,7 @@ note-length-requires : tie.Need-note-length-requires
 note-length-requires c κs = search needs
 
 returns : tie.Need-returns
-returns c = answered (c .number .ensures) (find-away _ (c .before .before .before .before .before .desk-of .ensures) _ _ _ _ _ (c .before .before .before .before .find .ensures) (c .before .before .refusal .given .1))
+returns c = answered (c .word .ensures) (find-away _ (c .before .before .before .before .before .desk-of .ensures) _ _ _ _ _ (c .before .before .before .before .find .ensures) (c .before .before .refusal .given .1))
 
 returns-2 : tie.Need-returns-2
 returns-2 c = find-by _ (c .before .before .before .desk-of .ensures) _ _ _ _ _ (c .before .before .find .ensures) NotKept (c .enum-told .given .1) (mute-list _ refl)
@@ -47,7 +47,7 @@ sphairune-find-spec =
     desk-of-requires
     find-requires
     enum-known-refusal
-    number-requires
+    word-requires
     enum-told
     enum-known-at
     note-length-requires

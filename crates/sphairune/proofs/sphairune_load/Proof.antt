@@ -1,7 +1,7 @@
--- `sphairune_load` meets its contract: a refusal gives its number, and the totals go into the lent list.
+-- `sphairune_load` meets its contract: a refusal gives its word, and the totals go into the lent list.
 -- Assumes nothing.
 use Rattle.show.specs.declared.Loaded.the-variants.{Done}
-use Rattle.sphairune.proofs.Laws.{answered, load-by, load-away}
+use Rattle.sphairune.proofs.Laws.{answered, load-within, load-by, load-away}
 use Rattle.sphairune.proofs.sphairune_load.Statement.{statement}
 use Rattle.sphairune.proofs.sphairune_load.Tie as tie
 use borrow.Author.Needs.{needs}
@@ -15,8 +15,8 @@ load-requires c κs = search needs
 enum-known-refusal : tie.Need-enum-known-refusal
 enum-known-refusal c = search needs
 
-number-requires : tie.Need-number-requires
-number-requires c κs = search needs
+word-requires : tie.Need-word-requires
+word-requires c κs = load-within _ _ _ _ (c .before .before .before .before .before .before .before .load .ensures) (c .before .refusal .given .1)
 
 enum-known-t : tie.Need-enum-known-t
 enum-known-t c = search needs
@@ -31,7 +31,7 @@ same-length-2 : tie.Need-same-length-2
 same-length-2 c = search needs
 
 returns : tie.Need-returns
-returns c = answered (c .number .ensures) (load-away _ (c .before .before .before .before .before .before .before .before .before .before .before .desk-of .ensures) _ _ _ _ (c .before .before .before .before .before .before .before .before .load .ensures) (c .before .before .refusal .given .1))
+returns c = answered (c .word .ensures) (load-away _ (c .before .before .before .before .before .before .before .before .before .before .before .desk-of .ensures) _ _ _ _ (c .before .before .before .before .before .before .before .before .load .ensures) (c .before .before .refusal .given .1))
 
 same-length-3 : tie.Need-same-length-3
 same-length-3 c = search needs
@@ -52,7 +52,7 @@ sphairune-load-spec =
     desk-of-requires
     load-requires
     enum-known-refusal
-    number-requires
+    word-requires
     enum-known-t
     note-totals-requires
     same-length

@@ -1,6 +1,6 @@
--- `sphairune_needed` meets its contract: a refusal gives its number, and the length goes into the lent list.
+-- `sphairune_needed` meets its contract: a refusal gives its word, and the length goes into the lent list.
 -- Assumes nothing.
-use Rattle.sphairune.proofs.Laws.{answered, needed-by, needed-away}
+use Rattle.sphairune.proofs.Laws.{answered, needed-within, needed-by, needed-away}
 use Rattle.sphairune.proofs.sphairune_needed.Statement.{statement}
 use Rattle.sphairune.proofs.sphairune_needed.Tie as tie
 use Rattle.store_desk.specs.declared.Needed.the-variants.{Length}
@@ -15,8 +15,8 @@ needed-requires c κs = search needs
 enum-known-refusal : tie.Need-enum-known-refusal
 enum-known-refusal c = search needs
 
-number-requires : tie.Need-number-requires
-number-requires c κs = search needs
+word-requires : tie.Need-word-requires
+word-requires c κs = needed-within _ (c .before .before .before .needed .ensures) (c .before .refusal .given .1)
 
 enum-known-n : tie.Need-enum-known-n
 enum-known-n c = search needs
@@ -25,7 +25,7 @@ note-length-requires : tie.Need-note-length-requires
 note-length-requires c κs = search needs
 
 returns : tie.Need-returns
-returns c = answered (c .number .ensures) (needed-away _ (c .before .before .before .before .before .desk-of .ensures) _ (c .before .before .before .before .needed .ensures) (c .before .before .refusal .given .1))
+returns c = answered (c .word .ensures) (needed-away _ (c .before .before .before .before .before .desk-of .ensures) _ (c .before .before .before .before .needed .ensures) (c .before .before .refusal .given .1))
 
 same-length : tie.Need-same-length
 same-length c = search needs
@@ -40,7 +40,7 @@ sphairune-needed-spec =
     desk-of-requires
     needed-requires
     enum-known-refusal
-    number-requires
+    word-requires
     enum-known-n
     note-length-requires
     returns

@@ -1,7 +1,7 @@
--- `sphairune_write` meets its contract: a refusal gives its number and what it tells, and the length goes into the lent list.
+-- `sphairune_write` meets its contract: a refusal gives its word and what it tells, and the length goes into the lent list.
 -- Assumes nothing.
 use Rattle.show.specs.declared.Written.the-variants.{Away, Done}
-use Rattle.sphairune.proofs.Laws.{answered, write-by}
+use Rattle.sphairune.proofs.Laws.{answered, write-within, write-by}
 use Rattle.sphairune.proofs.sphairune_write.Statement.{statement}
 use Rattle.sphairune.proofs.sphairune_write.Tie as tie
 use borrow.Author.Needs.{needs}
@@ -18,8 +18,8 @@ enum-known-refusal c = search needs
 note-told-requires : tie.Need-note-told-requires
 note-told-requires c κs = search needs
 
-number-requires : tie.Need-number-requires
-number-requires c κs = search needs
+word-requires : tie.Need-word-requires
+word-requires c κs = write-within _ _ _ (c .before .before .before .before .before .before .before .before .before .write .ensures) (c .before .before .before .before .before .refusal .given .1)
 
 enum-known-n : tie.Need-enum-known-n
 enum-known-n c = search needs
@@ -34,7 +34,7 @@ same-length-2 : tie.Need-same-length-2
 same-length-2 c = search needs
 
 returns : tie.Need-returns
-returns c = answered (c .number .ensures) (write-by _ (c .before .before .before .before .before .before .before .before .before .before .before .before .desk-of .ensures) _ _ _ (c .before .before .before .before .before .before .before .before .before .before .write .ensures) (Away _) (c .before .before .before .before .before .before .refusal .given .1) (c .before .before .before .note-told .ensures))
+returns c = answered (c .word .ensures) (write-by _ (c .before .before .before .before .before .before .before .before .before .before .before .before .desk-of .ensures) _ _ _ (c .before .before .before .before .before .before .before .before .before .before .write .ensures) (Away _) (c .before .before .before .before .before .before .refusal .given .1) (c .before .before .before .note-told .ensures))
 
 same-length-3 : tie.Need-same-length-3
 same-length-3 c = search needs
@@ -53,7 +53,7 @@ sphairune-write-spec =
     write-requires
     enum-known-refusal
     note-told-requires
-    number-requires
+    word-requires
     enum-known-n
     note-length-requires
     same-length
