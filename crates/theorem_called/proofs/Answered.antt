@@ -22,7 +22,6 @@ use Rattle.store_desk.proofs.Reply.{refusal-some}
 use Rattle.store.specs.Change.{emptied}
 use Rattle.store.specs.Good.{Ready}
 use Rattle.store.proofs.Empty.{empty-good}
-use Rattle.store.proofs.Form.{good-sound, good-complete}
 use Rattle.load.specs.declared.Totals.{Totals}
 use Rattle.load.specs.Run.{loadOf, totalsOf, storedIn, allReports}
 use Rattle.save.specs.Lines.{streamOf}
@@ -33,18 +32,14 @@ use Rattle.show.specs.declared.Written.the-variants.{Done as WriteDone}
 use Rattle.show.specs.declared.Emptied.the-variants.{Done as EmptyDone}
 use Rattle.show.specs.Calls.{mostBytes, admissionOf, LoadCall, loadDone, loadBy, loadCall, LoadPromise}
 use Rattle.show.specs.Calls.{WriteCall, writeReply, writtenAs, putCall, writeBy, writeCall, WritePromise, EmptyCall, emptyCall, EmptyPromise}
-use Rattle.show.proofs.Laws.{taken, admitted, load-long, load-by, put-long, put-short, write-by, empty-range, empty-short, empty-done}
+use Rattle.show.proofs.Laws.{let-in, admitted, load-long, load-by, put-long, put-short, write-by, empty-range, empty-short, empty-done}
 use Rattle.show.proofs.OneAnswer.{one-load, one-write, one-empty}
 
 -- ---- let in
 
 -- a store in good form is not turned away
 pub not-away : (d : Desk) (s : List ℕ) → Ready d s → Admitted ≡ admissionOf d s
-not-away d s r = admitted d s (record { range = r .range; long = r .long }) refl (good-complete d s (r .form))
-
--- and no other
-pub let-in : (d : Desk) (s : List ℕ) → Admitted ≡ admissionOf d s → Ready d s
-let-in d s e = let t = taken d s e in record { range = t .0 .range; long = t .0 .long; form = good-sound d s (t .1) }
+not-away d s r = admitted d s r
 
 -- a refusal's number is not 0
 none-refused : {X : Type 0} (r : Refusal) {n : ℕ} → refusalNumber r ≡ n → n ≡ 0 → X

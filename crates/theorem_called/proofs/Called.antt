@@ -2,14 +2,14 @@
 -- Assumes nothing.
 use mathlib.Core.Path.{_≡_, refl, sym, ap, _∙_, subst}
 use mathlib.Core.List.{List, []}
-use Prim.Native.Nat.{ℕ, _≤_, _<_}
+use Prim.Native.Nat.{ℕ, _%_, _≤_, _<_}
 use native.Mathlib.Omega.{arith}
 use denote.Ref.{RefT, now}
 use lib.ListN.{length, take, drop}
 use Rattle.cells.specs.Search.{Found, at, nowhere}
 use Rattle.cells.proofs.Split.{by-le}
 use Rattle.store_desk.specs.declared.Desk.{Desk}
-use Rattle.store_desk.specs.Refusal.{Reply, replied}
+use Rattle.store_desk.specs.Refusal.{Reply, replied, placeUnit}
 use Rattle.store_desk.specs.Size.{storeLength}
 use Rattle.store_head.specs.Pack.{Bytes}
 use Rattle.store.specs.Change.{emptied}
@@ -68,21 +68,28 @@ written-is-loaded d s out n o e v t f reps a u q g =
 
 -- ---- after an answered call
 
+-- 0 and R1 come before their numbers, R5 and R6 between, "not kept" after
 before-away : (n : ℕ) → n < 2 → NotTurnedAway n
-before-away n h = (λ e. omega arith, λ e. omega arith, λ e. omega arith)
+before-away n h =
+    record { second = λ e. omega arith; third = λ e. omega arith; unfit = λ e. omega arith; twice = λ e. omega arith; entry = λ e. omega arith }
 
-after-away : (n : ℕ) → 4 < n → NotTurnedAway n
-after-away n h = (λ e. omega arith, λ e. omega arith, λ e. omega arith)
+between-away : (n : ℕ) → 3 < n → n < 0x4A → NotTurnedAway n
+between-away n h l =
+    record { second = λ e. omega arith; third = λ e. omega arith; unfit = λ e. omega arith; twice = λ e. omega arith; entry = λ e. omega arith }
 
-placed-number : (d : Desk) (f : Found) → placedAt d f .number < 2
+after-away : (n : ℕ) → 0x4C < n → NotTurnedAway n
+after-away n h =
+    record { second = λ e. omega arith; third = λ e. omega arith; unfit = λ e. omega arith; twice = λ e. omega arith; entry = λ e. omega arith }
+
+placed-through : (d : Desk) (f : Found) → NotTurnedAway (placedAt d f .number)
 unfolding placedAt
-placed-number d (at i) = omega arith
-placed-number d nowhere = omega arith
+placed-through d (at i) = before-away 0 (omega arith)
+placed-through d nowhere = after-away 255 (omega arith)
 
-look-word : (d : Desk) (s : List ℕ) (f : Found) → lookAt d s f .word < 2
+look-through : (d : Desk) (s : List ℕ) (f : Found) → NotTurnedAway (lookAt d s f .word % placeUnit)
 unfolding lookAt
-look-word d s (at i) = omega arith
-look-word d s nowhere = omega arith
+look-through d s (at i) = before-away 0 (omega arith)
+look-through d s nowhere = after-away 255 (omega arith)
 
 -- a store in good form is let in
 module _ (d : Desk) (s : List ℕ) (r : Ready d s) where
@@ -108,10 +115,10 @@ module _ (d : Desk) (s : List ℕ) (r : Ready d s) where
       before-away (writeReply a .number) (omega arith))
       (λ g.
       let z : writeReply a .number ≡ 6 = ap (λ (y : WriteCall). y .reply .number) (f ∙ sym (put-short (streamOf d s) out refl h g)) in
-      after-away (writeReply a .number) (omega arith)))
+      between-away (writeReply a .number) (omega arith) (omega arith)))
       (λ h.
       let z : writeReply a .number ≡ 5 = ap (λ (y : WriteCall). y .reply .number) (f ∙ sym (put-long (streamOf d s) out refl h)) in
-      after-away (writeReply a .number) (omega arith))
+      between-away (writeReply a .number) (omega arith) (omega arith))
 
   empty-let : (a : Emptied) (t : List ℕ) → EmptyPromise d s a t → NotTurnedAway (emptyReply a .number)
   empty-let a t e =
@@ -119,7 +126,8 @@ module _ (d : Desk) (s : List ℕ) (r : Ready d s) where
       let z : emptyReply a .number ≡ 0 = ap (λ (y : EmptyCall). y .reply .number) (e ∙ sym f) in
       before-away (emptyReply a .number) (omega arith)
 
-  look-let : (v q : RefT (List ℕ)) (page whole tenths answer : ℕ) → now v ≡ s → LookPromise d v page whole tenths q answer → NotTurnedAway answer
+  look-let : (v q : RefT (List ℕ)) (page whole tenths answer : ℕ) → now v ≡ s → LookPromise d v page whole tenths q answer
+      → NotTurnedAway (answer % placeUnit)
   unfolding lookBy
   look-let v q page whole tenths answer p e =
       let f : Found = find d s (cueName (cueKey page whole tenths)) in
@@ -128,18 +136,16 @@ module _ (d : Desk) (s : List ℕ) (r : Ready d s) where
       ∙ ap (λ (k : List ℕ). lookCall d k page whole tenths .word) p
       ∙ ap (λ (y : Look). y .word) (sym (look-by d s page whole tenths Admitted (not-away d s r)))
       in
-      let l = look-word d s f in
-      before-away answer (omega arith)
+      subst (λ (w : ℕ). NotTurnedAway (w % placeUnit)) (sym z) (look-through d s f)
 
   find-let : (page whole tenths : ℕ) (a : Placed) → FindPromise d s page whole tenths a → NotTurnedAway (findReply a .number)
   unfolding findBy
   find-let page whole tenths a e =
       let f : Found = find d s (cueName (cueKey page whole tenths)) in
       let z : findReply a .number ≡ placedAt d f .number =
-      ap (λ (y : Reply). y .number) (e .0 ∙ sym (find-by d s page whole tenths Admitted (not-away d s r)))
+      ap (λ (y : Reply). y .number) (e ∙ sym (find-by d s page whole tenths Admitted (not-away d s r)))
       in
-      let l = placed-number d f in
-      before-away (findReply a .number) (omega arith)
+      subst NotTurnedAway (sym z) (placed-through d f)
 
   ready-let : LetIn d s
   ready-let = record { load = load-let; write = write-let; empty = empty-let; look = look-let; find = find-let }

@@ -4,10 +4,11 @@
 use mathlib.Core.Path.{_≡_}
 use mathlib.Core.Bool.{false}
 use mathlib.Core.List.{List, _∷_, [], map}
-use Prim.Native.Nat.{ℕ, _≤_}
+use Prim.Native.Nat.{ℕ, _%_, _≤_}
 use denote.Ref.{RefT, now}
 use lib.ListN.{length, take, drop, replicate}
 use Rattle.store_desk.specs.declared.Desk.{Desk}
+use Rattle.store_desk.specs.Refusal.{placeUnit}
 use Rattle.store_desk.specs.Size.{storeLength}
 use Rattle.store_head.specs.Pack.{Bytes}
 use Rattle.store.specs.View.{memoryOf}
@@ -52,15 +53,20 @@ WrittenIsLoaded =
 
 -- ---- after an answered call
 
--- no later call with that desk and store is R2, R3 or R4
-abbrev pub NotTurnedAway : ℕ → Type 0
-NotTurnedAway n = (n ≡ 2 → ⊥) × (n ≡ 3 → ⊥) × (n ≡ 4 → ⊥)
+-- no later call with that desk and store is R2, R3, R4a, R4b or R4c
+pub record NotTurnedAway (n : ℕ) : Type 0 where
+  pub second : n ≡ 2 → ⊥
+  pub third : n ≡ 3 → ⊥
+  pub unfit : n ≡ 0x4A → ⊥
+  pub twice : n ≡ 0x4B → ⊥
+  pub entry : n ≡ 0x4C → ⊥
 
 pub record LetIn (d : Desk) (s : List ℕ) : Type 0 where
   pub load : (reps stream : List ℕ) (a : Loaded) (t q : List ℕ) → LoadPromise d s reps stream a t q → NotTurnedAway (loadReply a .number)
   pub write : (out : List ℕ) (a : Written) (o : List ℕ) → WritePromise d s out a o → NotTurnedAway (writeReply a .number)
   pub empty : (a : Emptied) (t : List ℕ) → EmptyPromise d s a t → NotTurnedAway (emptyReply a .number)
-  pub look : (v r : RefT (List ℕ)) (page whole tenths answer : ℕ) → now v ≡ s → LookPromise d v page whole tenths r answer → NotTurnedAway answer
+  pub look : (v r : RefT (List ℕ)) (page whole tenths answer : ℕ) → now v ≡ s → LookPromise d v page whole tenths r answer
+      → NotTurnedAway (answer % placeUnit)
   pub find : (page whole tenths : ℕ) (a : Placed) → FindPromise d s page whole tenths a → NotTurnedAway (findReply a .number)
 
 pub record GoodAfter (d : Desk) : Type 0 where

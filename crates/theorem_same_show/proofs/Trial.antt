@@ -25,7 +25,7 @@ use Rattle.store.specs.declared.Edit.the-variants.{Down, Level}
 use Rattle.store.specs.Slots.{slotAt, putSlot, entryAt, putEntry, headAt, levelsAt, levelPlace, holdsAt, find, onFound}
 use Rattle.store.specs.View.{memoryAt, patchedTo}
 use Rattle.store.specs.Change.{lowestUnused, newSeat, seat, blankHead, blankSlot, started, editHead, withHead, editSlot, editAt, edited, patched, hitsAt, clearFrom, cleared, patchPageLength, clearedPatch}
-use Rattle.store.specs.Form.{hasTimes, hasLink, isZero, linkFits, valuesFit, placeFits, slotFits, patchFits, entryFits, shares, goodForm}
+use Rattle.store.specs.Form.{hasTimes, hasLink, isZero, linkFits, valuesFit, placeFits, slotFits, patchFits, entryFits, shares, badSlot, repeats, repeatedSlot, badEntry, formBy, formOf, isGood, goodForm}
 use Rattle.store.specs.Order.{usedFrom, insertSlot, sortSlots, inOrder}
 use Rattle.store.specs.Good.{Ready}
 use Rattle.store.proofs.Form.{good-sound}
@@ -81,7 +81,7 @@ unfolding usedFrom insertSlot sortSlots inOrder lessKey levelsAt memoryAt patche
 trial-lines = refl
 
 trial-form : goodForm small trial ≡ true
-unfolding goodForm allFrom shares eqName eqKind slotFits entryFits valuesFit linkFits hasTimes hasLink isZero placeFits patchFits okName okPage okWithin okNumber okSub supported pagesOf kindAt entriesOf lowestUnused newSeat seat blankHead blankSlot started editHead withHead editSlot editAt edited patched slotAt putSlot entryAt putEntry headAt levelPlace holdsAt find onFound firstFrom put allOf eqKey levelWidth levelsLength slotLength subSlots slotsOf patchStart entryOf firstSlot slotCount subSlot total packed unpacked encodeHead decodeHead encodePatch decodePatch
+unfolding goodForm isGood formOf formBy badSlot repeats repeatedSlot badEntry allFrom shares eqName eqKind slotFits entryFits valuesFit linkFits hasTimes hasLink isZero placeFits patchFits okName okPage okWithin okNumber okSub supported pagesOf kindAt entriesOf lowestUnused newSeat seat blankHead blankSlot started editHead withHead editSlot editAt edited patched slotAt putSlot entryAt putEntry headAt levelPlace holdsAt find onFound firstFrom put allOf eqKey levelWidth levelsLength slotLength subSlots slotsOf patchStart entryOf firstSlot slotCount subSlot total packed unpacked encodeHead decodeHead encodePatch decodePatch
 trial-form = refl
 
 isByte : ℕ → Bool
