@@ -54,6 +54,12 @@ enum-told-4 c = search needs
 enum-told-5 : tie.Need-enum-told-5
 enum-told-5 c = search needs
 
+enum-told-6 : tie.Need-enum-told-6
+enum-told-6 c = search needs
+
+enum-told-7 : tie.Need-enum-told-7
+enum-told-7 c = search needs
+
 same-length : tie.Need-same-length
 same-length c = search needs
 
@@ -96,6 +102,18 @@ same-length-7 c = search needs
 returns-7 : tie.Need-returns-7
 returns-7 c = never-other _ _ _ (c .before .before .before .before .before .before .before .before .before .before .before .pre .0) (c .before .before .before .before .before .before .before .before .before .before .before .pre .1) (c .before .before .before .before .before .before .before .write .ensures) (c .before .before .before .refusal .given .1) (c .enum-told5 .given .1) (λ e. omega arith)
 
+same-length-8 : tie.Need-same-length-8
+same-length-8 c = search needs
+
+returns-8 : tie.Need-returns-8
+returns-8 c = never-other _ _ _ (c .before .before .before .before .before .before .before .before .before .before .before .pre .0) (c .before .before .before .before .before .before .before .before .before .before .before .pre .1) (c .before .before .before .before .before .before .before .write .ensures) (c .before .before .before .refusal .given .1) (c .enum-told6 .given .1) (λ e. omega arith)
+
+same-length-9 : tie.Need-same-length-9
+same-length-9 c = search needs
+
+returns-9 : tie.Need-returns-9
+returns-9 c = never-other _ _ _ (c .before .before .before .before .before .before .before .before .before .before .before .pre .0) (c .before .before .before .before .before .before .before .before .before .before .before .pre .1) (c .before .before .before .before .before .before .before .write .ensures) (c .before .before .before .refusal .given .1) (c .enum-told7 .given .1) (λ e. omega arith)
+
 pub put-shown-spec : {M : Type 1} → statement M
 put-shown-spec =
     tie.close
@@ -116,6 +134,8 @@ put-shown-spec =
     enum-told-3
     enum-told-4
     enum-told-5
+    enum-told-6
+    enum-told-7
     same-length
     returns
     same-length-2
@@ -129,4 +149,8 @@ put-shown-spec =
     same-length-6
     returns-6
     same-length-7
-    returns-7)
+    returns-7
+    same-length-8
+    returns-8
+    same-length-9
+    returns-9)
