@@ -77,11 +77,7 @@ needed-apart (Length n) (Length m) e = ap (λ (x : Reply). Length (getD (x .told
 pub one-needed : (d : Desk) {a b : Needed} → NeededPromise d a → NeededPromise d b → a ≡ b
 one-needed d e f = needed-apart _ _ (e ∙ sym f)
 
--- R2 tells nothing beside its number, no place either
-pub needed-placeless : (d : Desk) → neededCall d .place ≡ 0
-unfolding neededCall
-needed-placeless d = by-test (λ (x : Reply). x .place ≡ 0) (inRangeOf d) _ _ (λ e. refl) (λ e. refl)
-
+-- R2 tells nothing beside its number
 pub needed-mute : (d : Desk) → (neededCall d .number ≡ 0 → ⊥) → neededCall d .told ≡ []
 unfolding neededCall
 needed-mute d =
