@@ -83,7 +83,7 @@ module _ (d : Desk) (s : List ℕ) where
       → (Fitting d s → (i : ℕ) → IsFirst (λ j. not (slotFits d s j)) (slotsOf d) 0 i → P (Away (R4a (i + 1))))
       → (Fitting d s → (i : ℕ) → badSlot d s ≡ nowhere → IsFirst (repeats d s) (slotsOf d) 0 i → P (Away (R4b (i + 1))))
       → (Fitting d s → (i : ℕ) → badSlot d s ≡ nowhere → repeatedSlot d s ≡ nowhere
-          → IsFirst (λ j. not (entryFits d s j)) (entriesOf d) 0 i → P (Away (R4c (i + 1))))
+      → IsFirst (λ j. not (entryFits d s j)) (entriesOf d) 0 i → P (Away (R4c (i + 1))))
       → (Ready d s → P Admitted)
       → P (admissionOf d s)
   unfolding admissionOf formAdmission

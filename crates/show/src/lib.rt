@@ -1,8 +1,8 @@
 // The public calls (paper 01, "Calls turned away"). None has a `requires`: every desk, store, stream and output gets an answer, and a
 // call that is turned away changes no lent byte; but the word that `look_up` is lent for its answer always has it.
 use load::Totals;
-use store::StoreForm;
 use store::Place;
+use store::StoreForm;
 use store_desk::Desk;
 use store_desk::Key;
 use store_desk::Kind;

@@ -54,9 +54,10 @@ module _ (d : Desk) (s : List ℕ) (i : ℕ) where
         → (firstSlot d (kindAt d i) ≤ j) × (holdsAt d s (keyOf (headAt d s i)) j ≡ true)
     share-holds j l e =
         let p = shares-parts d s i j e in
-        let k : kindAt d j ≡ kindAt d i = ap (λ (n : Name). n .kind) (sym (p .2)) in
-        (subst (λ (z : Kind). firstSlot d z ≤ j) k (kind-at d j (omega arith) .0),
-        holds-true d s (keyOf (headAt d s i)) j (p .1) (ap (λ (n : Name). n .key) (sym (p .2))))
+        let k : kindAt d j ≡ kindAt d i = ap (λ (n : Name). n .kind) (sym (p .2)) in (
+          subst (λ (z : Kind). firstSlot d z ≤ j) k (kind-at d j (omega arith) .0),
+          holds-true d s (keyOf (headAt d s i)) j (p .1) (ap (λ (n : Name). n .key) (sym (p .2))),
+        )
 
     pub repeats-found : (a : ℕ) → a ≡ firstSlot d (kindAt d i)
         → repeats d s i ≡ not (allFrom (λ j. not (holdsAt d s (keyOf (headAt d s i)) j)) (i - a) a)

@@ -1,7 +1,7 @@
 // Good form of a store (paper 01, "The store"), and where it is broken (paper 02, C-11): a slot out of form by itself (R4a), a slot that
 // repeats an earlier one (R4b), a patch entry out of form (R4c).
-use store::StoreForm;
 use store::Place;
+use store::StoreForm;
 use store_desk::Desk;
 use store_desk::Key;
 use store_desk::Kind;
