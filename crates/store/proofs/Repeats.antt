@@ -1,7 +1,7 @@
 -- A slot repeats an earlier one exactly where it is used and a slot of its kind before it holds its key. By the laws of searches, since slots
 -- that share a name are of one kind, and those stand together.
 -- Assumes nothing.
-use mathlib.Core.Path.{_≡_, refl, sym, ap, _∙_, subst}
+use mathlib.Core.Path.{_≡_, sym, ap, subst}
 use mathlib.Core.Bool.{true, false, not, _&&_}
 use mathlib.Core.List.{List}
 use Prim.Native.Nat.{ℕ, _+_, _-_, _<_, _≤_}

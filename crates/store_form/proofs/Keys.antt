@@ -10,7 +10,7 @@ use native.Mathlib.Numerals.{add-one}
 use native.Mathlib.Omega.{arith}
 use lib.Dec.{eqb, ltb}
 use lib.ListN.{length, getD, replicate, set}
-use borrow.Author.Tests.{eqb-true, eq-eqb, ne-eqb, lt-ltb, le-ltb, not-false}
+use borrow.Author.Tests.{eqb-true, eq-eqb, ne-eqb, lt-ltb, le-ltb}
 use Rattle.cells.proofs.Split.{by-bool, by-eq, by-lt, cond-true, cond-false, and-left, and-right, not-of-true, not-of-false}
 use Rattle.cells.proofs.Search.{none-is, by-first, first-same, first-skip, first-front, all-is, count-none, count-miss, count-same, count-turn, count-skip}
 use Rattle.cells.proofs.Table.{length-tab, tab-at}
