@@ -11,7 +11,7 @@ use lib.Seq.{length-take-le}
 use Rattle.cells.proofs.Split.{cond-false}
 use Rattle.store_desk.specs.declared.Desk.{Desk}
 use Rattle.text_records.specs.Stream.{recordsOf}
-use Rattle.load.specs.Step.{recordStep, conditionsOf, nothingOpen}
+use Rattle.load.specs.Step.{recordStep, reportedOf, nothingOpen}
 use Rattle.load.specs.Run.{Run, stops, reportsAt, runFrom, loadOf, allReports}
 use Rattle.theorem_told.specs.Classes.{firstRun, runsJoined, goneOn}
 use Rattle.theorem_told.specs.Cut.{EndedBefore, cutRecord, brokenOff, BrokenSaid}
@@ -85,7 +85,7 @@ module _ (d : Desk) (t stream : List ℕ) (k n : ℕ) (so : EndedBefore stream k
 
     pub broken-reports : loadOf d t (take k stream) .reports
         ≡ firstRun d t stream n .reports
-        ++ reportsAt (n + 1) (conditionsOf r (recordStep d (firstRun d t stream n .state) r (firstRun d t stream n .store)))
+        ++ reportsAt (n + 1) r (reportedOf r (recordStep d (firstRun d t stream n .state) r (firstRun d t stream n .store)))
     broken-reports = ap (λ (x : Run). x .reports) broken-joined
 
     pub broken-stopped : loadOf d t (take k stream) .stopped

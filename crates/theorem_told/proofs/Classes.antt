@@ -21,11 +21,12 @@ use Rattle.text_fields.specs.Words.{Word, wordsOf, fieldsOf, headOf}
 use Rattle.text_fields.specs.Keywords.{sameText, sameWord, meaningOf, keywordRows, keywordOf}
 use Rattle.load.specs.declared.Basic.the-variants.{Unknown}
 use Rattle.load.specs.declared.Family.the-variants.{Basic}
+use Rattle.load.specs.declared.Fault.{Fault}
 use Rattle.load.specs.declared.State.{State}
 use Rattle.load.specs.declared.Outcome.{Outcome}
 use Rattle.load.specs.declared.Outcome.the-variants.{Blank, Passed, Dropped, Obeyed, Stopped}
 use Rattle.load.specs.Ask.{isOverLong, familyOf, familyAsk, fieldsAsk, askOf}
-use Rattle.load.specs.Step.{Step, recordStep, stepOf, acted, outcomeReports, faultReports, conditionsOf, nothingOpen}
+use Rattle.load.specs.Step.{Step, recordStep, stepOf, acted, outcomeFaults, reportedOf, nothingOpen}
 use Rattle.load.specs.Run.{Run, Class, blank, passed, dropped, obeyed, classNumber, classOf, stops, only, andThen, runFrom, loadOf}
 use Rattle.load.proofs.Told.{OutcomeTold, by-family, over-passed, local-passed, skipped-passed, acted-told, acted-faults}
 use Rattle.theorem_told.specs.Classes.{classesOf, begins, PassedOver, over, local, skipped, ReportedWhole, ClassSaid, OverLongSaid, CleanedAlike, firstRun, AllSaid}
@@ -44,8 +45,8 @@ by-class dropped b p d o = d refl
 by-class obeyed b p d o = o refl
 
 -- ---- by the outcome
-dropped-if : (o : Outcome) → (c : ℕ) × (outcomeReports o ≡ c ∷ []) → classOf o ≡ dropped
-unfolding outcomeReports classOf
+dropped-if : (o : Outcome) → (f : Fault) × (outcomeFaults o ≡ f ∷ []) → classOf o ≡ dropped
+unfolding outcomeFaults classOf
 dropped-if Blank e = let z : _≡_ {A = ℕ} 0 1 = ap length (e .1) in absurd (omega arith)
 dropped-if Passed e = let z : _≡_ {A = ℕ} 0 1 = ap length (e .1) in absurd (omega arith)
 dropped-if (Dropped f) e = refl
@@ -54,28 +55,28 @@ dropped-if (Stopped f) e =
     by-eq (f .condition) 0
     (λ h.
     let l : ltb 0 (f .condition) ≡ false = le-ltb 0 (f .condition) (omega arith) in
-    let n : _≡_ {A = ℕ} 0 1 = ap length (sym (cond-false (ltb 0 (f .condition)) (f .condition ∷ []) [] l) ∙ e .1) in
+    let n : _≡_ {A = ℕ} 0 1 = ap length (sym (cond-false (ltb 0 (f .condition)) (f ∷ []) [] l) ∙ e .1) in
     absurd (omega arith))
     (λ h. cond-false _ _ _ (ne-eqb (f .condition) 0 h))
 
-only-dropped : (o : Outcome) → classOf o ≡ dropped → (c : ℕ) × (outcomeReports o ≡ c ∷ [])
-unfolding outcomeReports classOf
+only-dropped : (o : Outcome) → classOf o ≡ dropped → (f : Fault) × (outcomeFaults o ≡ f ∷ [])
+unfolding outcomeFaults classOf
 only-dropped Blank e = absurd (apart (classOf Blank) dropped (λ n. omega arith) e)
 only-dropped Passed e = absurd (apart (classOf Passed) dropped (λ n. omega arith) e)
-only-dropped (Dropped f) e = (f .condition, refl)
+only-dropped (Dropped f) e = (f, refl)
 only-dropped Obeyed e = absurd (apart (classOf Obeyed) dropped (λ n. omega arith) e)
 only-dropped (Stopped f) e =
     by-eq (f .condition) 0
     (λ h. absurd (apart obeyed dropped (λ n. omega arith) (sym (cond-true _ _ _ (eq-eqb (f .condition) 0 h)) ∙ e)))
-    (λ h. (f .condition, cond-true _ _ _ (lt-ltb 0 (f .condition) (omega arith))))
+    (λ h. (f, cond-true _ _ _ (lt-ltb 0 (f .condition) (omega arith))))
 
-told-class : (d : Desk) (o : Outcome) → OutcomeTold d o → (classOf o ≡ blank → ⊥) × (classOf o ≡ passed → ⊥)
+told-class : (d : Desk) (fs : List Word) (o : Outcome) → OutcomeTold d fs o → (classOf o ≡ blank → ⊥) × (classOf o ≡ passed → ⊥)
 unfolding classOf
-told-class d Blank h = absurd h
-told-class d Passed h = absurd h
-told-class d (Dropped f) h = (apart dropped blank (λ n. omega arith), apart dropped passed (λ n. omega arith))
-told-class d Obeyed h = (apart obeyed blank (λ n. omega arith), apart obeyed passed (λ n. omega arith))
-told-class d (Stopped f) h =
+told-class d fs Blank h = absurd h
+told-class d fs Passed h = absurd h
+told-class d fs (Dropped f) h = (apart dropped blank (λ n. omega arith), apart dropped passed (λ n. omega arith))
+told-class d fs Obeyed h = (apart obeyed blank (λ n. omega arith), apart obeyed passed (λ n. omega arith))
+told-class d fs (Stopped f) h =
     by-test (λ (k : Class). (k ≡ blank → ⊥) × (k ≡ passed → ⊥)) (eqb (f .condition) 0) obeyed dropped
     (λ e. (apart obeyed blank (λ n. omega arith), apart obeyed passed (λ n. omega arith)))
     (λ e. (apart dropped blank (λ n. omega arith), apart dropped passed (λ n. omega arith)))
@@ -139,10 +140,10 @@ module _ (d : Desk) (s : State) (r t : List ℕ) where
         ((λ b. absurd (apart passed blank (λ n. omega arith) (sym o ∙ b))), (λ b. absurd (some-field b)))
         ((λ p. h), (λ p. o)) no-items
 
-    told-said : OutcomeTold d (stepOf d s (w ∷ ws) t .outcome) → ClassSaid s r (stepOf d s (w ∷ ws) t)
+    told-said : OutcomeTold d (w ∷ ws) (stepOf d s (w ∷ ws) t .outcome) → ClassSaid s r (stepOf d s (w ∷ ws) t)
     unfolding classOf
     told-said h =
-        let n = told-class d (stepOf d s (w ∷ ws) t .outcome) h in
+        let n = told-class d (w ∷ ws) (stepOf d s (w ∷ ws) t .outcome) h in
         the-rest s r _
         ((λ b. absurd (n .0 b)), (λ b. absurd (some-field b)))
         ((λ p. absurd (n .1 p)), (λ p. absurd (n .1 (ap classOf (over-is p))))) no-items
@@ -155,11 +156,11 @@ module _ (d : Desk) (s : State) (r t : List ℕ) where
       (λ h. refl)
   fields-said (w ∷ ws) e =
       let f = familyOf (keywordOf (w .chars)) in
-      by-family d s w ws f
+      by-family d w ws s f
       (λ h. passed-said w ws e (over (begins-with w ws e ∙ h)))
       (λ h. passed-said w ws e (local (begins-with w ws e ∙ h)))
       (λ y h o. passed-said w ws e (skipped y (begins-with w ws e ∙ h) o))
-      (λ h. told-said w ws e (acted-told d s t (familyAsk d s f w ws) h))
+      (λ h. told-said w ws e (acted-told d s t (w ∷ ws) (familyAsk d s f w ws) h))
 
   -- the class of a record of at most 80 characters
   pub class-said : isOverLong r ≡ false → ClassSaid s r (recordStep d s r t)
@@ -168,7 +169,7 @@ module _ (d : Desk) (s : State) (r t : List ℕ) where
 
   -- one that is over-long
   pub over-long-said : isOverLong r ≡ true → OverLongSaid r (recordStep d s r t)
-  unfolding recordStep askOf acted classOf conditionsOf outcomeReports faultReports stops
+  unfolding recordStep askOf acted classOf reportedOf outcomeFaults stops
   over-long-said e = rw e (record { drops = refl; reported = rw e refl; stopped = refl })
 
 -- ---- ignored characters

@@ -28,7 +28,7 @@ use Rattle.load.specs.declared.State.{State}
 use Rattle.load.specs.declared.Outcome.the-variants.{Obeyed}
 use Rattle.load.specs.Item.{faultsOf, memory, page, done, allDone}
 use Rattle.load.specs.Ask.{Wipe, table, dimmers, Ask, name}
-use Rattle.load.specs.Step.{Step, ended, nothingOpen, settleBy, settle, wiped, openedBy, acted, recordStep, conditionsOf}
+use Rattle.load.specs.Step.{Step, ended, nothingOpen, settleBy, settle, wiped, openedBy, acted, recordStep, reportedOf}
 use Rattle.load.specs.Fits.{AllFit}
 use Rattle.load.specs.Run.{Run, stops, only, andThen, runFrom, loadOf, allReports, totalsOf}
 use Rattle.load.proofs.Deed.{WipesFit, Deed, resting, skipping, opening, editing, setting, patching, clearing, record-deed}
@@ -108,7 +108,7 @@ module _ (d : Desk) (q : List ℕ) where
 
     run-behind : (n : ℕ) (s : State) (t : List ℕ) → storeLength d ≤ length t → (rs : List (List ℕ))
         → runFrom d n s (t ++ q) rs ≡ withBehind q (runFrom d n s t rs)
-    unfolding runFrom conditionsOf
+    unfolding runFrom reportedOf
     run-behind n s t l [] = refl
     run-behind n s t l (r ∷ rs) =
         let x = recordStep d s r t in

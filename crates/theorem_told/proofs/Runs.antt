@@ -10,7 +10,7 @@ use lib.ListN.{length}
 use Rattle.cells.proofs.Split.{by-test, clash, cond-ap, cond-true, cond-false}
 use Rattle.store_desk.specs.declared.Desk.{Desk}
 use Rattle.load.specs.declared.State.{State}
-use Rattle.load.specs.Step.{Step, recordStep, conditionsOf}
+use Rattle.load.specs.Step.{Step, recordStep, reportedOf}
 use Rattle.load.specs.Run.{Run, Report, stops, only, andThen, reportsAt, runFrom}
 use Rattle.theorem_told.specs.Classes.{runsJoined, goneOn}
 
@@ -34,7 +34,7 @@ and-goes d n m r x y rs =
     ∙ ap
     (λ (l : List Report). cond (y .stopped) (andThen n r x y)
     (record { state = z .state; store = z .store; stopped = z .stopped; outcomes = x .outcome ∷ (y .outcomes ++ z .outcomes); reports = l }))
-    (sym (append-assoc (reportsAt n (conditionsOf r x)) (y .reports) (z .reports)))
+    (sym (append-assoc (reportsAt n r (reportedOf r x)) (y .reports) (z .reports)))
 
 pub run-append : (d : Desk) (n : ℕ) (s : State) (t : List ℕ) (rs more : List (List ℕ))
     → runFrom d n s t (rs ++ more) ≡ goneOn d (n + length rs) (runFrom d n s t rs) more
@@ -82,14 +82,14 @@ alone n r x =
       store = x .store;
       stopped = stops (x .outcome);
       outcomes = x .outcome ∷ [];
-      reports = reportsAt n (conditionsOf r x);
+      reports = reportsAt n r (reportedOf r x);
     }
 
 pub run-one : (d : Desk) (n : ℕ) (s : State) (t r : List ℕ) → runFrom d n s t (r ∷ []) ≡ alone (n + 1) r (recordStep d s r t)
 unfolding runFrom
 run-one d n s t r =
     let x = recordStep d s r t in
-    let own = reportsAt (n + 1) (conditionsOf r x) in
+    let own = reportsAt (n + 1) r (reportedOf r x) in
     by-test (λ (y : Run). y ≡ alone (n + 1) r x) (stops (x .outcome)) _ _
     (λ e i. record { state = x .state; store = x .store; stopped = sym e i; outcomes = x .outcome ∷ []; reports = own })
     (λ e i. record { state = x .state; store = x .store; stopped = sym e i; outcomes = x .outcome ∷ []; reports = append-nil own i })
