@@ -44,4 +44,4 @@ pub record OfRecord (stream : List ℕ) (n : ℕ) (q : Report) : Type 0 where
 pub record ColumnsSaid (d : Desk) (t stream : List ℕ) : Type 0 where
   pub records : InRange d → (k : ℕ) → k < length (loadOf d t stream .reports)
       → OfRecord stream (length (loadOf d t stream .outcomes)) (reportAt (loadOf d t stream .reports) k)
-  pub most : InRange d → (k : ℕ) → k < length (allReports (loadOf d t stream)) → reportAt (allReports (loadOf d t stream)) k .column ≤ longest
+  pub most : (k : ℕ) → k < length (allReports (loadOf d t stream)) → reportAt (allReports (loadOf d t stream)) k .column ≤ longest

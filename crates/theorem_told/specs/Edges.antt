@@ -1,7 +1,7 @@
 -- The proved edges (P) of paper 01, "Edges to hold": twelve streams, and what the load of each comes to.
 -- Assumes nothing.
 use mathlib.Core.List.{List, [], _∷_, _++_, map}
-use Prim.Native.Nat.{ℕ, _+_, _*_}
+use Prim.Native.Nat.{ℕ}
 use lib.ListN.{replicate}
 use Rattle.cells.specs.Text.{bytes}
 use Rattle.store_desk.specs.declared.Desk.{Desk}
