@@ -34,7 +34,7 @@ use Rattle.load.specs.Item.{rangedOf, onRanged, onLevel, pairOf, tripleOf, pair
 use Rattle.load.specs.Run.{stops, runFrom, loadOf, allReports}
 use Rattle.load.specs.Ask.{numberedBy, numeralOf, pageAt, namedBy, namedOf, namedAsk, primaryAsk}
 use Rattle.load.specs.Ask.{augments, obeyedAsk, secondaryAsk, triplesAsk, familyOf, basicAsk, familyAsk, fieldsAsk, askOf}
-use Rattle.load.specs.Step.{openedBy, acted, recordStep, ignoredIn, outcomeReports, faultReports, conditionsOf}
+use Rattle.load.specs.Step.{openedBy, acted, recordStep, ignoredIn, outcomeFaults, reportedOf}
 use Rattle.theorem_rehearse.specs.Rehearse.{Rehearsal, loaded, hasFull, isKept}
 use Rattle.theorem_rehearse.specs.Needs.{sized, lent, Trial, onSmall, onLarge, Carried, Exact, Alike}
 use Rattle.theorem_rehearse.specs.Needs.{largerFull, smallerFull, moreChannels, neitherLarger, allHold, cue, Needs}
@@ -61,7 +61,7 @@ facts : Both largerFull (cue 1 3) 1 (seen false true 0) (seen true false 0)
     × Both moreChannels (cue 1 1) 1 (seen false false 1) (seen false false 5)
     × Both neitherLarger (cue 2 1) 2 (seen false true 1) (seen false false 0)
     × Both allHold (cue 1 1) 1 (seen false true 3) (seen false true 3)
-unfolding put span firstFrom firstSlot slotCount pagesOf supported eqKey entryOf allOf levelWidth levelsLength slotLength subSlots slotsOf patchStart entriesOf storeLength encodeHead decodeHead encodePatch decodePatch total packed unpacked lowestUnused newSeat seat blankHead blankSlot started editSlot editAt edited patched emptied slotAt putSlot entryAt putEntry headAt levelsAt levelPlace holdsAt find onFound memoryAt memoryOf patchedTo isHigh isControl isMark keptOf has isEnd terminated piecesIn piecesOf bare recordsOf upper sameText sameWord meaningOf keywordRows keywordOf isDelimiter wordsIn wordsOf fieldsOf pagedOf pageOf digitOf digitsFrom runOf integerOf numberedOf numberOf cutAt decimalsOf percentByte percentOf hexByteOf hexOf levelOf fullOf rangedOf onRanged onLevel pairOf tripleOf pairsOf triplesOf faultsOf done allDone stops runFrom loadOf allReports numberedBy numeralOf pageAt namedBy namedOf namedAsk primaryAsk augments obeyedAsk secondaryAsk triplesAsk familyAsk familyOf basicAsk fieldsAsk askOf openedBy acted recordStep ignoredIn outcomeReports faultReports conditionsOf hasFull isKept
+unfolding put span firstFrom firstSlot slotCount pagesOf supported eqKey entryOf allOf levelWidth levelsLength slotLength subSlots slotsOf patchStart entriesOf storeLength encodeHead decodeHead encodePatch decodePatch total packed unpacked lowestUnused newSeat seat blankHead blankSlot started editSlot editAt edited patched emptied slotAt putSlot entryAt putEntry headAt levelsAt levelPlace holdsAt find onFound memoryAt memoryOf patchedTo isHigh isControl isMark keptOf has isEnd terminated piecesIn piecesOf bare recordsOf upper sameText sameWord meaningOf keywordRows keywordOf isDelimiter wordsIn wordsOf fieldsOf pagedOf pageOf digitOf digitsFrom runOf integerOf numberedOf numberOf cutAt decimalsOf percentByte percentOf hexByteOf hexOf levelOf fullOf rangedOf onRanged onLevel pairOf tripleOf pairsOf triplesOf faultsOf done allDone stops runFrom loadOf allReports numberedBy numeralOf pageAt namedBy namedOf namedAsk primaryAsk augments obeyedAsk secondaryAsk triplesAsk familyAsk familyOf basicAsk fieldsAsk askOf openedBy acted recordStep ignoredIn outcomeFaults reportedOf hasFull isKept
 facts = ((refl, refl), (refl, refl), (refl, refl), (refl, refl), (refl, refl))
 
 within-limits : okName (smallerFull .small) (cue 1 2) ≡ true

@@ -19,7 +19,7 @@ use Rattle.load.specs.declared.Outcome.the-variants.{Dropped}
 use Rattle.load.specs.declared.Fault.{Fault}
 use Rattle.load.specs.Condition.{noEnddata}
 use Rattle.load.specs.Ask.{isOverLong}
-use Rattle.load.specs.Step.{Step, noKey, nothingOpen, ignoredIn, outcomeReports, faultReports, conditionsOf, recordStep}
+use Rattle.load.specs.Step.{Step, noKey, nothingOpen, ignoredIn, outcomeFaults, reportedOf, recordStep}
 use Rattle.load.specs.Run.{Report, Run, reportsAt, allReports}
 use Rattle.theorem_rehearse.specs.Rehearse.{Rehearsal, loaded, isFull, hasFull, HadRoom, Ships, Complete, PatchedAlike, SamePatch, Rehearsed}
 use Rattle.theorem_rehearse.proofs.Runs.{Steps, loads}
@@ -40,25 +40,26 @@ full-join [] b = refl
 full-join (r ∷ a) b = ap (cond (isFull (r .condition)) true) (full-join a b) ∙ full-next (isFull (r .condition)) (hasFull a) (hasFull b)
 
 -- a record that is dropped for want of room reports it
-full-at : (n : ℕ) (xs : List ℕ) (c : ℕ) (ys : List ℕ) → isFull c ≡ true → hasFull (reportsAt n (xs ++ (c ∷ ys))) ≡ true
+full-at : (n : ℕ) (r : List ℕ) (xs : List Fault) (f : Fault) (ys : List Fault) → isFull (f .condition) ≡ true
+    → hasFull (reportsAt n r (xs ++ (f ∷ ys))) ≡ true
 unfolding hasFull
-full-at n [] c ys h = cond-true (isFull c) true (hasFull (reportsAt n ys)) h
-full-at n (a ∷ xs) c ys h = ap (cond (isFull a) true) (full-at n xs c ys h) ∙ cond-same (isFull a) true
+full-at n r [] f ys h = cond-true (isFull (f .condition)) true (hasFull (reportsAt n r ys)) h
+full-at n r (x ∷ xs) f ys h = ap (cond (isFull (x .condition)) true) (full-at n r xs f ys h) ∙ cond-same (isFull (x .condition)) true
 
 dropped-full : (n : ℕ) (r : List ℕ) (x : Step) (f : Fault) → x .outcome ≡ Dropped f → isFull (f .condition) ≡ true
-    → hasFull (reportsAt n (conditionsOf r x)) ≡ true
-unfolding conditionsOf outcomeReports
+    → hasFull (reportsAt n r (reportedOf r x)) ≡ true
+unfolding reportedOf outcomeFaults
 dropped-full n r x f e h =
-    let ig : List ℕ = cond (isOverLong r) [] (ignoredIn r) in
-    subst (λ (o : Outcome). hasFull (reportsAt n (ig ++ (outcomeReports o ++ faultReports (x .faults)))) ≡ true) (sym e)
-    (full-at n ig (f .condition) (faultReports (x .faults)) h)
+    let ig : List Fault = cond (isOverLong r) [] (ignoredIn r) in
+    subst (λ (o : Outcome). hasFull (reportsAt n r (ig ++ (outcomeFaults o ++ x .faults))) ≡ true) (sym e)
+    (full-at n r ig f (x .faults) h)
 
 -- all reports of a load
 had-room : (x : Run) → HadRoom x → hasFull (x .reports) ≡ false
 unfolding allReports
 had-room x =
     by-test (λ (rs : List Report). hasFull rs ≡ false → hasFull (x .reports) ≡ false) (x .stopped) (x .reports)
-    (x .reports ++ (record { number = length (x .outcomes); condition = noEnddata } ∷ []))
+    (x .reports ++ (record { number = length (x .outcomes); condition = noEnddata; column = 0 } ∷ []))
     (λ e h. h)
     (λ e h. or-left (hasFull (x .reports)) _ (sym (full-join (x .reports) _) ∙ h))
 

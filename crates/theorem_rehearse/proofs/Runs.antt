@@ -15,7 +15,7 @@ use Rattle.store.specs.Change.{seat}
 use Rattle.store.specs.Good.{Ready}
 use Rattle.load.specs.declared.State.{State}
 use Rattle.load.specs.Ask.{Ask, rests, skips, opens, edits, items, clears, name, askOf}
-use Rattle.load.specs.Step.{nothingOpen, openedBy, acted, recordStep, conditionsOf}
+use Rattle.load.specs.Step.{nothingOpen, openedBy, acted, recordStep, reportedOf}
 use Rattle.load.specs.Run.{Report, Run, reportsAt, stops, only, andThen, runFrom, loadOf}
 use Rattle.load.proofs.Steps.{record-ready}
 use Rattle.theorem_rehearse.specs.Rehearse.{Larger}
@@ -66,7 +66,7 @@ Told = List Report → List Report → Type 0
 abbrev pub Steps : Desk → Desk → Stores → Told → Type 0
 Steps d D R P =
     (n : ℕ) (r : List ℕ) (s : State) (t : List ℕ) (S : State) (T : List ℕ) → Ready d t → Ready D T → R s t S T
-    → P (reportsAt n (conditionsOf r (recordStep d s r t))) (reportsAt n (conditionsOf r (recordStep D S r T)))
+    → P (reportsAt n r (reportedOf r (recordStep d s r t))) (reportsAt n r (reportedOf r (recordStep D S r T)))
     → R (recordStep d s r t .state) (recordStep d s r t .store) (recordStep D S r T .state) (recordStep D S r T .store)
 
 module _ (d D : Desk) (l : Larger d D) (R : Stores) (P : Told) (apart : (a b A B : List Report) → P (a ++ b) (A ++ B) → P a A × P b B)
@@ -92,7 +92,7 @@ module _ (d D : Desk) (l : Larger d D) (R : Stores) (P : Told) (apart : (a b A B
       (λ y p. (f, F, step (n + 1) r s t S T g G h p))
       (λ y Y. clash Y (sym e ∙ y))
       (λ Y p.
-      let q = apart (reportsAt (n + 1) (conditionsOf r x)) _ (reportsAt (n + 1) (conditionsOf r X)) _ p in
+      let q = apart (reportsAt (n + 1) r (reportedOf r x)) _ (reportsAt (n + 1) r (reportedOf r X)) _ p in
       runs rs (n + 1) (x .state) (x .store) (X .state) (X .store) f F (step (n + 1) r s t S T g G h (q .0)) (q .1))
 
   pub loads : (t T : List ℕ) → Ready d t → Ready D T → R nothingOpen t nothingOpen T → (stream : List ℕ)

@@ -4,7 +4,7 @@
 use mathlib.Core.Path.{_≡_}
 use mathlib.Core.Bool.{Bool, true, false, cond, _&&_, _||_}
 use mathlib.Core.List.{List, [], _∷_}
-use Prim.Native.Nat.{ℕ, _%_, _≤_}
+use Prim.Native.Nat.{ℕ, _≤_}
 use lib.Dec.{eqb}
 use lib.ListN.{length, take}
 use Rattle.store_desk.specs.declared.Desk.{Desk}
@@ -14,7 +14,7 @@ use Rattle.store_desk.specs.Name.{Name, okName}
 use Rattle.store.specs.View.{Memory, Kept, absent, kept, memoryOf, patchedTo}
 use Rattle.store.specs.Change.{emptied}
 use Rattle.load.specs.Condition.{fullOf}
-use Rattle.load.specs.Run.{Run, Report, loadOf, allReports, conditionSpan, storedIn, totalsOf}
+use Rattle.load.specs.Run.{Run, Report, loadOf, allReports, conditionIn, storedIn, totalsOf}
 
 -- ---- two desks ("The size of a desk": the listed limits, in their order)
 
@@ -59,7 +59,7 @@ HadRoom x = hasFull (allReports x) ≡ false
 -- the same as a user of the call sees it: the count is at most the lent list's length, and no stored word has one of the two conditions
 unfoldable pub storedFull : List ℕ → Bool
 storedFull [] = false
-storedFull (w ∷ ws) = let rest = storedFull ws in cond (isFull (w % conditionSpan)) true rest
+storedFull (w ∷ ws) = let rest = storedFull ws in cond (isFull (conditionIn w)) true rest
 
 abbrev pub SawRoom : Run → List ℕ → Type 0
 SawRoom x lent =
