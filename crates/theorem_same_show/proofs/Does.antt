@@ -38,6 +38,7 @@ use Rattle.store.specs.declared.Edit.{Edit}
 use Rattle.store.specs.declared.Edit.the-variants.{Up, Down, Followon, Link, Level}
 use Rattle.store.specs.Change.{seat, started, edited, patched}
 use Rattle.store.specs.Form.{hasTimes, hasLink}
+use Rattle.load.specs.declared.Fault.{Fault}
 use Rattle.load.specs.declared.State.{State}
 use Rattle.load.specs.declared.Outcome.the-variants.{Obeyed}
 use Rattle.load.specs.declared.Entry.{Entry}
@@ -67,7 +68,7 @@ pub record Does (d : Desk) (s : State) (t l : List ℕ) (s₁ : State) (t₁ : L
 
 module _ {l : List ℕ} {xs : List (List ℕ)} (w : Line l xs) where
   line-quiet : cond (isOverLong l) [] (ignoredIn l) ≡ []
-  line-quiet = ap (λ (z : List ℕ). cond (isOverLong l) [] z) (fair-quiet l (w .fair)) ∙ cond-same (isOverLong l) []
+  line-quiet = ap (λ (z : List Fault). cond (isOverLong l) [] z) (fair-quiet l (w .fair)) ∙ cond-same (isOverLong l) []
 
   line-step : (d : Desk) (s : State) (t : List ℕ) → (qs : List ℕ) × (recordStep d s l t ≡ stepOf d s (spelled xs qs) t)
   unfolding recordStep askOf

@@ -15,13 +15,14 @@ use Rattle.value.specs.Integer.{digitOf, digitsFrom, runOf, integerOf}
 use Rattle.value.specs.Parts.{cutAt}
 use Rattle.value.specs.Field.{versionedOf, versionOf}
 use Rattle.load.specs.declared.State.{State}
+use Rattle.load.specs.declared.Fault.{Fault}
 use Rattle.load.specs.declared.Outcome.{Outcome}
 use Rattle.load.specs.declared.Outcome.the-variants.{Obeyed, Stopped}
 use Rattle.load.specs.Item.{blameNone}
 use Rattle.store.specs.Change.{everyPage}
 use Rattle.load.specs.Ask.{pageAt, pagedAsk, allWipes, itemAsk, identOutcome, familyOf, basicAsk, familyAsk, fieldsAsk, askOf}
 use Rattle.load.proofs.Tables.{all-ask}
-use Rattle.load.specs.Step.{Step, ended, nothingOpen, acted, wiped, recordStep, settleBy, ignoredIn, conditionsOf, outcomeReports, faultReports}
+use Rattle.load.specs.Step.{Step, ended, nothingOpen, acted, wiped, recordStep, settleBy, ignoredIn, outcomeFaults, reportedOf}
 use Rattle.load.specs.Run.{reportsAt, stops, Run, only, andThen, runFrom, allReports, blank, passed, dropped, obeyed, classOf, eqClass, tallyOf, lastOf, closingOf, totalsOf}
 use Rattle.theorem_same_show.proofs.Fair.{isFair, Fair, AllFair}
 use Rattle.theorem_same_show.proofs.Does.{Does}
@@ -42,8 +43,8 @@ end-step : (d : Desk) (s : State) (t : List ℕ) → recordStep d s (bytes "ENDD
 unfolding recordStep askOf acted fieldsAsk familyAsk familyOf basicAsk fieldsOf wordsOf wordsIn isDelimiter span has keptOf isHigh isControl isMark keywordOf meaningOf keywordRows sameWord sameText upper
 end-step d s t = refl
 
-end-quiet : (s : State) (t : List ℕ) → conditionsOf (bytes "ENDDATA") (ended s endData t) ≡ []
-unfolding conditionsOf outcomeReports faultReports ignoredIn has isHigh isControl
+end-quiet : (s : State) (t : List ℕ) → reportedOf (bytes "ENDDATA") (ended s endData t) ≡ []
+unfolding reportedOf outcomeFaults ignoredIn has isHigh isControl
 end-quiet s t = refl
 
 end-fair : Fair (bytes "ENDDATA")
@@ -76,11 +77,13 @@ unfolding runFrom obeyedRun stops
 end-run d n s t =
     ap (λ (x : Step). cond (stops (x .outcome)) (only (n + 1) (bytes "ENDDATA") x) (andThen (n + 1) (bytes "ENDDATA") x (runFrom d (n + 1) (x .state) (x .store) [])))
     (end-step d s t)
-    ∙ ap (λ (c : List ℕ). record { state = s; store = t; stopped = true; outcomes = endData ∷ []; reports = reportsAt (n + 1) c }) (end-quiet s t)
+    ∙ ap
+    (λ (fs : List Fault). record { state = s; store = t; stopped = true; outcomes = endData ∷ []; reports = reportsAt (n + 1) (bytes "ENDDATA") fs })
+    (end-quiet s t)
 
-does-quiet : {d : Desk} {s s₁ : State} {t t₁ l : List ℕ} → Does d s t l s₁ t₁ → conditionsOf l (ended s₁ Obeyed t₁) ≡ []
-unfolding conditionsOf outcomeReports faultReports
-does-quiet {d} {s} {s₁} {t} {t₁} {l} x = ap (λ (z : List ℕ). z ++ []) (x .quiet)
+does-quiet : {d : Desk} {s s₁ : State} {t t₁ l : List ℕ} → Does d s t l s₁ t₁ → reportedOf l (ended s₁ Obeyed t₁) ≡ []
+unfolding reportedOf outcomeFaults
+does-quiet {d} {s} {s₁} {t} {t₁} {l} x = ap (λ (z : List Fault). z ++ []) (x .quiet)
 
 pub runs-end : {d : Desk} {s s₁ : State} {t t₁ : List ℕ} {ls : List (List ℕ)} → Runs d s t ls s₁ t₁ → (n : ℕ)
     → runFrom d n s t (ls ++ (bytes "ENDDATA" ∷ [])) ≡ obeyedRun (length ls) s₁ t₁
@@ -89,8 +92,8 @@ runs-end {d} (done {s = s} {t = t}) n = end-run d n s t
 runs-end {d} (next {s = s} {s₁ = s₁} {s₂ = s₂} {t = t} {t₁ = t₁} {t₂ = t₂} {l = l} {ls = ls} x f) n =
     let rs : List (List ℕ) = ls ++ (bytes "ENDDATA" ∷ []) in
     ap (λ (y : Step). cond (stops (y .outcome)) (only (n + 1) l y) (andThen (n + 1) l y (runFrom d (n + 1) (y .state) (y .store) rs))) (x .step)
-    ∙ ap (λ (c : List ℕ). let z = runFrom d (n + 1) s₁ t₁ rs in
-    record { state = z .state; store = z .store; stopped = z .stopped; outcomes = Obeyed ∷ z .outcomes; reports = reportsAt (n + 1) c ++ z .reports }) (does-quiet x)
+    ∙ ap (λ (fs : List Fault). let z = runFrom d (n + 1) s₁ t₁ rs in
+    record { state = z .state; store = z .store; stopped = z .stopped; outcomes = Obeyed ∷ z .outcomes; reports = reportsAt (n + 1) l fs ++ z .reports }) (does-quiet x)
     ∙ ap (λ (z : Run). record { state = z .state; store = z .store; stopped = z .stopped; outcomes = Obeyed ∷ z .outcomes; reports = z .reports }) (runs-end f (n + 1))
 
 -- ---- as it is told

@@ -44,7 +44,7 @@ use Rattle.load.specs.Item.{rangedOf, onRanged, onLevel, pairOf, tripleOf, pair
 use Rattle.load.specs.Ask.{numberedBy, subBy, numeralOf, pageAt, namedBy, namedOf, augments, onTime, delayOf, fadeOf, linkBy, timesOf}
 use Rattle.load.specs.Step.{openedBy}
 use Rattle.load.specs.Ask.{tablePages, askOf, fieldsAsk, familyOf, basicAsk, familyAsk, identOutcome, itemAsk, allAsk, tablesAsk, wipesAsk, allWipes, kindWipes, dimmerWipes, triplesAsk, primaryAsk, namedAsk, secondaryAsk, obeyedAsk, changeAsk}
-use Rattle.load.specs.Step.{settleBy, acted, wiped, recordStep, ignoredIn, outcomeReports, faultReports, conditionsOf}
+use Rattle.load.specs.Step.{settleBy, acted, wiped, recordStep, ignoredIn, outcomeFaults, reportedOf}
 use Rattle.load.specs.Run.{stops, runFrom, loadOf}
 use Rattle.value_written.specs.Text.{digitChar, digitsOn, digitCountFrom, digitCount, integerText, fractionText, numberText, levelText, partText, clockText, timeText}
 use Rattle.save_lines.specs.Line.{joined, patchText, patchLine, kindText, primaryText, delayText, timeLine, linkLine, headLines, litFrom, pairText, pairsText, chanLinesIn, chanLines}
@@ -115,5 +115,5 @@ trial-back = written-reads-back small trial trial trial-ready (all-bytes trial t
 
 -- the same show, and other bytes: cue 2.5 stood in the second slot, and comes first
 pub trial-moved : inOrder small trial Cue ++ inOrder small (loadOf small trial (streamOf small trial) .store) Cue ≡ 1 ∷ 0 ∷ 0 ∷ 1 ∷ []
-unfolding streamOf joined loadOf runFrom stops recordStep acted askOf fieldsAsk familyAsk familyOf basicAsk identOutcome itemAsk allAsk tablesAsk wipesAsk settleBy tablePages allWipes kindWipes dimmerWipes wiped triplesAsk primaryAsk namedAsk openedBy namedOf namedBy numeralOf numberedBy subBy pageAt secondaryAsk augments obeyedAsk changeAsk timesOf fadeOf onTime delayOf linkBy conditionsOf ignoredIn outcomeReports faultReports rangedOf onRanged onLevel pairOf tripleOf pairsOf triplesOf faultsOf done allDone recordsOf piecesOf piecesIn bare isEnd terminated keptOf isHigh isControl isMark has fieldsOf wordsOf wordsIn isDelimiter keywordOf meaningOf keywordRows itemOf itemRows sameWord sameText upper versionOf versionedOf pageOf pagedOf integerOf runOf digitsFrom digitOf numberOf numberedOf cutAt decimalsOf rangedTime partOf joinOf laterOf clockOf timedOf timeOf levelOf hexOf hexByteOf clearFrom cleared hitsAt clearedPatch patchPageLength entriesOf supported pagesOf hasTimes hasLink span usedFrom insertSlot sortSlots inOrder lessKey levelsAt memoryAt patchedTo digitChar digitsOn digitCountFrom digitCount integerText fractionText numberText levelText partText clockText timeText patchText patchLine dimmerLines pageLines kindText primaryText delayText timeLine linkLine headLines litFrom pairText pairsText chanLinesIn chanLines memoryLines slotLines linesOf lowestUnused newSeat seat blankHead blankSlot started editHead withHead editSlot editAt edited patched slotAt putSlot entryAt putEntry headAt levelPlace holdsAt find onFound firstFrom put allOf eqKey levelWidth levelsLength slotLength subSlots slotsOf patchStart entryOf firstSlot slotCount subSlot total packed unpacked encodeHead decodeHead encodePatch decodePatch
+unfolding streamOf joined loadOf runFrom stops recordStep acted askOf fieldsAsk familyAsk familyOf basicAsk identOutcome itemAsk allAsk tablesAsk wipesAsk settleBy tablePages allWipes kindWipes dimmerWipes wiped triplesAsk primaryAsk namedAsk openedBy namedOf namedBy numeralOf numberedBy subBy pageAt secondaryAsk augments obeyedAsk changeAsk timesOf fadeOf onTime delayOf linkBy reportedOf ignoredIn outcomeFaults rangedOf onRanged onLevel pairOf tripleOf pairsOf triplesOf faultsOf done allDone recordsOf piecesOf piecesIn bare isEnd terminated keptOf isHigh isControl isMark has fieldsOf wordsOf wordsIn isDelimiter keywordOf meaningOf keywordRows itemOf itemRows sameWord sameText upper versionOf versionedOf pageOf pagedOf integerOf runOf digitsFrom digitOf numberOf numberedOf cutAt decimalsOf rangedTime partOf joinOf laterOf clockOf timedOf timeOf levelOf hexOf hexByteOf clearFrom cleared hitsAt clearedPatch patchPageLength entriesOf supported pagesOf hasTimes hasLink span usedFrom insertSlot sortSlots inOrder lessKey levelsAt memoryAt patchedTo digitChar digitsOn digitCountFrom digitCount integerText fractionText numberText levelText partText clockText timeText patchText patchLine dimmerLines pageLines kindText primaryText delayText timeLine linkLine headLines litFrom pairText pairsText chanLinesIn chanLines memoryLines slotLines linesOf lowestUnused newSeat seat blankHead blankSlot started editHead withHead editSlot editAt edited patched slotAt putSlot entryAt putEntry headAt levelPlace holdsAt find onFound firstFrom put allOf eqKey levelWidth levelsLength slotLength subSlots slotsOf patchStart entryOf firstSlot slotCount subSlot total packed unpacked encodeHead decodeHead encodePatch decodePatch
 trial-moved = refl
