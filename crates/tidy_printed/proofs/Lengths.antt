@@ -1,16 +1,16 @@
 -- How long the lines are, so that a caller knows what room is enough: from the lengths of the parts.
 -- Assumes nothing.
-use mathlib.Core.Path.{_≡_, refl, ap, _∙_}
+use mathlib.Core.Path.{_≡_, ap, _∙_}
 use mathlib.Core.List.{List, [], _∷_, _++_}
-use Prim.Native.Nat.{ℕ, _+_, _*_, _/_, _%_, _≤_, _<_}
+use Prim.Native.Nat.{ℕ, _+_, _*_, _≤_, _<_, zero-le}
 use native.Mathlib.Omega.{arith}
 use lib.ListN.{length, take, length-append, length-take}
 use Rattle.cells.specs.Text.{bytes}
 use Rattle.value_written.specs.Text.{digitsText, integerText}
-use Rattle.value_written.proofs.Texts.{text-length, integer-ten}
+use Rattle.value_written.proofs.Texts.{text-length, integer-short, integer-ten}
 use Rattle.text_room.specs.Room.{Room}
 use Rattle.load.specs.declared.Totals.{Totals}
-use Rattle.load.specs.Run.{conditionSpan}
+use Rattle.load.specs.Run.{numberIn, conditionIn, columnIn}
 use Rattle.tidy_printed.specs.Text.{lf, reportText, reportsText, endText, toldText, neededText}
 
 -- digits, or an integer, ahead of a rest
@@ -23,19 +23,26 @@ integer-ahead n rest h = let a = integer-ten n h in let e : length (integerText 
 pub digits-room : {t : List ℕ} {a : ℕ} (k n : ℕ) → Room t a (digitsText 10 k n) → a + k ≤ length t
 digits-room {t} {a} k n h = let e = text-length 10 k n in let f = h .fits in omega arith
 
-pub report-length : (w : ℕ) → length (reportText w) ≡ 13
+-- a column has seven bits, and so three digits at most
+column-short : (w : ℕ) → length (integerText (columnIn w)) ≤ 3
+column-short w = integer-short (columnIn w) 2 (let g : columnIn w < 1000 = omega arith in g)
+
+report-length : (w : ℕ) → length (reportText w) ≤ 17
 unfolding reportText
 report-length w =
-    let c : List ℕ = digitsText 10 4 (w % conditionSpan) ++ lf in
-    let a : length c ≡ 4 + 1 = fixed-ahead 4 (w % conditionSpan) lf in
-    let b : length (digitsText 10 5 (w / conditionSpan) ++ (bytes ") " ++ c)) ≡ 5 + length (bytes ") " ++ c) = fixed-ahead 5 (w / conditionSpan) (bytes ") " ++ c) in
+    let c : List ℕ = digitsText 10 4 (conditionIn w) ++ lf in
+    let k : List ℕ = integerText (columnIn w) ++ (bytes ") " ++ c) in
+    let a : length c ≡ 4 + 1 = fixed-ahead 4 (conditionIn w) lf in
+    let s : length (integerText (columnIn w)) ≤ 3 = column-short w in
+    let e : length k ≡ length (integerText (columnIn w)) + length (bytes ") " ++ c) = length-append (integerText (columnIn w)) (bytes ") " ++ c) in
+    let b : length (digitsText 10 5 (numberIn w) ++ (bytes ":" ++ k)) ≡ 5 + length (bytes ":" ++ k) = fixed-ahead 5 (numberIn w) (bytes ":" ++ k) in
     omega arith
 
-pub reports-length : (ws : List ℕ) → length (reportsText ws) ≡ 13 * length ws
+reports-length : (ws : List ℕ) → length (reportsText ws) ≤ 17 * length ws
 unfolding reportsText
-reports-length [] = refl
+reports-length [] = zero-le
 reports-length (w ∷ ws) =
-    let h : length (reportsText ws) ≡ 13 * length ws = reports-length ws in
+    let h : length (reportsText ws) ≤ 17 * length ws = reports-length ws in
     let a : length (reportText w ++ reportsText ws) ≡ length (reportText w) + length (reportsText ws) = length-append (reportText w) (reportsText ws) in
     let b = report-length w in
     omega arith
@@ -61,7 +68,7 @@ end-length t f =
     let e : length (digitsText 10 4 (t .closing) ++ (bytes " blank " ++ b)) ≡ 4 + length (bytes " blank " ++ b) = fixed-ahead 4 (t .closing) (bytes " blank " ++ b) in
     omega arith
 
-pub told-length : (reports : List ℕ) (t : Totals) → Tallies t → length (toldText reports t) ≤ 13 * length reports + 81
+pub told-length : (reports : List ℕ) (t : Totals) → Tallies t → length (toldText reports t) ≤ 17 * length reports + 81
 unfolding toldText
 told-length reports t f =
     let ws : List ℕ = take (t .reports) reports in

@@ -2,7 +2,7 @@
 -- Assumes nothing.
 use mathlib.Core.Path.{_≡_, refl, sym, ap, _∙_}
 use mathlib.Core.List.{List, [], _∷_, _++_, append-assoc}
-use Prim.Native.Nat.{ℕ, _+_, _/_, _%_, _≤_, _<_, min}
+use Prim.Native.Nat.{ℕ, _+_, _≤_, _<_, min}
 use native.Mathlib.Numerals.{add-one}
 use native.Mathlib.Omega.{arith}
 use lib.ListN.{length, take, drop, getD, drop-of-length-le}
@@ -11,7 +11,7 @@ use Rattle.cells.specs.Text.{bytes}
 use Rattle.cells.proofs.Split.{by-lt}
 use Rattle.value_written.specs.Text.{digitsText, markedText}
 use Rattle.load.specs.declared.Totals.{Totals}
-use Rattle.load.specs.Run.{conditionSpan}
+use Rattle.load.specs.Run.{numberIn, conditionIn, columnIn}
 use Rattle.tidy_printed.specs.Text.{lf, reportText, reportsText, endText, toldText, neededText}
 use Rattle.tidy_printed.specs.Part.{fixedText, talliesText}
 
@@ -19,8 +19,9 @@ pub fixed-is : (mark : List ℕ) (count n : ℕ) → mark ++ digitsText 10 count
 unfolding fixedText
 fixed-is mark count n = refl
 
-pub report-parts : (w : ℕ) → fixedText (bytes "(") 5 (w / conditionSpan) ++ (fixedText (bytes ") ") 4 (w % conditionSpan) ++ lf) ≡ reportText w
-unfolding reportText fixedText
+pub report-parts : (w : ℕ)
+    → fixedText (bytes "(") 5 (numberIn w) ++ (markedText (bytes ":") (columnIn w) ++ (fixedText (bytes ") ") 4 (conditionIn w) ++ lf)) ≡ reportText w
+unfolding reportText fixedText markedText
 report-parts w = refl
 
 pub tallies-parts : (t : Totals)
