@@ -79,8 +79,7 @@ behind-among : (n m : ℕ) (r : List ℕ) (rs : List (List ℕ)) (qs : List Repo
 behind-among n m r rs [] h = tt
 behind-among n m r rs (q ∷ qs) h =
     let x = h .0 in
-    let e : q .number ≡ n + 1 + x .index + 1 = x .number in
-    (
+    let e : q .number ≡ n + 1 + x .index + 1 = x .number in (
       record { index = suc (x .index); read = suc-le-suc (x .read); number = omega arith; column = x .column },
       behind-among n m r rs qs (h .1),
     )
