@@ -71,7 +71,7 @@ module _ (stream : List ℕ) (short : length stream ≤ mostInput) {s reps : Lis
 pub tallies : (t : Totals) → t .blank < 4294967296 → t .obeyed < 4294967296 → t .passed < 4294967296 → t .dropped < 4294967296 → Tallies t
 tallies t b o p d = record { blank = b; obeyed = o; passed = p; dropped = d }
 
-module _ (o reps : List ℕ) (t : Totals) (f : Tallies t) (few : length reps ≤ 1024) (long : 78943 ≤ length o) where
+module _ (o reps : List ℕ) (t : Totals) (f : Tallies t) (few : length reps ≤ 1024) (long : 83039 ≤ length o) where
   pub told-room : Room o 0 (toldText reps t)
   told-room = let l = told-length reps t f in record { fits = omega arith }
 

@@ -29,7 +29,7 @@ emptyStore = replicate (storeLength house) 0
 unfoldable pub readIn : List ℕ → Run
 readIn stream = loadOf house emptyStore stream
 
--- "`(record) condition` per stored report (its list holds 1,024)"
+-- "`(record) condition` per stored report (its list holds 1,024)", the column after a colon (paper 02, C-11)
 abbrev pub reportList : List ℕ
 reportList = replicate 1024 0
 

@@ -69,8 +69,8 @@ fn put_load(stream: &[u8], out: &mut [u8]) -> usize
     }
 }
 
-// Room for all that `tidy` can print: 17 bytes for each of the 1,024 reports that the list holds (a column of 7 bits has three digits at most), 96 for the END line, and 65,535 for the
-// stream.
+// Room for all that `tidy` can print: 17 bytes for each of the 1,024 reports that the list holds (a column of 7 bits has three digits at
+// most), 96 for the END line, and 65,535 for the stream.
 pub fn buffer() -> [u8; 83039]
     ensures { λ r. ⌜ 83039 ≡ length r ⌝ }
     ensures { λ r. ⌜ r ≡ replicate 83039 0 ⌝ }
