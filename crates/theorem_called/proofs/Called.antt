@@ -15,6 +15,7 @@ use Rattle.store_head.specs.Pack.{Bytes}
 use Rattle.store.specs.Change.{emptied}
 use Rattle.store.specs.Good.{Ready}
 use Rattle.store.specs.Slots.{find}
+use Rattle.text_records.specs.Received.{longest}
 use Rattle.load.specs.declared.Totals.{Totals}
 use Rattle.load.specs.Run.{loadOf, totalsOf, storedIn, allReports}
 use Rattle.save.specs.Lines.{streamOf}
@@ -27,6 +28,9 @@ use Rattle.show.specs.Calls.{mostBytes, LoadCall, loadReply, LoadPromise, Write
 use Rattle.show.specs.Calls.{EmptyCall, emptyReply, emptiedAs, emptyCall, EmptyPromise, Look, lookAt, lookBy, lookCall, LookPromise}
 use Rattle.show.specs.Calls.{cueName, cueKey, findReply, placedAt, findBy, FindPromise}
 use Rattle.show.proofs.Laws.{load-long, put-long, put-short, write-by, empty-done, look-by, find-by}
+use Rattle.theorem_told.specs.Answer.{noReport}
+use Rattle.theorem_told.specs.Reports.{reportAt}
+use Rattle.theorem_told.proofs.Columns.{load-columns}
 use Rattle.theorem_told.proofs.Lent.{stored-length}
 use Rattle.theorem_same_show.specs.Show.{SameShow, ReadBack}
 use Rattle.theorem_same_show.proofs.Theorem.{written-reads-back}
@@ -162,7 +166,7 @@ good-after d =
 
 -- ---- demand 3
 
--- room as a user sees it, of an answered load
+-- room as a user sees it, of an answered load: no column is above 80, so that each word has its condition
 seen-room : (d : Desk) (s reps stream : List ℕ) {x : Totals} {t q : List ℕ} → LoadAnswered d s reps stream x t q → SeenRoom x q
     → HadRoom (loadOf d s stream)
 seen-room d s reps stream {x} {t} {q} l h =
@@ -170,7 +174,8 @@ seen-room d s reps stream {x} {t} {q} l h =
     let g : SeenRoom (totalsOf run) (storedIn reps (allReports run)) =
     subst (λ (z : List ℕ). SeenRoom (totalsOf run) z) (l .list) (subst (λ (z : Totals). SeenRoom z q) (l .told) h)
     in
-    saw-room run reps (subst (λ (n : ℕ). totalsOf run .reports ≤ n) (stored-length reps (allReports run)) (g .0), g .1)
+    saw-room run reps noReport (λ k f. let c : reportAt (allReports run) k .column ≤ longest = load-columns d s stream .most k f in omega arith)
+    (subst (λ (n : ℕ). totalsOf run .reports ≤ n) (stored-length reps (allReports run)) (g .0), g .1)
 
 pub rehearsed-calls : RehearsedCalls
 rehearsed-calls d D larger v s w S e E stream lent Lent x t q X T Q f F =
