@@ -211,8 +211,7 @@ module _ {xs bytes : List ℕ} {n : ℕ} {high control : Bool} (w : Texted xs by
   text-room {d} {p} {t} h k =
       let a : length (take n bytes) ≡ length (keptOf xs) = ap (λ (z : List ℕ). length z) (w .text) in
       let b : length (keptOf xs) ≤ length xs = kept-length xs in
-      let f : p .count .reports + length xs ≤ mostRecords = k .room in
-      (
+      let f : p .count .reports + length xs ≤ mostRecords = k .room in (
         record { short = h; within = omega arith; marred = λ i. w .highs i || w .controls i },
         record { fitting = k .fitting; ready = k .ready; countable = k .countable; room = omega arith },
       )

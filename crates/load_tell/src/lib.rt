@@ -145,7 +145,13 @@ fn column_of(received: &[u8], marred: bool, place: usize) -> usize
 }
 
 // ENDDATA stops a load without a report.
-fn report_outcome(reports: &mut [u64], count: Count, received: &[u8], marred: bool, outcome: Outcome) -> Count
+fn report_outcome(
+    reports: &mut [u64],
+    count: Count,
+    received: &[u8],
+    marred: bool,
+    outcome: Outcome,
+) -> Count
     requires { ⌜ Tellable count (now received) (outcomeFaults outcome) ⌝ }
     requires { ⌜ Marred marred (now received) ⌝ }
     ensures { λ r. ⌜ told r (now (reports .exit)) ≡ toldAll (now (received .entry)) (told count (now (reports .entry))) (outcomeFaults outcome) ⌝ }
@@ -179,7 +185,13 @@ fn fault_in(word: u32) -> Fault
 }
 
 // The items that a record dropped.
-fn report_faults(reports: &mut [u64], count: Count, received: &[u8], marred: bool, faults: &[u32]) -> Count
+fn report_faults(
+    reports: &mut [u64],
+    count: Count,
+    received: &[u8],
+    marred: bool,
+    faults: &[u32],
+) -> Count
     requires { ⌜ Tellable count (now received) (faultsAs (now faults)) ⌝ }
     requires { ⌜ Marred marred (now received) ⌝ }
     ensures { λ r. ⌜ told r (now (reports .exit)) ≡ toldAll (now (received .entry)) (told count (now (reports .entry))) (faultsAs (now (faults .entry))) ⌝ }

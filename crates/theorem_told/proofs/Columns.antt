@@ -22,7 +22,7 @@ use Rattle.load.specs.Run.{Run, Report, stops, reportOf, reportsAt, runFrom, lo
 use Rattle.load.proofs.Faulted.{Blamed, AllBlamed}
 use Rattle.load.proofs.Told.{record-blamed}
 use Rattle.theorem_told.specs.Columns.{FirstThere, ColumnSaid, ColumnsSaid}
-use Rattle.theorem_told.proofs.Placed.{Placed, field-placed}
+use Rattle.text_fields.proofs.Placed.{Placed, field-placed}
 use Rattle.theorem_told.proofs.Reports.{Each, each-join, each-at, load-near}
 
 -- ---- of one fault

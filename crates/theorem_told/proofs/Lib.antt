@@ -4,7 +4,6 @@ pub mod Tallies
 pub mod Classes
 pub mod Closing
 pub mod Reports
-pub mod Placed
 pub mod Columns
 pub mod Lent
 pub mod Untouched

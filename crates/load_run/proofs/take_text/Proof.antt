@@ -35,8 +35,7 @@ tell-requires : tie.Need-tell-requires
 tell-requires c κs =
     let k = stepped c in
     let s = began (k .before) in
-    let t = s .pre .1 .0 in
-    (
+    let t = s .pre .1 .0 in (
       t .countable,
       (
         step-room _ _ _ (k .step .ensures .0) (step-small _ _ _ _) (k .step .ensures .1) (s .pre .1 .1) _ _ _ (s .args .high) (s .args .control) (t .countable) (t .room)
