@@ -198,10 +198,76 @@ pub fn severity(condition: u32) -> char {
     }
 }
 
+/// The longest of the texts that [`condition_text`] and [`time_text`] give.
+pub const MOST_TEXT: usize = 44;
+
+/// A short text, held by value: used as a `str`.
+#[derive(Clone, Copy, PartialEq, Eq)]
+pub struct Text {
+    bytes: [u8; MOST_TEXT],
+    length: usize,
+}
+
+impl Text {
+    fn of(text: &str) -> Text {
+        let mut bytes = [0; MOST_TEXT];
+        bytes[..text.len()].copy_from_slice(text.as_bytes());
+        Text { bytes, length: text.len() }
+    }
+}
+
+impl core::ops::Deref for Text {
+    type Target = str;
+
+    fn deref(&self) -> &str {
+        core::str::from_utf8(&self.bytes[..self.length]).expect("the library's texts are ASCII")
+    }
+}
+
+impl fmt::Display for Text {
+    fn fmt(&self, f: &mut fmt::Formatter<'_>) -> fmt::Result {
+        f.pad(self)
+    }
+}
+
+impl fmt::Debug for Text {
+    fn fmt(&self, f: &mut fmt::Formatter<'_>) -> fmt::Result {
+        fmt::Debug::fmt(&**self, f)
+    }
+}
+
+/// A level in percent, by Table C-1 of the standard.
+pub fn percent(level: u8) -> u32 {
+    (u32::from(level) * 200 + 255) / 510
+}
+
+/// A time in tenths of a second as the written stream has it: `3`, `1:30`, `2:00:10.5`.
+pub fn time_text(tenths: u32) -> Text {
+    use fmt::Write;
+    struct Line(Text);
+    impl Write for Line {
+        fn write_str(&mut self, s: &str) -> fmt::Result {
+            self.0.bytes[self.0.length..][..s.len()].copy_from_slice(s.as_bytes());
+            self.0.length += s.len();
+            Ok(())
+        }
+    }
+    let (mut line, s) = (Line(Text::of("")), tenths / 10);
+    let _ = match s {
+        0..=59 => write!(line, "{s}"),
+        60..=3599 => write!(line, "{}:{:02}", s / 60, s % 60),
+        _ => write!(line, "{}:{:02}:{:02}", s / 3600, s / 60 % 60, s % 60),
+    };
+    if tenths % 10 != 0 {
+        let _ = write!(line, ".{}", tenths % 10);
+    }
+    line.0
+}
+
 /// The standard's text for a condition that a load can report (Appendix B), or for the closing number 0; "" for any other number. Where
 /// the appendix puts the record's own field or keyword between two words, the text has the words alone.
-pub fn condition_text(condition: u32) -> &'static str {
-    match condition {
+pub fn condition_text(condition: u32) -> Text {
+    Text::of(match condition {
         0 => "Data stream successfully processed",
         21 => "Cue memory exhausted",
         22 => "Group memory exhausted",
@@ -226,7 +292,7 @@ pub fn condition_text(condition: u32) -> &'static str {
         701 => "Ignored character with high-bit set",
         702 => "Ignored non-printing character",
         _ => "",
-    }
+    })
 }
 
 impl Desk {
