@@ -1,8 +1,9 @@
 // The small pieces that everything above is made of: a byte at a place, widening, the smaller of two, filling and copying.
 ghost use mathlib.Core.Path.{_≡_};
 ghost use Prim.Native.Nat.{_≤_, min};
-ghost use lib.ListN.{length, getD, replicate};
+ghost use lib.ListN.{length, getD, replicate, set};
 ghost use Rattle.cells.specs.Put.{put};
+ghost use Rattle.cells.specs.Note.{notedFrom};
 
 // The byte at place i, and 0 past the end, so that callers need no test of the length.
 pub fn byte(s: &[u8], i: usize) -> u8
@@ -58,6 +59,26 @@ pub fn copy(dst: &mut [u8], src: &[u8])
     let mut i = 0;
     while i < src.len() {
         dst[i] = src[i];
+        i += 1;
+    }
+}
+
+// A number at a place of a list; past its end a list keeps what it has.
+pub fn note(list: &mut [u32], i: usize, v: u32)
+    ensures { λ _. ⌜ now (list .exit) ≡ set (now (list .entry)) i v ⌝ }
+{
+    if i < list.len() {
+        list[i] = v;
+    }
+}
+
+// Numbers from a list's front on, as many as it has room for.
+pub fn note_all(list: &mut [u32], values: &[u32])
+    ensures { λ _. ⌜ now (list .exit) ≡ notedFrom 0 (now (list .entry)) (now (values .entry)) ⌝ }
+{
+    let mut i = 0;
+    while i < values.len() {
+        note(&mut *list, i, values[i]);
         i += 1;
     }
 }

@@ -1,3 +1,4 @@
 pub mod Lines
 pub mod Row
 pub mod Part
+pub mod Listed

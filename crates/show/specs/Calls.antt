@@ -48,7 +48,11 @@ formAdmission (BadSlot i) = Away (R4a (i + 1))
 formAdmission (Repeated i) = Away (R4b (i + 1))
 formAdmission (BadEntry i) = Away (R4c (i + 1))
 
--- R2, a limit outside its range; R3, a store shorter than the desk needs; then the store's form
+-- R2, a limit outside its range; R3, a store shorter than the desk needs
+unfoldable pub lentAdmission : Desk → List ℕ → Admission
+lentAdmission d s = cond (inRangeOf d) (cond (leb (storeLength d) (length s)) Admitted (Away R3)) (Away R2)
+
+-- R2, R3, then the store's form
 unfoldable pub admissionOf : Desk → List ℕ → Admission
 admissionOf d s = cond (inRangeOf d) (cond (leb (storeLength d) (length s)) (formAdmission (formOf d s)) (Away R3)) (Away R2)
 

@@ -10,9 +10,9 @@ use store_desk::Refusal;
 ghost use mathlib.Core.Path.{_≡_};
 ghost use mathlib.Core.Bool.{true};
 ghost use Rattle.store_code.specs.Fits.{Fitting};
-ghost use Rattle.store.specs.Form.{goodForm};
+ghost use Rattle.store.specs.Form.{formOf, goodForm};
 ghost use Rattle.save.specs.Lines.{streamOf};
-ghost use Rattle.show.specs.Calls.{admissionOf, LoadPromise, writeReply, writtenAs, putCall, WritePromise, EmptyPromise, LookedUp, lookAt, LookPromise, cueName, findReply, placedAt, FindPromise};
+ghost use Rattle.show.specs.Calls.{formAdmission, lentAdmission, admissionOf, LoadPromise, writeReply, writtenAs, putCall, WritePromise, EmptyPromise, LookedUp, lookAt, LookPromise, cueName, findReply, placedAt, FindPromise};
 ghost use Rattle.store.specs.Slots.{find as findSlot, placeOf};
 
 // The longest stream that is read or written, in bytes.
@@ -42,9 +42,9 @@ pub enum Emptied {
     Done,
 }
 
-// R2, R3, R4a, R4b, R4c in that order. A place is told from 1.
-fn turned_away(desk: Desk, store: &[u8]) -> Admission
-    ensures { λ r. ⌜ r ≡ admissionOf desk (now (store .entry)) ⌝ }
+// R2, R3 in that order: of a desk and a store that any bytes may be in.
+pub fn lent(desk: Desk, store: &[u8]) -> Admission
+    ensures { λ r. ⌜ r ≡ lentAdmission desk (now (store .entry)) ⌝ }
 {
     if !desk.in_range() {
         return Admission::Away(Refusal::R2);
@@ -52,11 +52,29 @@ fn turned_away(desk: Desk, store: &[u8]) -> Admission
     if store.len() < desk.store_length() {
         return Admission::Away(Refusal::R3);
     }
+    Admission::Admitted
+}
+
+// The form of a store: R4a, R4b, R4c in that order. A place is told from 1.
+fn formed(desk: Desk, store: &[u8]) -> Admission
+    requires { ⌜ Fitting desk (now store) ⌝ }
+    ensures { λ r. ⌜ r ≡ formAdmission (formOf desk (now (store .entry))) ⌝ }
+{
     match store_form::form(desk, store) {
         StoreForm::Good => Admission::Admitted,
         StoreForm::BadSlot(slot) => Admission::Away(Refusal::R4a(slot + 1)),
         StoreForm::Repeated(slot) => Admission::Away(Refusal::R4b(slot + 1)),
         StoreForm::BadEntry(entry) => Admission::Away(Refusal::R4c(entry + 1)),
+    }
+}
+
+// R2, R3, R4a, R4b, R4c in that order.
+pub fn turned_away(desk: Desk, store: &[u8]) -> Admission
+    ensures { λ r. ⌜ r ≡ admissionOf desk (now (store .entry)) ⌝ }
+{
+    match lent(desk, store) {
+        Admission::Away(refusal) => Admission::Away(refusal),
+        Admission::Admitted => formed(desk, store),
     }
 }
 
@@ -103,14 +121,13 @@ pub fn write(desk: Desk, store: &[u8], out: &mut [u8]) -> Written
 pub fn empty(desk: Desk, store: &mut [u8]) -> Emptied
     ensures { λ r. ⌜ EmptyPromise desk (now (store .entry)) r (now (store .exit)) ⌝ }
 {
-    if !desk.in_range() {
-        return Emptied::Away(Refusal::R2);
+    match lent(desk, &*store) {
+        Admission::Away(refusal) => Emptied::Away(refusal),
+        Admission::Admitted => {
+            store_code::empty(desk, store);
+            Emptied::Done
+        }
     }
-    if store.len() < desk.store_length() {
-        return Emptied::Away(Refusal::R3);
-    }
-    store_code::empty(desk, store);
-    Emptied::Done
 }
 
 // Where a cue's levels stand, as a number: for callers that take no part of a slice; or R2 to R4c.
@@ -190,7 +207,7 @@ fn levels_place(desk: Desk, store: &[u8], key: Key) -> Placed
     ensures { λ r. ⌜ findReply r ≡ placedAt desk (findSlot desk (now (store .entry)) (cueName key)) ⌝ }
 {
     match cue_slot(desk, store, key) {
-        Place::At(slot) => Placed::At(slot * desk.slot_length() + store_desk::HEAD_LENGTH),
+        Place::At(slot) => Placed::At(store_code::levels_start(desk, slot)),
         Place::Nowhere => Placed::NotKept,
     }
 }

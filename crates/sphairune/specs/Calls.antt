@@ -3,11 +3,13 @@
 -- Assumes nothing.
 use mathlib.Core.List.{List, [], _∷_}
 use mathlib.Core.Path.{_≡_}
-use Prim.Native.Nat.{ℕ, suc}
-use lib.ListN.{getD, set}
+use Prim.Native.Nat.{ℕ}
+use lib.ListN.{getD}
+use Rattle.cells.specs.Note.{notedFrom}
 use Rattle.store_desk.specs.declared.Desk.{Desk}
 use Rattle.store_desk.specs.Refusal.{Reply, replyWord, neededCall}
-use Rattle.show.specs.Calls.{LoadCall, loadCall, WriteCall, writeCall, EmptyCall, emptyCall, findCall}
+use Rattle.show.specs.Calls.{LoadCall, loadCall, WriteCall, putCall, writeCall, EmptyCall, emptyCall, findCall}
+use Rattle.show_read.specs.Calls.{ListCall, memoriesCall, headCall, levelsCall, patchCall}
 
 -- a desk is the list of its nine limits; a limit that the list lacks is 0
 unfoldable pub deskOf : List ℕ → Desk
@@ -23,11 +25,6 @@ deskOf l =
       «sub_pages» = getD l 7 0;
       «patch_pages» = getD l 8 0;
     }
-
--- what an answer tells goes into a lent list from place i on; past its end a list keeps what it has
-unfoldable pub notedFrom : ℕ → List ℕ → List ℕ → List ℕ
-notedFrom i l [] = l
-notedFrom i l (v ∷ vs) = notedFrom (suc i) (set l i v) vs
 
 -- the answer as one word, and the lists that the call may write, in the order of its parameters
 pub record Exported : Type 0 where
@@ -51,6 +48,9 @@ loadedIn x l = exported (replyWord (x .reply)) (x .store ∷ x .reports ∷ note
 unfoldable pub writtenIn : WriteCall → List ℕ → Exported
 writtenIn x l = exported (replyWord (x .reply)) (x .out ∷ notedFrom 0 l (x .reply .told) ∷ [])
 
+unfoldable pub listedIn : ListCall → List ℕ → Exported
+listedIn x l = exported (replyWord (x .reply)) (x .slots ∷ notedFrom 0 l (x .reply .told) ∷ [])
+
 -- ---- the promises: of the word, and each lent list afterwards
 
 abbrev pub NeededExport : List ℕ → List ℕ → ℕ → List ℕ → Type 0
@@ -67,3 +67,19 @@ WriteExport limits s out l n o m = exported n (o ∷ m ∷ []) ≡ writtenIn (wr
 
 abbrev pub FindExport : List ℕ → List ℕ → ℕ → ℕ → ℕ → List ℕ → ℕ → List ℕ → Type 0
 FindExport limits s page whole tenths l n m = exported n (m ∷ []) ≡ repliedIn (findCall (deskOf limits) s page whole tenths) l
+
+abbrev pub MemoriesExport : List ℕ → List ℕ → ℕ → List ℕ → List ℕ → ℕ → List ℕ → List ℕ → Type 0
+MemoriesExport limits s kind slots l n t m = exported n (t ∷ m ∷ []) ≡ listedIn (memoriesCall (deskOf limits) s kind slots) l
+
+abbrev pub HeadExport : List ℕ → List ℕ → ℕ → List ℕ → ℕ → List ℕ → Type 0
+HeadExport limits s slot l n m = exported n (m ∷ []) ≡ repliedIn (headCall (deskOf limits) s slot) l
+
+abbrev pub LevelsExport : List ℕ → List ℕ → ℕ → List ℕ → ℕ → List ℕ → Type 0
+LevelsExport limits s slot l n m = exported n (m ∷ []) ≡ repliedIn (levelsCall (deskOf limits) s slot) l
+
+abbrev pub PatchExport : List ℕ → List ℕ → ℕ → ℕ → List ℕ → ℕ → List ℕ → Type 0
+PatchExport limits s page dimmer l n m = exported n (m ∷ []) ≡ repliedIn (patchCall (deskOf limits) s page dimmer) l
+
+-- of a text
+abbrev pub TextExport : List ℕ → List ℕ → List ℕ → ℕ → List ℕ → List ℕ → Type 0
+TextExport text out l n o m = exported n (o ∷ m ∷ []) ≡ writtenIn (putCall text out) l

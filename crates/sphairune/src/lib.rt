@@ -8,15 +8,24 @@ use show::Emptied;
 use show::Loaded;
 use show::Placed;
 use show::Written;
+use show_read::Headed;
+use show_read::Listed;
+use show_read::Patched;
 use store_desk::Desk;
 use store_desk::Needed;
 use store_desk::Refusal;
 ghost use mathlib.Core.Path.{_≡_};
 ghost use mathlib.Core.List.{[], _∷_};
-ghost use lib.ListN.{getD, set};
-ghost use Rattle.sphairune.specs.Calls.{deskOf, notedFrom, NeededExport, EmptyExport, LoadExport, WriteExport, FindExport};
-ghost use Rattle.store_desk.specs.Refusal.{refusalTold};
-ghost use Rattle.show.specs.Calls.{totalsTold};
+ghost use Prim.Native.Nat.{_≤_};
+ghost use lib.ListN.{getD};
+ghost use Rattle.cells.specs.Note.{notedFrom};
+ghost use Rattle.sphairune.specs.Calls.{deskOf, exported, repliedIn, NeededExport, EmptyExport, LoadExport, WriteExport, FindExport};
+ghost use Rattle.sphairune.specs.Calls.{MemoriesExport, HeadExport, LevelsExport, PatchExport, TextExport};
+ghost use Rattle.store_desk.specs.Refusal.{refusalTold, mostPlaces};
+ghost use Rattle.value_level.specs.Level.{bytePercent};
+ghost use Rattle.value_written.specs.Text.{timeText};
+ghost use Rattle.show.specs.Calls.{totalsTold, writeReply};
+ghost use Rattle.show_words.specs.Words.{severityOf, conditionText};
 
 fn number_at(list: &[u32], i: usize) -> u32
     ensures { λ r. ⌜ r ≡ getD (now (list .entry)) i 0 ⌝ }
@@ -41,14 +50,6 @@ fn desk_of(limits: &[u32]) -> Desk
 }
 
 // Past its end a list keeps what it has.
-fn note(list: &mut [u32], i: usize, v: u32)
-    ensures { λ _. ⌜ now (list .exit) ≡ set (now (list .entry)) i v ⌝ }
-{
-    if i < list.len() {
-        list[i] = v;
-    }
-}
-
 fn note_length(list: &mut [usize], v: usize)
     ensures { λ _. ⌜ now (list .exit) ≡ notedFrom 0 (now (list .entry)) (v ∷ []) ⌝ }
 {
@@ -73,21 +74,28 @@ fn note_told(list: &mut [usize], refusal: Refusal)
     }
 }
 
-fn note_tallies(list: &mut [u32], t: Totals)
-    ensures { λ _. ⌜ now (list .exit) ≡ set (set (set (now (list .entry)) 1 (t .blank)) 2 (t .obeyed)) 3 (t .passed) ⌝ }
+// A length, or what a refusal tells, and the word.
+fn note_written(list: &mut [usize], written: Written) -> u32
+    requires { ⌜ writeReply written .place ≤ mostPlaces ⌝ }
+    ensures { λ r. ⌜ exported r (now (list .exit) ∷ []) ≡ repliedIn (writeReply written) (now (list .entry)) ⌝ }
 {
-    note(&mut *list, 1, t.blank);
-    note(&mut *list, 2, t.obeyed);
-    note(&mut *list, 3, t.passed);
+    match written {
+        Written::Away(refusal) => {
+            note_told(list, refusal);
+            refusal.word()
+        }
+        Written::Done(n) => {
+            note_length(list, n);
+            0
+        }
+    }
 }
 
-fn note_totals(list: &mut [u32], t: Totals)
-    ensures { λ _. ⌜ now (list .exit) ≡ notedFrom 0 (now (list .entry)) (totalsTold t) ⌝ }
+// The count of reports, the four tallies and the closing number.
+fn totals_told(t: Totals) -> [u32; 6]
+    ensures { λ r. ⌜ r ≡ totalsTold t ⌝ }
 {
-    note(&mut *list, 0, t.reports);
-    note_tallies(&mut *list, t);
-    note(&mut *list, 4, t.dropped);
-    note(&mut *list, 5, t.closing);
+    [t.reports, t.blank, t.obeyed, t.passed, t.dropped, t.closing]
 }
 
 // The bytes that a store of this desk needs, in `length`; or 2.
@@ -131,7 +139,7 @@ pub extern "C" fn sphairune_load(
     match show::load(desk_of(limits), store, stream, reports) {
         Loaded::Away(refusal) => refusal.word(),
         Loaded::Done(t) => {
-            note_totals(totals, t);
+            cells::note_all(totals, &totals_told(t));
             0
         }
     }
@@ -148,16 +156,8 @@ pub extern "C" fn sphairune_write(
     ensures { λ r. ⌜ WriteExport (now (limits .entry)) (now (store .entry)) (now (out .entry)) (now (length .entry))
         r (now (out .exit)) (now (length .exit)) ⌝ }
 {
-    match show::write(desk_of(limits), store, out) {
-        Written::Away(refusal) => {
-            note_told(length, refusal);
-            refusal.word()
-        }
-        Written::Done(n) => {
-            note_length(length, n);
-            0
-        }
-    }
+    let written = show::write(desk_of(limits), store, out);
+    note_written(length, written)
 }
 
 // Where in the store the levels of a kept cue begin, in `place`; or 255 where it is not kept; or 2, 3, 4A to 4C.
@@ -180,4 +180,120 @@ pub extern "C" fn sphairune_find(
             show::KEPT
         }
     }
+}
+
+// ---- reading a store
+
+// The slots of the kept memories of a kind (0 cues, 1 groups, 2 submasters), by page and number, in `slots`, as many as it has room for, and in
+// `count` how many are kept; or 255 for any other kind; or 2, 3, 4A to 4C. Slots count from 1 through the whole store.
+#[no_mangle]
+pub extern "C" fn sphairune_memories(
+    limits: &[u32],
+    store: &[u8],
+    kind: u32,
+    slots: &mut [u32],
+    count: &mut [usize],
+) -> u32
+    ensures { λ r. ⌜ MemoriesExport (now (limits .entry)) (now (store .entry)) kind (now (slots .entry)) (now (count .entry))
+        r (now (slots .exit)) (now (count .exit)) ⌝ }
+{
+    match show_read::memories(desk_of(limits), store, kind, slots) {
+        Listed::Away(refusal) => refusal.word(),
+        Listed::NotKept => show::NOT_KEPT,
+        Listed::Done(n) => {
+            note_length(count, n);
+            show::KEPT
+        }
+    }
+}
+
+// The values of a slot's head in `values`; or 255 where the desk has no such slot; or 2, 3.
+#[no_mangle]
+pub extern "C" fn sphairune_head(limits: &[u32], store: &[u8], slot: u32, values: &mut [u32]) -> u32
+    ensures { λ r. ⌜ HeadExport (now (limits .entry)) (now (store .entry)) slot (now (values .entry)) r (now (values .exit)) ⌝ }
+{
+    match show_read::head(desk_of(limits), store, slot) {
+        Headed::Away(refusal) => refusal.word(),
+        Headed::NotKept => show::NOT_KEPT,
+        Headed::Has(head) => {
+            cells::note_all(values, &store_head::head_values(head));
+            show::KEPT
+        }
+    }
+}
+
+// Where in the store a slot's levels begin, in `place`; or 255 where the desk has no such slot; or 2, 3.
+#[no_mangle]
+pub extern "C" fn sphairune_levels(limits: &[u32], store: &[u8], slot: u32, place: &mut [usize]) -> u32
+    ensures { λ r. ⌜ LevelsExport (now (limits .entry)) (now (store .entry)) slot (now (place .entry)) r (now (place .exit)) ⌝ }
+{
+    match show_read::levels(desk_of(limits), store, slot) {
+        Placed::Away(refusal) => refusal.word(),
+        Placed::NotKept => show::NOT_KEPT,
+        Placed::At(at) => {
+            note_length(place, at);
+            show::KEPT
+        }
+    }
+}
+
+// What a dimmer is patched to, in `values`: channel, level, zero bits; or 255 where the desk has no such dimmer; or 2, 3.
+#[no_mangle]
+pub extern "C" fn sphairune_patch(
+    limits: &[u32],
+    store: &[u8],
+    page: u32,
+    dimmer: u32,
+    values: &mut [u32],
+) -> u32
+    ensures { λ r. ⌜ PatchExport (now (limits .entry)) (now (store .entry)) page dimmer (now (values .entry)) r (now (values .exit)) ⌝ }
+{
+    match show_read::patch(desk_of(limits), store, page, dimmer) {
+        Patched::Away(refusal) => refusal.word(),
+        Patched::NotKept => show::NOT_KEPT,
+        Patched::Has(patch) => {
+            cells::note_all(values, &store_head::patch_values(patch));
+            show::KEPT
+        }
+    }
+}
+
+// ---- what people read
+
+// A level in percent.
+#[no_mangle]
+pub extern "C" fn sphairune_percent(level: u8) -> u32
+    ensures { λ r. ⌜ r ≡ bytePercent level ⌝ }
+{
+    value_level::byte_percent(level)
+}
+
+// The letter of a condition's severity.
+#[no_mangle]
+pub extern "C" fn sphairune_severity(condition: u32) -> u8
+    ensures { λ r. ⌜ r ≡ severityOf condition ⌝ }
+{
+    show_words::severity(condition)
+}
+
+// A time in tenths of a second as the written stream has it, in `out`, and its length in `length`; or 6 with the length needed.
+#[no_mangle]
+pub extern "C" fn sphairune_time_text(tenths: u32, out: &mut [u8], length: &mut [usize]) -> u32
+    ensures { λ r. ⌜ TextExport (timeText tenths) (now (out .entry)) (now (length .entry)) r (now (out .exit)) (now (length .exit)) ⌝ }
+{
+    let written = show_words::time_text(tenths, out);
+    note_written(length, written)
+}
+
+// The standard's text for a condition in `out`, and its length in `length`; or 6 with the length needed.
+#[no_mangle]
+pub extern "C" fn sphairune_condition_text(
+    condition: u32,
+    out: &mut [u8],
+    length: &mut [usize],
+) -> u32
+    ensures { λ r. ⌜ TextExport (conditionText condition) (now (out .entry)) (now (length .entry)) r (now (out .exit)) (now (length .exit)) ⌝ }
+{
+    let written = show_words::condition_text(condition, out);
+    note_written(length, written)
 }

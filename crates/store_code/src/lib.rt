@@ -95,13 +95,22 @@ pub fn head_of(desk: Desk, store: &[u8], slot: usize) -> Head
     store_head::decode(slot_bytes(desk, store, slot))
 }
 
+// Where a slot's levels begin in the store.
+pub fn levels_start(desk: Desk, slot: usize) -> usize
+    requires { ⌜ InRange desk ⌝ }
+    requires { ⌜ slot < slotsOf desk ⌝ }
+    ensures { λ r. ⌜ r ≡ slot * slotLength desk + headLength ⌝ }
+{
+    slot_start(desk, slot) + store_desk::HEAD_LENGTH
+}
+
 // The very bytes in the store, with no copying.
 pub fn levels<'a>(desk: Desk, store: &'a [u8], slot: usize) -> &'a [u8]
     requires { ⌜ Fitting desk (now store) ⌝ }
     requires { ⌜ slot < slotsOf desk ⌝ }
     ensures { λ r. ⌜ LevelsOf desk (store .entry) slot r ⌝ }
 {
-    let at = slot_start(desk, slot) + store_desk::HEAD_LENGTH;
+    let at = levels_start(desk, slot);
     let end = slot_end(desk, slot);
     &store[at..end]
 }

@@ -10,7 +10,7 @@ use Rattle.store_desk.specs.declared.Desk.{Desk}
 use Rattle.store_desk.specs.declared.Key.{Key}
 use Rattle.store_desk.specs.declared.Kind.{Kind}
 use Rattle.store_desk.specs.declared.Kind.the-variants.{Cue, Group, Sub}
-use Rattle.store_desk.specs.Size.{allOf, isWithin, subSlots}
+use Rattle.store_desk.specs.Size.{allOf, isWithin, subSlots, slotsOf}
 
 -- ---- the slots and pages of a kind: cue slots come first, then group slots, then submaster slots
 
@@ -98,6 +98,14 @@ pub record KeyFits (k : Key) : Type 0 where
   pub fraction : k .fraction < fractionSpan
 
 -- ---- places that a desk gives
+
+-- the desk has a slot of this number: slots count from 1 through the whole store, as R4a tells them
+unfoldable pub hasSlot : Desk → ℕ → Bool
+hasSlot d n = isWithin 1 n (slotsOf d)
+
+-- the desk has this dimmer on this patch page
+unfoldable pub hasDimmer : Desk → ℕ → ℕ → Bool
+hasDimmer d page dimmer = allOf (isWithin 1 page (d .«patch_pages») ∷ isWithin 1 dimmer (d .dimmers) ∷ [])
 
 -- a submaster's slot: page by page, by number
 unfoldable pub subSlot : Desk → Key → ℕ

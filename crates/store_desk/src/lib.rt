@@ -4,7 +4,7 @@ ghost use mathlib.Core.Bool.{_&&_};
 ghost use Rattle.store_desk.specs.Size.{Within, InRange, inRangeOf, isWithin, house, levelWidth, levelsLength, slotLength, subSlots, slotsOf, patchStart, entriesOf, storeLength};
 ghost use Prim.Native.Nat.{_≤_};
 ghost use Rattle.store_desk.specs.Refusal.{refusalNumber, refusalPlace, mostPlaces, refusalWord, NeededPromise};
-ghost use Rattle.store_desk.specs.Name.{firstSlot, slotCount, pagesOf, supported, okNumber, okSub, okWithin, okPage, okName, subSlot, entryOf};
+ghost use Rattle.store_desk.specs.Name.{firstSlot, slotCount, pagesOf, supported, okNumber, okSub, okWithin, okPage, okName, hasSlot, hasDimmer, subSlot, entryOf};
 
 // The nine limits, in the order of the paper's table.
 pub struct Desk {
@@ -348,6 +348,24 @@ pub fn ok_name(desk: Desk, kind: Kind, key: Key) -> bool
     both(
         supports(desk, kind),
         both(ok_within(desk, kind, key), ok_page(desk, kind, key.page)),
+    )
+}
+
+// The desk has a slot of this number, which counts from 1 through the whole store.
+pub fn has_slot(desk: Desk, number: u32) -> bool
+    requires { ⌜ InRange desk ⌝ }
+    ensures { λ r. ⌜ r ≡ hasSlot desk number ⌝ }
+{
+    both(1 <= number, cells::place(number) <= desk.slots())
+}
+
+// The desk has this dimmer on this patch page.
+pub fn has_dimmer(desk: Desk, page: u32, dimmer: u32) -> bool
+    ensures { λ r. ⌜ r ≡ hasDimmer desk page dimmer ⌝ }
+{
+    both(
+        is_within(1, page, desk.patch_pages),
+        is_within(1, dimmer, desk.dimmers),
     )
 }
 

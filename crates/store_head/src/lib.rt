@@ -3,7 +3,7 @@ ghost use mathlib.Core.Path.{_≡_};
 ghost use Prim.Native.Nat.{_+_, _≤_, _<_};
 ghost use lib.ListN.{length, getD, drop};
 ghost use Rattle.store_head.specs.Pack.{packed};
-ghost use Rattle.store_head.specs.Layout.{octets, encodeHead, decodeHead, encodePatch, decodePatch};
+ghost use Rattle.store_head.specs.Layout.{octets, headValues, encodeHead, decodeHead, patchValues, encodePatch, decodePatch};
 ghost use Rattle.store_head.specs.Fits.{pageSpan, wholeSpan, fractionSpan, HeadFits, wordOf, quickOf, PatchFits};
 ghost use Rattle.store_head.specs.Words.{firstWord, secondWord, thirdWord};
 
@@ -231,4 +231,35 @@ pub fn encode_patch(p: Patch) -> [u8; 3]
         (n / 256 % 256) as u8,
         (n % 256) as u8,
     ]
+}
+
+// The values of a head, in the order of its table.
+pub fn head_values(h: Head) -> [u32; 16]
+    ensures { λ r. ⌜ r ≡ headValues h ⌝ }
+{
+    [
+        h.used,
+        h.page,
+        h.whole,
+        h.fraction,
+        h.link,
+        h.link_whole,
+        h.link_fraction,
+        h.up,
+        h.up_fade,
+        h.up_delay,
+        h.down,
+        h.down_fade,
+        h.down_delay,
+        h.followon,
+        h.followon_time,
+        h.rest,
+    ]
+}
+
+// Those of a patch entry.
+pub fn patch_values(p: Patch) -> [u32; 3]
+    ensures { λ r. ⌜ r ≡ patchValues p ⌝ }
+{
+    [p.channel, p.level, p.rest]
 }

@@ -19,6 +19,10 @@ rounded n d = (n * 2 + d) / (d * 2)
 unfoldable pub percentByte : ℕ → ℕ
 percentByte p = rounded (p * 255) 100
 
+-- Table C-1: the percentage of a level
+unfoldable pub bytePercent : ℕ → ℕ
+bytePercent l = rounded (l * 100) 255
+
 -- the largest percentage that is taken
 abbrev pub percentMax : ℕ
 percentMax = 999

@@ -3,7 +3,7 @@
 ghost use mathlib.Core.Path.{_≡_};
 ghost use Prim.Native.Nat.{_≤_};
 ghost use lib.ListN.{length};
-ghost use Rattle.value_level.specs.Level.{percentByte, isHexMark};
+ghost use Rattle.value_level.specs.Level.{percentByte, bytePercent, isHexMark};
 ghost use Rattle.value_level.specs.Run.{percentLeveling, HexFits, hexBy, hexLeveling, levelingAt};
 
 // A level: the largest percentage taken, and the one that all above it count as.
@@ -123,6 +123,13 @@ pub fn percent_byte(p: usize) -> u8
     ensures { λ r. ⌜ r ≡ percentByte p ⌝ }
 {
     PERCENT[p]
+}
+
+// The percentage of a level, by Table C-1 of the standard.
+pub fn byte_percent(level: u8) -> u32
+    ensures { λ r. ⌜ r ≡ bytePercent level ⌝ }
+{
+    (level as u32 * 200 + 255) / 510
 }
 
 // A level's byte, or in which of the two formats it is malformed.
