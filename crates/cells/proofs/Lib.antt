@@ -5,3 +5,4 @@ pub mod Table
 pub mod Pad
 pub mod Put
 pub mod Search
+pub mod Noted

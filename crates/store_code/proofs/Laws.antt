@@ -19,7 +19,7 @@ use Rattle.cells.proofs.Put.{length-put, put-back, put-front, put-fill, put-nex
 use Rattle.store_desk.specs.declared.Desk.{Desk}
 use Rattle.store_desk.specs.declared.Key.{Key}
 use Rattle.store_desk.specs.declared.Kind.{Kind}
-use Rattle.store_desk.specs.Size.{Within, InRange, levelWidth, levelsLength, slotLength, slotsOf, patchStart, entriesOf, storeLength}
+use Rattle.store_desk.specs.Size.{headLength, Within, InRange, levelWidth, levelsLength, slotLength, slotsOf, patchStart, entriesOf, storeLength}
 use Rattle.store_desk.specs.Name.{slotsEnd, firstSlot, slotCount, entryOf}
 use Rattle.store_desk.proofs.Size.{slot-le, slots-le, patch-le, store-le}
 use Rattle.store_desk.proofs.Name.{kind-end, entry-inside}
@@ -108,16 +108,17 @@ module _ (d : Desk) {c n w : ℕ} (h : Within 1 c (d .channels)) (en : n ≡ c) 
   pub level-set : (x y : List ℕ) (v : ℕ) → y ≡ set x (24 + (n - 1) * w) v → y ≡ editSlot d (Level c v) x
   level-set x y v e = e ∙ ap (λ (k : ℕ). set x k v) level-is ∙ level-slot d c v x
 
-pub levels-is : (d : Desk) (s : List ℕ) (i : ℕ) {a e : ℕ} → a ≡ i * slotLength d → e ≡ i * slotLength d + slotLength d
-    → take (e - (a + 24)) (drop (a + 24) s) ≡ levelsAt d s i
+pub levels-is : (d : Desk) (s : List ℕ) (i : ℕ) {b e : ℕ} → b ≡ i * slotLength d + headLength → e ≡ i * slotLength d + slotLength d
+    → take (e - b) (drop b s) ≡ levelsAt d s i
 unfolding levelsAt slotAt
-levels-is d s i {a} {e} ea ee =
+levels-is d s i {b} {e} eb ee =
+    let a = i * slotLength d in
     let g = slot-long d in
     let m : 24 + (e - (a + 24)) ≡ slotLength d = omega arith in
-    ap (λ (z : List ℕ). take (e - (a + 24)) z) (sym (drop-drop 24 a s))
+    ap (λ (z : ℕ). take (e - z) (drop z s)) eb
+    ∙ ap (λ (z : List ℕ). take (e - (a + 24)) z) (sym (drop-drop 24 a s))
     ∙ part-of-front (drop a s) 24 (e - (a + 24))
     ∙ ap (λ (z : ℕ). drop 24 (take z (drop a s))) m
-    ∙ ap (λ (z : ℕ). drop 24 (take (slotLength d) (drop z s))) ea
 
 -- ---- a slot afresh
 -- the head is put, and zeros over all that is after it

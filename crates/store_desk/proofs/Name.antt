@@ -2,11 +2,11 @@
 -- By cases on the kind, the tests' facts and laws of products.
 -- Assumes nothing.
 use mathlib.Core.Path.{_≡_, refl, sym, ap, _∙_, subst}
-use mathlib.Core.Bool.{true}
+use mathlib.Core.Bool.{Bool, true, _&&_}
 use Prim.Native.Nat.{ℕ, _+_, _-_, _*_, _/_, _%_, _≤_, _<_}
 use native.Mathlib.Nat.{mul-comm}
 use native.Mathlib.Omega.{arith}
-use lib.Dec.{ltb}
+use lib.Dec.{ltb, leb}
 use lib.Arith.{digits-lt, digits-div, digits-mod}
 use borrow.Author.Tests.{leb-true, le-leb, ltb-true, lt-ltb, le-ltb, eqb-true, eq-eqb}
 use Rattle.store_desk.specs.declared.Desk.{Desk}
@@ -16,7 +16,7 @@ use Rattle.store_desk.specs.declared.Kind.the-variants.{Cue, Group, Sub}
 use Rattle.store_desk.specs.Size.{Within, InRange, mostPages, subSlots, slotsOf, entriesOf}
 use Rattle.value.specs.Number.{wholeMax, fractionMax}
 use Rattle.store_head.specs.Fits.{wholeSpan, fractionSpan}
-use Rattle.store_desk.specs.Name.{firstSlot, slotCount, slotsEnd, pagesOf, kindAt, supported, Name, kindNumber, eqKind, eqKey, eqName, okNumber, okSub, okWithin, okPage, okName, KeyFits, subSlot, entryOf}
+use Rattle.store_desk.specs.Name.{firstSlot, slotCount, slotsEnd, pagesOf, kindAt, supported, Name, kindNumber, eqKind, eqKey, eqName, okNumber, okSub, okWithin, okPage, okName, KeyFits, hasSlot, hasDimmer, subSlot, entryOf}
 use Rattle.store_desk.proofs.Size.{within, all-at, all-none, all-more}
 use Rattle.cells.proofs.Split.{by-lt, cond-true, cond-false, same-test}
 
@@ -214,3 +214,18 @@ sub-same d a b ha hb e =
     let q = page-same (d .subs) (a .page) (a .whole) (b .page) (b .whole) (pa .0 .0) (pb .0 .0) (pa .1) (pb .1) c in
     let f : a .fraction ≡ b .fraction = omega arith in
     λ i. record { page = q .0 i; whole = q .1 i; fraction = f i }
+
+-- ---- slots and dimmers by number
+
+pub slot-tested : (d : Desk) (n : ℕ) {r : Bool} {p q : ℕ} → r ≡ (leb 1 n && leb p q) → p ≡ n → q ≡ slotsOf d → r ≡ hasSlot d n
+unfolding hasSlot
+slot-tested d n {r} {p} {q} e f g = e ∙ ap (λ (x : ℕ). leb 1 n && leb x q) f ∙ ap (λ (x : ℕ). leb 1 n && leb n x) g
+
+pub slot-there : (d : Desk) (n : ℕ) → hasSlot d n ≡ true → Within 1 n (slotsOf d)
+unfolding hasSlot
+slot-there d n e = within 1 n (slotsOf d) e
+
+pub dimmer-there : (d : Desk) (page dimmer : ℕ) → hasDimmer d page dimmer ≡ true
+    → Within 1 page (d .«patch_pages») × Within 1 dimmer (d .dimmers)
+unfolding hasDimmer
+dimmer-there d page dimmer e = (within 1 page _ (all-at _ 0 e), within 1 dimmer _ (all-at _ 1 e))
