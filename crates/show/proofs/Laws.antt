@@ -27,7 +27,6 @@ use Rattle.store.specs.Good.{Ready}
 use Rattle.store.proofs.Form.{by-form, form-is-good, good-sound, good-complete}
 use Rattle.store.proofs.Start.{found-ok}
 use Rattle.store_code.specs.Fits.{Fitting}
-use Rattle.store_code.proofs.Laws.{slot-small, slot-long}
 use Rattle.store_code.specs.Answer.{LevelsOf}
 use Rattle.load.specs.declared.Totals.{Totals}
 use Rattle.load.specs.Run.{loadOf}
@@ -38,7 +37,7 @@ use Rattle.store_desk.specs.Refusal.{Reply, replied, refused, mostPlaces}
 use Rattle.store_desk.specs.declared.Refusal.the-variants.{R1, R2, R3, R4a, R4b, R4c, R5, R6}
 use Rattle.show.specs.declared.Admission.{Admission}
 use Rattle.show.specs.declared.Admission.the-variants.{Admitted, Away}
-use Rattle.show.specs.Calls.{mostBytes, formAdmission, admissionOf, totalsTold, loadedAs, loadBy, loadCall, writtenAs, putCall, writeBy, writeCall, emptiedAs, emptyCall}
+use Rattle.show.specs.Calls.{mostBytes, formAdmission, lentAdmission, thenAdmission, admissionOf, totalsTold, loadedAs, loadBy, loadCall, writtenAs, putCall, writeBy, writeCall, emptiedAs, emptyBy, emptyCall}
 use Rattle.show.specs.Calls.{keptWord, notKeptWord, Look, look, cueName, cueKey, lookAt, lookBy, lookCall, LookedUp}
 use Rattle.show.specs.Calls.{findReply, placedAt, findBy, findCall}
 use Rattle.show.specs.declared.Placed.the-variants.{NotKept, At as PlacedAt}
@@ -50,12 +49,12 @@ pub ranged : (d : Desk) {b : Bool} → b ≡ inRangeOf d → not b ≡ false →
 ranged d {b} e t = in-range d (sym e ∙ not-false b t)
 
 module _ (d : Desk) (s : List ℕ) where
-  pub away-range : {b : Bool} → b ≡ inRangeOf d → not b ≡ true → Away R2 ≡ admissionOf d s
-  unfolding admissionOf
+  pub away-range : {b : Bool} → b ≡ inRangeOf d → not b ≡ true → Away R2 ≡ lentAdmission d s
+  unfolding lentAdmission
   away-range {b} e t = let f : inRangeOf d ≡ false = sym e ∙ not-true b t in rw f
 
-  pub away-short : {n : ℕ} → InRange d → n ≡ storeLength d → length s < n → Away R3 ≡ admissionOf d s
-  unfolding admissionOf
+  pub away-short : {n : ℕ} → InRange d → n ≡ storeLength d → length s < n → Away R3 ≡ lentAdmission d s
+  unfolding lentAdmission
   away-short {n} h e l =
       let a : inRangeOf d ≡ true = in-range-true d h in
       let f : leb (storeLength d) (length s) ≡ false = lt-leb _ _ (subst (λ (k : ℕ). length s < k) e l) in
@@ -64,17 +63,53 @@ module _ (d : Desk) (s : List ℕ) where
   pub fitting : {n : ℕ} → InRange d → n ≡ storeLength d → n ≤ length s → Fitting d s
   fitting {n} h e l = record { range = h; long = subst (λ (k : ℕ). k ≤ length s) e l }
 
-  -- then the store's form decides
-  pub formed : {r : StoreForm} (x : StoreForm) → Fitting d s → r ≡ formOf d s → r ≡ x → formAdmission x ≡ admissionOf d s
-  unfolding admissionOf
-  formed x h e q =
+  pub fits-lent : Fitting d s → Admitted ≡ lentAdmission d s
+  unfolding lentAdmission
+  fits-lent h =
       let a : inRangeOf d ≡ true = in-range-true d (h .range) in
       let f : leb (storeLength d) (length s) ≡ true = le-leb _ _ (h .long) in
-      rw (a, f) (ap formAdmission (sym q ∙ e))
+      rw (a, f)
+
+  -- a call on a store of any form, by what turns it away
+  pub by-lent : (P : Admission → Type 0)
+      → ((InRange d → ⊥) → P (Away R2))
+      → (InRange d → length s < storeLength d → P (Away R3))
+      → (Fitting d s → P Admitted)
+      → P (lentAdmission d s)
+  unfolding lentAdmission
+  by-lent P range short good =
+      by-test P (inRangeOf d) _ _
+      (λ e.
+      let r : InRange d = in-range d e in
+      by-test P (leb (storeLength d) (length s)) _ _
+      (λ f. good (record { range = r; long = leb-true _ _ f }))
+      (λ f. short r (leb-false _ _ f)))
+      (λ e. range (λ h. clash (in-range-true d h) e))
+
+  -- such a call that is not turned away has a store that fits
+  pub lent-fits : Admitted ≡ lentAdmission d s → Fitting d s
+  lent-fits =
+      by-lent (λ (a : Admission). Admitted ≡ a → Fitting d s) (λ h e. away-clash e) (λ h l e. away-clash e) (λ h e. h)
+    where
+      away-clash : {r : Refusal} → Admitted ≡ Away r → Fitting d s
+      away-clash q = absurd (let z : _≡_ {A = ℕ} 0 1 = cc in omega arith)
+
+  -- and where it is not, the store's form decides
+  pub lent-away : {r : Refusal} → Away r ≡ lentAdmission d s → Away r ≡ admissionOf d s
+  unfolding admissionOf thenAdmission
+  lent-away e = ap (λ (a : Admission). thenAdmission a (formAdmission (formOf d s))) e
+
+  pub lent-formed : {a : Admission} → Admitted ≡ lentAdmission d s → a ≡ formAdmission (formOf d s) → a ≡ admissionOf d s
+  unfolding admissionOf thenAdmission
+  lent-formed e f = f ∙ ap (λ (a : Admission). thenAdmission a (formAdmission (formOf d s))) e
+
+  pub formed : {r : StoreForm} (x : StoreForm) → r ≡ formOf d s → r ≡ x → formAdmission x ≡ formAdmission (formOf d s)
+  formed x e q = ap formAdmission (sym q ∙ e)
 
   pub admitted : Ready d s → Admitted ≡ admissionOf d s
   unfolding formAdmission
-  admitted r = formed Good (record { range = r .range; long = r .long }) refl (form-is-good d s (r .form))
+  admitted r =
+      lent-formed (fits-lent (record { range = r .range; long = r .long })) (sym (ap formAdmission (form-is-good d s (r .form))))
 
   -- a call on a store, by what turns it away
   pub by-admission : (P : Admission → Type 0)
@@ -86,18 +121,12 @@ module _ (d : Desk) (s : List ℕ) where
       → IsFirst (λ j. not (entryFits d s j)) (entriesOf d) 0 i → P (Away (R4c (i + 1))))
       → (Ready d s → P Admitted)
       → P (admissionOf d s)
-  unfolding admissionOf formAdmission
+  unfolding admissionOf thenAdmission formAdmission
   by-admission P range short slot twice entry good =
-      by-test P (inRangeOf d) _ _
-      (λ e.
-      let r : InRange d = in-range d e in
-      by-test P (leb (storeLength d) (length s)) _ _
-      (λ f.
-      let l : storeLength d ≤ length s = leb-true _ _ f in
-      let h : Fitting d s = record { range = r; long = l } in
-      by-form d s (λ (x : StoreForm). P (formAdmission x)) (slot h) (twice h) (entry h) (λ g. good (record { range = r; long = l; form = g })))
-      (λ f. short r (leb-false _ _ f)))
-      (λ e. range (λ h. clash (in-range-true d h) e))
+      by-lent (λ (a : Admission). P (thenAdmission a (formAdmission (formOf d s)))) range short
+      (λ h.
+      by-form d s (λ (x : StoreForm). P (formAdmission x)) (slot h) (twice h) (entry h)
+      (λ g. good (record { range = h .range; long = h .long; form = g })))
 
   -- a call that is not turned away has a store that fits, in good form
   pub let-in : Admitted ≡ admissionOf d s → Ready d s
@@ -151,6 +180,9 @@ store-away d s =
     (λ h i n m r. record { fifth = λ q. omega arith; sixth = λ q. omega arith; mute = refl })
     (λ r. record { fifth = λ q. omega arith; sixth = λ q. omega arith; mute = refl })
 
+pub lent-mute : (d : Desk) (s : List ℕ) → awayReply (lentAdmission d s) .told ≡ []
+lent-mute d s = by-lent d s (λ (a : Admission). awayReply a .told ≡ []) (λ h. refl) (λ h l. refl) (λ h. refl)
+
 -- ---- load
 
 module _ (d : Desk) (s reps stream : List ℕ) where
@@ -201,24 +233,13 @@ write-by d s out a e = ap (λ (b : Admission). writeBy b d s out) e
 
 -- ---- empty
 
-module _ (d : Desk) (s : List ℕ) where
-  pub empty-range : {b : Bool} → b ≡ inRangeOf d → not b ≡ true → emptiedAs (refused R2) s ≡ emptyCall d s
-  unfolding emptyCall
-  empty-range {b} e t = let f : inRangeOf d ≡ false = sym e ∙ not-true b t in rw f
+pub empty-by : (d : Desk) (s : List ℕ) (a : Admission) → a ≡ lentAdmission d s → emptyBy a d s ≡ emptyCall d s
+unfolding emptyCall
+empty-by d s a e = ap (λ (b : Admission). emptyBy b d s) e
 
-  pub empty-short : {n : ℕ} → InRange d → n ≡ storeLength d → length s < n → emptiedAs (refused R3) s ≡ emptyCall d s
-  unfolding emptyCall
-  empty-short {n} h e l =
-      let a : inRangeOf d ≡ true = in-range-true d h in
-      let f : leb (storeLength d) (length s) ≡ false = lt-leb _ _ (subst (λ (k : ℕ). length s < k) e l) in
-      rw (a, f)
-
-  pub empty-done : {t : List ℕ} → Fitting d s → t ≡ emptiedStore d s → emptiedAs (replied []) t ≡ emptyCall d s
-  unfolding emptyCall
-  empty-done {t} h e =
-      let a : inRangeOf d ≡ true = in-range-true d (h .range) in
-      let f : leb (storeLength d) (length s) ≡ true = le-leb _ _ (h .long) in
-      rw (a, f) (ap (λ (x : List ℕ). emptiedAs (replied []) x) e)
+pub empty-done : (d : Desk) (s : List ℕ) {t : List ℕ} → Fitting d s → t ≡ emptiedStore d s → emptiedAs (replied []) t ≡ emptyCall d s
+unfolding emptyBy
+empty-done d s h e = ap (λ (x : List ℕ). emptiedAs (replied []) x) e ∙ empty-by d s Admitted (fits-lent d s h)
 
 -- ---- look-up
 
@@ -241,16 +262,9 @@ pub find-by : (d : Desk) (s : List ℕ) (page whole tenths : ℕ) (a : Admission
 unfolding findCall
 find-by d s page whole tenths a e = ap (λ (b : Admission). findBy b d s (cueKey page whole tenths)) e
 
-pub place-small : (d : Desk) {i n : ℕ} → i < slotsOf d → InRange d → n ≡ slotLength d → i * n + headLength ≤ 1643264
-place-small d {i} {n} h r e =
-    let a : i * slotLength d + slotLength d ≤ 1643264 = slot-small d i h r in
-    let b : 24 ≤ slotLength d = slot-long d in
-    let c : i * slotLength d + headLength ≤ 1643264 = omega arith in
-    subst (λ (k : ℕ). i * k + headLength ≤ 1643264) (sym e) c
-
-pub placed-at : (d : Desk) {f : Found} {i n : ℕ} → f ≡ at i → n ≡ slotLength d → findReply (PlacedAt (i * n + headLength)) ≡ placedAt d f
+pub placed-at : (d : Desk) {f : Found} {i n : ℕ} → f ≡ at i → n ≡ i * slotLength d + headLength → findReply (PlacedAt n) ≡ placedAt d f
 unfolding placedAt
-placed-at d {f} {i} {n} e h = ap (λ (k : ℕ). findReply (PlacedAt (i * k + headLength))) h ∙ sym (ap (placedAt d) e)
+placed-at d {f} {i} {n} e h = ap (λ (k : ℕ). findReply (PlacedAt k)) h ∙ sym (ap (placedAt d) e)
 
 pub placed-none : (d : Desk) {f : Found} → f ≡ nowhere → findReply NotKept ≡ placedAt d f
 unfolding placedAt

@@ -7,14 +7,13 @@ use mathlib.Core.List.{List, [], _∷_}
 use Prim.Native.Nat.{ℕ}
 use native.Mathlib.Omega.{arith}
 use denote.Ref.{RefT, ptr, now}
-use lib.Dec.{ltb, leb}
+use lib.Dec.{ltb}
 use lib.ListN.{length, getD}
 use Rattle.cells.specs.Search.{Found, at, nowhere}
 use Rattle.cells.proofs.Split.{by-test}
 use Rattle.store_desk.specs.declared.Desk.{Desk}
 use Rattle.store_desk.specs.declared.Key.{Key}
 use Rattle.store_desk.specs.declared.Refusal.{Refusal}
-use Rattle.store_desk.specs.Size.{inRangeOf, storeLength}
 use Rattle.store_desk.specs.Refusal.{refusalNumber, Reply, replied, refused}
 use Rattle.store_desk.proofs.Reply.{refusal-most, refused-apart, refused-no-reply}
 use Rattle.store.specs.Slots.{find}
@@ -30,9 +29,9 @@ use Rattle.show.specs.declared.Emptied.{Emptied}
 use Rattle.show.specs.declared.Emptied.the-variants.{Away as EmptyAway, Done as EmptyDone}
 use Rattle.show.specs.declared.Placed.{Placed}
 use Rattle.show.specs.declared.Placed.the-variants.{Away as FindAway, NotKept, At as PlacedAt}
-use Rattle.show.specs.Calls.{mostBytes, admissionOf, LoadCall, loadReply, loadBy, loadCall, LoadPromise}
+use Rattle.show.specs.Calls.{mostBytes, lentAdmission, admissionOf, LoadCall, loadReply, loadBy, loadCall, LoadPromise}
 use Rattle.show.specs.Calls.{WriteCall, writeReply, putCall, writeBy, writeCall, WritePromise}
-use Rattle.show.specs.Calls.{EmptyCall, emptyReply, emptyCall, EmptyPromise, LookPromise, cueName, cueKey, notKept, findReply, placedAt, findBy, findCall, FindPromise}
+use Rattle.show.specs.Calls.{EmptyCall, emptyReply, emptyBy, emptyCall, EmptyPromise, LookPromise, cueName, cueKey, notKept, findReply, placedAt, findBy, findCall, FindPromise}
 use Rattle.show.proofs.Laws.{awayReply, StoreAway, store-away}
 
 -- ---- answers that tell the same are the same
@@ -56,7 +55,7 @@ load-apart (LoadAway r) (LoadDone u) e = refused-no-reply r e
 load-apart (LoadDone t) (LoadAway q) e = refused-no-reply q (sym e)
 load-apart (LoadDone t) (LoadDone u) e = ap (λ (x : Reply). LoadDone (toldTotals (x .told))) e
 
-write-apart : (a b : Written) → writeReply a ≡ writeReply b → a ≡ b
+pub write-apart : (a b : Written) → writeReply a ≡ writeReply b → a ≡ b
 write-apart (WriteAway r) (WriteAway q) e = ap (λ (x : Refusal). WriteAway x) (refused-apart e)
 write-apart (WriteAway r) (WriteDone m) e = refused-no-reply r e
 write-apart (WriteDone n) (WriteAway q) e = refused-no-reply q (sym e)
@@ -69,24 +68,24 @@ empty-apart EmptyDone (EmptyAway q) e = refused-no-reply q (sym e)
 empty-apart EmptyDone EmptyDone e = refl
 
 -- no refusal has the number of "not kept"
-not-kept : {X : Type 0} (r : Refusal) → refused r ≡ notKept → X
+pub not-kept : {X : Type 0} (r : Refusal) → refused r ≡ notKept → X
 not-kept r e =
     let f : refusalNumber r ≡ 255 = ap (λ (x : Reply). x .number) e in
     let m = refusal-most r in
     absurd (let z : ⊥ = omega arith in z)
 
-not-placed : {X : Type 0} {n : ℕ} → notKept ≡ replied (n ∷ []) → X
-not-placed e = absurd (let z : _≡_ {A = ℕ} 255 0 = ap (λ (x : Reply). x .number) e in let o : ⊥ = omega arith in o)
+pub not-told : {X : Type 0} {l : List ℕ} → notKept ≡ replied l → X
+not-told e = absurd (let z : _≡_ {A = ℕ} 255 0 = ap (λ (x : Reply). x .number) e in let o : ⊥ = omega arith in o)
 
-find-apart : (a b : Placed) → findReply a ≡ findReply b → a ≡ b
+pub find-apart : (a b : Placed) → findReply a ≡ findReply b → a ≡ b
 find-apart (FindAway r) (FindAway q) e = ap (λ (x : Refusal). FindAway x) (refused-apart e)
 find-apart (FindAway r) NotKept e = not-kept r e
 find-apart (FindAway r) (PlacedAt m) e = refused-no-reply r e
 find-apart NotKept (FindAway q) e = not-kept q (sym e)
 find-apart NotKept NotKept e = refl
-find-apart NotKept (PlacedAt m) e = not-placed e
+find-apart NotKept (PlacedAt m) e = not-told e
 find-apart (PlacedAt n) (FindAway q) e = refused-no-reply q (sym e)
-find-apart (PlacedAt n) NotKept e = not-placed (sym e)
+find-apart (PlacedAt n) NotKept e = not-told (sym e)
 find-apart (PlacedAt n) (PlacedAt m) e = ap (λ (x : Reply). PlacedAt (getD (x .told) 0 0)) e
 
 -- ---- one answer
@@ -176,18 +175,21 @@ untouched-write d s out a e h =
 EmptyKept : List ℕ → EmptyCall → Type 0
 EmptyKept s x = (x .reply .number ≡ 0 → ⊥) → x .store ≡ s
 
+empty-by-kept : (a : Admission) (d : Desk) (s : List ℕ) → EmptyKept s (emptyBy a d s)
+unfolding EmptyKept emptyBy
+empty-by-kept Admitted d s h = absurd (h refl)
+empty-by-kept (Away r) d s h = refl
+
 pub empty-kept : (d : Desk) (s : List ℕ) → (emptyCall d s .reply .number ≡ 0 → ⊥) → emptyCall d s .store ≡ s
 unfolding EmptyKept emptyCall
-empty-kept d s =
-    by-test (EmptyKept s) (inRangeOf d) _ _
-    (λ e. by-test (EmptyKept s) (leb (storeLength d) (length s)) _ _ (λ f h. absurd (h refl)) (λ f h. refl)) (λ e h. refl)
+empty-kept d s = empty-by-kept (lentAdmission d s) d s
 
 pub untouched-empty : (d : Desk) (s : List ℕ) (a : Emptied) {t : List ℕ} → EmptyPromise d s a t → (emptyReply a .number ≡ 0 → ⊥) → t ≡ s
 untouched-empty d s a e h =
     ap (λ (y : EmptyCall). y .store) e ∙ empty-kept d s (λ z. h (ap (λ (y : EmptyCall). y .reply .number) e ∙ z))
 
 -- `find` lends no list; where it tells no place it tells nothing
-place-mute : (d : Desk) (a : Found) → (placedAt d a .number ≡ 0 → ⊥) → placedAt d a .told ≡ []
+pub place-mute : (d : Desk) (a : Found) → (placedAt d a .number ≡ 0 → ⊥) → placedAt d a .told ≡ []
 unfolding placedAt
 place-mute d (at i) h = absurd (h refl)
 place-mute d nowhere h = refl

@@ -29,6 +29,7 @@ use Rattle.store.proofs.Form.{slots-fit, slots-apart}
 use Rattle.store.proofs.Repeats.{by-repeats}
 use Rattle.store.proofs.Find.{kept-absent}
 use Rattle.store.proofs.Start.{absent-at, kept-memory}
+use Rattle.store_code.specs.Fits.{Fitting}
 use Rattle.save.specs.Lines.{streamOf}
 use Rattle.show.specs.declared.Admission.{Admission}
 use Rattle.show.specs.declared.Admission.the-variants.{Admitted, Away}
@@ -36,26 +37,26 @@ use Rattle.show.specs.declared.Loaded.{Loaded}
 use Rattle.show.specs.declared.Written.{Written}
 use Rattle.show.specs.declared.Emptied.{Emptied}
 use Rattle.show.specs.declared.Placed.{Placed}
-use Rattle.show.specs.Calls.{mostBytes, admissionOf, LoadCall, loadReply, loadBy, loadCall, LoadPromise}
+use Rattle.show.specs.Calls.{mostBytes, lentAdmission, admissionOf, LoadCall, loadReply, loadBy, loadCall, LoadPromise}
 use Rattle.show.specs.Calls.{WriteCall, writeReply, putCall, writeBy, writeCall, WritePromise}
-use Rattle.show.specs.Calls.{EmptyCall, emptyReply, emptyCall, EmptyPromise, notKeptWord, cueName, cueKey, lookAt, lookBy, lookCall, LookPromise}
-use Rattle.show.specs.Calls.{findReply, placedAt, findBy, findCall, FindPromise}
+use Rattle.show.specs.Calls.{EmptyCall, emptyReply, emptyBy, emptyCall, EmptyPromise, notKeptWord, cueName, cueKey, lookAt, lookBy, lookCall, LookPromise}
+use Rattle.show.specs.Calls.{notKept, findReply, placedAt, findBy, findCall, FindPromise}
 use Rattle.show.specs.Refusals.{Line, Told, r1, r2, r3, SlotUnfit, r4a, SlotTwice, r4b, EntryUnfit, r4c, r5, r6, lacking}
 use Rattle.show.specs.Refusals.{PlaceTold, WordTold, LoadRefused, WriteRefused, EmptyRefused, NeededRefused, FindRefused}
-use Rattle.show.proofs.Laws.{by-admission, awayReply}
+use Rattle.show.proofs.Laws.{by-lent, by-admission, awayReply}
 
 -- ---- the first line that holds
 
-First : List Line → ℕ → Type 0
+pub First : List Line → ℕ → Type 0
 First [] n = n ≡ 0
 First (l ∷ ls) n = (l .when × (n ≡ l .number)) ⊎ ((l .when → ⊥) × First ls n)
 
 -- m is the number of no line, and not 0
-other : ℕ → List Line → Bool
+pub other : ℕ → List Line → Bool
 other m [] = not (eqb m 0)
 other m (l ∷ ls) = not (eqb m (l .number)) && other m ls
 
-apart : List Line → Bool
+pub apart : List Line → Bool
 apart [] = true
 apart (l ∷ ls) = other (l .number) ls && apart ls
 
@@ -68,7 +69,7 @@ not-first [] m n h f e = differ h (e ∙ f)
 not-first (l ∷ ls) m n h (inl f) e = differ (and-left (not (eqb m (l .number))) (other m ls) h) (e ∙ f .1)
 not-first (l ∷ ls) m n h (inr f) e = not-first ls m n (and-right (not (eqb m (l .number))) (other m ls) h) (f .1) e
 
-told : (ls : List Line) (n : ℕ) → apart ls ≡ true → First ls n → Told ls n
+pub told : (ls : List Line) (n : ℕ) → apart ls ≡ true → First ls n → Told ls n
 unfolding First Told apart
 told [] n h f = f
 told (l ∷ ls) n h (inl f) = ((λ e. f .0, λ w. f .1), λ w. absurd (w (f .0)))
@@ -90,14 +91,14 @@ none-entry : (d : Desk) (s : List ℕ) → ((i : ℕ) → i < entriesOf d → en
 none-entry d s f u = clash (f (u .entry) (u .within)) (u .unfit)
 
 -- a call that tests R2, R3 and the store's form, and then other lines
-abbrev storeLines : Desk → List ℕ → List Line → List Line
+abbrev pub storeLines : Desk → List ℕ → List Line → List Line
 storeLines d s ls = r2 d ∷ r3 d s ∷ r4a d s ∷ r4b d s ∷ r4c d s ∷ ls
 
 sized : (d : Desk) (s : List ℕ) (ls : List Line) (n : ℕ) → InRange d → storeLength d ≤ length s → First ls n → First (r2 d ∷ r3 d s ∷ ls) n
 unfolding First
 sized d s ls n r l f = inr (λ h. h r, inr (λ h. omega arith, f))
 
-store-first : (d : Desk) (s : List ℕ) (ls : List Line) (number : Admission → ℕ) → ((r : Refusal) → number (Away r) ≡ refusalNumber r)
+pub store-first : (d : Desk) (s : List ℕ) (ls : List Line) (number : Admission → ℕ) → ((r : Refusal) → number (Away r) ≡ refusalNumber r)
     → (Ready d s → First ls (number Admitted)) → First (storeLines d s ls) (number (admissionOf d s))
 unfolding First
 store-first d s ls number away rest =
@@ -159,18 +160,17 @@ put-first d s out =
           (λ f. let k = ltb-false (length out) (length (streamOf d s)) f in inr (λ h. omega arith, refl)),
     ))
 
+-- a call that tests R2 and R3, and then other lines
+pub lent-first : (d : Desk) (s : List ℕ) (ls : List Line) (number : Admission → ℕ) → ((r : Refusal) → number (Away r) ≡ refusalNumber r)
+    → (Fitting d s → First ls (number Admitted)) → First (r2 d ∷ r3 d s ∷ ls) (number (lentAdmission d s))
+unfolding First
+lent-first d s ls number away rest =
+    by-lent d s (λ (a : Admission). First (r2 d ∷ r3 d s ∷ ls) (number a)) (λ h. inl (h, away R2)) (λ r l. inr (λ h. h r, inl (l, away R3)))
+    (λ h. sized d s ls (number Admitted) (h .range) (h .long) (rest h))
+
 empty-first : (d : Desk) (s : List ℕ) → First (r2 d ∷ r3 d s ∷ []) (emptyCall d s .reply .number)
-unfolding First emptyCall
-empty-first d s =
-    by-test (λ (x : EmptyCall). First (r2 d ∷ r3 d s ∷ []) (x .reply .number)) (inRangeOf d) _ _
-    (λ e.
-    inr (
-      λ h. h (in-range d e),
-      by-test (λ (x : EmptyCall). First (r3 d s ∷ []) (x .reply .number)) (leb (storeLength d) (length s)) _ _
-          (λ f. let l = leb-true (storeLength d) (length s) f in inr (λ h. omega arith, refl))
-          (λ f. inl (leb-false (storeLength d) (length s) f, refl)),
-    ))
-    (λ e. inl (λ h. clash (in-range-true d h) e, refl))
+unfolding First emptyCall emptyBy
+empty-first d s = lent-first d s [] (λ a. emptyBy a d s .reply .number) (λ r. refl) (λ h. refl)
 
 needed-first : (d : Desk) → First (r2 d ∷ []) (neededCall d .number)
 unfolding First neededCall
@@ -239,10 +239,13 @@ plain-said d s n l a b c h =
       below = h;
     }
 
-small-said : (d : Desk) (s : List ℕ) (n : ℕ) (l : List ℕ) → n ≤ 6 → Said d s (record { number = n; place = 0; told = l })
+pub small-said : (d : Desk) (s : List ℕ) (n : ℕ) (l : List ℕ) → n ≤ 6 → Said d s (record { number = n; place = 0; told = l })
 small-said d s n l h = plain-said d s n l (λ q. omega arith) (λ q. omega arith) (λ q. omega arith) (omega arith)
 
-store-said : (d : Desk) (s : List ℕ) → Said d s (awayReply (admissionOf d s))
+pub kept-said : (d : Desk) (s : List ℕ) → Said d s notKept
+kept-said d s = plain-said d s 255 [] (λ q. omega arith) (λ q. omega arith) (λ q. omega arith) (omega arith)
+
+pub store-said : (d : Desk) (s : List ℕ) → Said d s (awayReply (admissionOf d s))
 store-said d s =
     by-admission d s (λ (a : Admission). Said d s (awayReply a))
     (λ h. small-said d s 2 [] (omega arith))
@@ -305,7 +308,7 @@ load-said d s reps stream =
     by-test (λ (x : LoadCall). Said d s (x .reply)) (ltb mostBytes (length stream)) _ (loadBy (admissionOf d s) d s reps stream)
     (λ e. small-said d s 1 [] (omega arith)) (λ e. load-by-said (admissionOf d s) d s reps stream (store-said d s))
 
-put-said : (d : Desk) (s stream out : List ℕ) → Said d s (putCall stream out .reply)
+pub put-said : (d : Desk) (s stream out : List ℕ) → Said d s (putCall stream out .reply)
 unfolding putCall
 put-said d s stream out =
     by-test (λ (x : WriteCall). Said d s (x .reply)) (ltb mostBytes (length stream)) _ _ (λ e. small-said d s 5 [] (omega arith))
@@ -322,24 +325,29 @@ pub write-said : (d : Desk) (s out : List ℕ) → Said d s (writeCall d s out .
 unfolding writeCall
 write-said d s out = write-by-said (admissionOf d s) d s out (store-said d s)
 
+pub lent-said : (d : Desk) (s : List ℕ) → Said d s (awayReply (lentAdmission d s))
+lent-said d s =
+    by-lent d s (λ (a : Admission). Said d s (awayReply a)) (λ h. small-said d s 2 [] (omega arith)) (λ h l. small-said d s 3 [] (omega arith))
+    (λ h. small-said d s 0 [] (omega arith))
+
+empty-by-said : (a : Admission) (d : Desk) (s : List ℕ) → Said d s (awayReply a) → Said d s (emptyBy a d s .reply)
+unfolding emptyBy
+empty-by-said Admitted d s h = h
+empty-by-said (Away r) d s h = h
+
 pub empty-said : (d : Desk) (s : List ℕ) → Said d s (emptyCall d s .reply)
 unfolding emptyCall
-empty-said d s =
-    by-test (λ (x : EmptyCall). Said d s (x .reply)) (inRangeOf d) _ _
-    (λ e.
-    by-test (λ (x : EmptyCall). Said d s (x .reply)) (leb (storeLength d) (length s)) _ _
-    (λ f. small-said d s 0 [] (omega arith)) (λ f. small-said d s 3 [] (omega arith)))
-    (λ e. small-said d s 2 [] (omega arith))
+empty-said d s = empty-by-said (lentAdmission d s) d s (lent-said d s)
 
 pub needed-said : (d : Desk) → Said d [] (neededCall d)
 unfolding neededCall
 needed-said d =
     by-test (Said d []) (inRangeOf d) _ _ (λ e. small-said d [] 0 _ (omega arith)) (λ e. small-said d [] 2 [] (omega arith))
 
-placed-said : (d : Desk) (s : List ℕ) (a : Found) → Said d s (placedAt d a)
+pub placed-said : (d : Desk) (s : List ℕ) (a : Found) → Said d s (placedAt d a)
 unfolding placedAt
 placed-said d s (at i) = small-said d s 0 _ (omega arith)
-placed-said d s nowhere = plain-said d s 255 [] (λ q. omega arith) (λ q. omega arith) (λ q. omega arith) (omega arith)
+placed-said d s nowhere = kept-said d s
 
 find-by-said : (a : Admission) (d : Desk) (s : List ℕ) (key : Key) → Said d s (awayReply a) → Said d s (findBy a d s key)
 unfolding findBy

@@ -52,9 +52,14 @@ formAdmission (BadEntry i) = Away (R4c (i + 1))
 unfoldable pub lentAdmission : Desk → List ℕ → Admission
 lentAdmission d s = cond (inRangeOf d) (cond (leb (storeLength d) (length s)) Admitted (Away R3)) (Away R2)
 
+-- where nothing turned the call away, what is tested next decides
+unfoldable pub thenAdmission : Admission → Admission → Admission
+thenAdmission Admitted a = a
+thenAdmission (Away r) a = Away r
+
 -- R2, R3, then the store's form
 unfoldable pub admissionOf : Desk → List ℕ → Admission
-admissionOf d s = cond (inRangeOf d) (cond (leb (storeLength d) (length s)) (formAdmission (formOf d s)) (Away R3)) (Away R2)
+admissionOf d s = thenAdmission (lentAdmission d s) (formAdmission (formOf d s))
 
 -- ---- load
 
@@ -134,10 +139,12 @@ emptyReply EmptyDone = replied []
 abbrev pub emptiedAs : Reply → List ℕ → EmptyCall
 emptiedAs a s = record { reply = a; store = s }
 
+unfoldable pub emptyBy : Admission → Desk → List ℕ → EmptyCall
+emptyBy Admitted d s = emptiedAs (replied []) (emptiedStore d s)
+emptyBy (Away r) d s = emptiedAs (refused r) s
+
 unfoldable pub emptyCall : Desk → List ℕ → EmptyCall
-emptyCall d s =
-    cond (inRangeOf d) (cond (leb (storeLength d) (length s)) (emptiedAs (replied []) (emptiedStore d s)) (emptiedAs (refused R3) s))
-    (emptiedAs (refused R2) s)
+emptyCall d s = emptyBy (lentAdmission d s) d s
 
 -- of its answer, and the store afterwards
 abbrev pub EmptyPromise : Desk → List ℕ → Emptied → List ℕ → Type 0

@@ -52,13 +52,13 @@ fn list(desk: Desk, store: &[u8], kind: u32, slots: &mut [u32]) -> Listed
     ensures { λ r. ⌜ listedAs (listReply r) (now (slots .exit)) ≡ kindList desk (now (store .entry)) kind (now (slots .entry)) ⌝ }
 {
     if kind == CUES {
-        return Listed::Done(save::memories(desk, store, Kind::Cue, slots));
+        return Listed::Done(save::memory_slots(desk, store, Kind::Cue, slots));
     }
     if kind == GROUPS {
-        return Listed::Done(save::memories(desk, store, Kind::Group, slots));
+        return Listed::Done(save::memory_slots(desk, store, Kind::Group, slots));
     }
     if kind == SUBS {
-        return Listed::Done(save::memories(desk, store, Kind::Sub, slots));
+        return Listed::Done(save::memory_slots(desk, store, Kind::Sub, slots));
     }
     Listed::NotKept
 }
