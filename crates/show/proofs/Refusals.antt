@@ -47,16 +47,16 @@ use Rattle.show.proofs.Laws.{by-lent, by-admission, awayReply}
 
 -- ---- the first line that holds
 
-pub First : List Line → ℕ → Type 0
+unfoldable pub First : List Line → ℕ → Type 0
 First [] n = n ≡ 0
 First (l ∷ ls) n = (l .when × (n ≡ l .number)) ⊎ ((l .when → ⊥) × First ls n)
 
 -- m is the number of no line, and not 0
-pub other : ℕ → List Line → Bool
+unfoldable pub other : ℕ → List Line → Bool
 other m [] = not (eqb m 0)
 other m (l ∷ ls) = not (eqb m (l .number)) && other m ls
 
-pub apart : List Line → Bool
+unfoldable pub apart : List Line → Bool
 apart [] = true
 apart (l ∷ ls) = other (l .number) ls && apart ls
 

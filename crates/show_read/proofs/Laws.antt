@@ -133,10 +133,10 @@ pub patch-by : (d : Desk) (s : List ℕ) (page dimmer : ℕ) (a : Admission) →
 unfolding patchCall
 patch-by d s page dimmer a e = ap (λ (b : Admission). patchBy b d s page dimmer) e
 
-module _ (d : Desk) (s : List ℕ) (page dimmer : ℕ) {b : Bool} (e : b ≡ hasDimmer d page dimmer) where
-  pub on-patch : b ≡ true → OnPatch d page dimmer
-  on-patch t = let w = dimmer-there d page dimmer (sym e ∙ t) in record { onPage = w .0; onDimmer = w .1 }
+pub on-patch : (d : Desk) (page dimmer : ℕ) {b : Bool} → b ≡ hasDimmer d page dimmer → b ≡ true → OnPatch d page dimmer
+on-patch d page dimmer e t = let w = dimmer-there d page dimmer (sym e ∙ t) in record { onPage = w .0; onDimmer = w .1 }
 
+module _ (d : Desk) (s : List ℕ) (page dimmer : ℕ) {b : Bool} (e : b ≡ hasDimmer d page dimmer) where
   pub patch-at : b ≡ true → {p : Patch} → p ≡ patchedTo d s page dimmer → patchReply (PatchHas p) ≡ patchIn d s page dimmer
   unfolding patchIn
   patch-at t q = ap (λ (x : Patch). patchReply (PatchHas x)) q ∙ sym (cond-true (hasDimmer d page dimmer) _ _ (sym e ∙ t))
