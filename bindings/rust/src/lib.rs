@@ -16,14 +16,15 @@
 //! # Ok::<(), sphairune::Refused>(())
 //! ```
 //!
-//! The five calls of the library are proved, this wrapper is not. docs/LIBRARY.md tells what each call promises.
+//! The calls of the library are proved, this wrapper is not; it knows no bit of a store's layout. docs/LIBRARY.md tells what each call
+//! promises.
 #![cfg_attr(not(test), no_std)]
 #![deny(missing_docs, unsafe_code)]
 
 pub mod calls;
 mod store;
 
-pub use store::{Fade, Memories, Memory, Number, Patched, Patches};
+pub use store::{Fade, Kind, Memories, Memory, Number, Patched, Patches, MOST_SLOTS};
 
 use core::fmt;
 
@@ -191,11 +192,7 @@ impl Report {
 
 /// The standard's letter for a condition: E error, W warning, I (of the closing number 0 alone) information.
 pub fn severity(condition: u32) -> char {
-    match condition {
-        0 => 'I',
-        70..=149 => 'E',
-        _ => 'W',
-    }
+    char::from(calls::severity(condition))
 }
 
 /// The longest of the texts that [`condition_text`] and [`time_text`] give.
@@ -209,10 +206,12 @@ pub struct Text {
 }
 
 impl Text {
-    fn of(text: &str) -> Text {
-        let mut bytes = [0; MOST_TEXT];
-        bytes[..text.len()].copy_from_slice(text.as_bytes());
-        Text { bytes, length: text.len() }
+    /// What a call puts into a list that has room for any text.
+    fn put(call: impl FnOnce(&mut [u8], &mut [usize]) -> u32) -> Text {
+        let (mut bytes, mut length) = ([0; MOST_TEXT], [0]);
+        let answer = call(&mut bytes, &mut length);
+        assert_eq!(answer, 0, "no text is longer");
+        Text { bytes, length: length[0] }
     }
 }
 
@@ -238,61 +237,18 @@ impl fmt::Debug for Text {
 
 /// A level in percent, by Table C-1 of the standard.
 pub fn percent(level: u8) -> u32 {
-    (u32::from(level) * 200 + 255) / 510
+    calls::percent(level)
 }
 
 /// A time in tenths of a second as the written stream has it: `3`, `1:30`, `2:00:10.5`.
 pub fn time_text(tenths: u32) -> Text {
-    use fmt::Write;
-    struct Line(Text);
-    impl Write for Line {
-        fn write_str(&mut self, s: &str) -> fmt::Result {
-            self.0.bytes[self.0.length..][..s.len()].copy_from_slice(s.as_bytes());
-            self.0.length += s.len();
-            Ok(())
-        }
-    }
-    let (mut line, s) = (Line(Text::of("")), tenths / 10);
-    let _ = match s {
-        0..=59 => write!(line, "{s}"),
-        60..=3599 => write!(line, "{}:{:02}", s / 60, s % 60),
-        _ => write!(line, "{}:{:02}:{:02}", s / 3600, s / 60 % 60, s % 60),
-    };
-    if tenths % 10 != 0 {
-        let _ = write!(line, ".{}", tenths % 10);
-    }
-    line.0
+    Text::put(|out, length| calls::time_text(tenths, out, length))
 }
 
 /// The standard's text for a condition that a load can report (Appendix B), or for the closing number 0; "" for any other number. Where
 /// the appendix puts the record's own field or keyword between two words, the text has the words alone.
 pub fn condition_text(condition: u32) -> Text {
-    Text::of(match condition {
-        0 => "Data stream successfully processed",
-        21 => "Cue memory exhausted",
-        22 => "Group memory exhausted",
-        41 => "Invalid cue or group number",
-        42 => "Cue or group number too large",
-        43 => "Page out of range",
-        44 => "Submaster number out of range",
-        51 => "Groups not supported",
-        52 => "Submasters not supported",
-        91 => "Encountered record longer than 80 characters",
-        99 => "Ident mismatch prohibits processing",
-        100 => "Data stream terminated without ENDDATA",
-        151 => "Undefined standard keyword",
-        152 => "Wrong secondary keyword",
-        171 => "Invalid integer",
-        172 => "Invalid hexadecimal value",
-        201 => "Channel out of range",
-        203 => "Dimmer out of range",
-        221 => "Invalid level",
-        231 => "Patch page skipped",
-        241 => "Invalid time",
-        701 => "Ignored character with high-bit set",
-        702 => "Ignored non-printing character",
-        _ => "",
-    })
+    Text::put(|out, length| calls::condition_text(condition, out, length))
 }
 
 impl Desk {
@@ -307,6 +263,19 @@ impl Desk {
         group_pages: 1,
         submaster_pages: 2,
         patch_pages: 1,
+    };
+
+    /// The largest desk that there is. Its store needs 846,592 bytes.
+    pub const LARGEST: Desk = Desk {
+        channels: 512,
+        dimmers: 512,
+        cues: 600,
+        groups: 200,
+        submasters: 96,
+        cue_pages: 63,
+        group_pages: 63,
+        submaster_pages: 8,
+        patch_pages: 4,
     };
 
     /// A desk by its limits, in the order of the struct.
@@ -382,32 +351,33 @@ impl Desk {
     /// R4c.
     pub fn look_up(self, store: &[u8], page: u32, whole: u32, tenths: u32) -> Result<Option<&[u8]>, Refused> {
         let place = self.find(store, page, whole, tenths)?;
-        Ok(place.map(|at| &store[at..at + self.channels as usize]))
+        Ok(place.map(|at| self.levels_at(store, at)))
     }
 
     /// The kept cues, by page and number. Or R2, R3, R4a, R4b, R4c.
     pub fn cues(self, store: &[u8]) -> Result<Memories<'_>, Refused> {
-        self.in_good_form(store)?;
-        Ok(Memories::new(self, store, 0, self.cues as usize))
+        self.memories(store, Kind::Cue)
     }
 
     /// The kept groups, by page and number. Or R2, R3, R4a, R4b, R4c.
     pub fn groups(self, store: &[u8]) -> Result<Memories<'_>, Refused> {
-        self.in_good_form(store)?;
-        Ok(Memories::new(self, store, self.cues as usize, self.groups as usize))
+        self.memories(store, Kind::Group)
     }
 
     /// The kept submasters, by page and number. Or R2, R3, R4a, R4b, R4c.
     pub fn submasters(self, store: &[u8]) -> Result<Memories<'_>, Refused> {
-        self.in_good_form(store)?;
-        let count = self.submasters as usize * self.submaster_pages as usize;
-        Ok(Memories::new(self, store, self.cues as usize + self.groups as usize, count))
+        self.memories(store, Kind::Submaster)
     }
 
     /// The patched dimmers, by page and dimmer. Or R2, R3, R4a, R4b, R4c.
     pub fn patch(self, store: &[u8]) -> Result<Patches<'_>, Refused> {
         self.in_good_form(store)?;
         Ok(Patches::new(self, store))
+    }
+
+    /// The levels that begin at a place, channel 1 first.
+    fn levels_at(self, store: &[u8], place: usize) -> &[u8] {
+        &store[place..place + self.channels as usize]
     }
 
     /// The library itself is asked: no cue is on page 0, so that the answer is "not kept" or the refusal.

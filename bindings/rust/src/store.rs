@@ -1,10 +1,33 @@
-//! What a store in good form keeps: slots of equal length (cues, then groups, then submasters), then patch entries. Fields are packed, the
-//! most significant bit first.
-use crate::Desk;
+//! What a store keeps, as the library's calls tell it: nothing here knows how its bytes lie.
+use crate::calls::{self, HEAD_VALUES, NOT_KEPT, PATCH_VALUES};
+use crate::{Desk, Refused};
 use core::fmt;
+use core::iter::FusedIterator;
 
-const HEAD_BYTES: usize = 24;
-const PATCH_BYTES: usize = 3;
+/// The most slots that a desk has of one kind: 96 submasters on each of 8 pages.
+pub const MOST_SLOTS: usize = 768;
+
+/// The kinds of memory.
+#[derive(Clone, Copy, Debug, PartialEq, Eq)]
+pub enum Kind {
+    /// Cues have times, follow-ons and links.
+    Cue,
+    /// Groups have levels alone.
+    Group,
+    /// Submasters have times, and numbers without tenths.
+    Submaster,
+}
+
+impl Kind {
+    /// Its number in [`calls::memories`].
+    pub fn number(self) -> u32 {
+        match self {
+            Kind::Cue => 0,
+            Kind::Group => 1,
+            Kind::Submaster => 2,
+        }
+    }
+}
 
 /// A cue's or group's number, or a submaster's, which has no tenths. Orders by value; prints as `2.5` or `7`.
 #[derive(Clone, Copy, Debug, PartialEq, Eq, PartialOrd, Ord)]
@@ -33,9 +56,11 @@ pub struct Fade {
     pub delay: u32,
 }
 
-/// A kept cue, group or submaster.
-#[derive(Clone, Copy, Debug, PartialEq, Eq)]
+/// A kept cue, group or submaster. Two are equal where all but the slot is: where they keep the same, wherever they stand.
+#[derive(Clone, Copy, Debug, Eq)]
 pub struct Memory<'a> {
+    /// Where it stands, from 1: slots count through the whole store, cues, then groups, then submasters, as in [`Refused::R4a`].
+    pub slot: u32,
     /// From 1.
     pub page: u32,
     /// Its number.
@@ -52,78 +77,105 @@ pub struct Memory<'a> {
     pub levels: &'a [u8],
 }
 
-/// Takes fields off the front of packed bytes.
-struct Fields<'a> {
-    bytes: &'a [u8],
-    taken: usize,
+impl PartialEq for Memory<'_> {
+    fn eq(&self, other: &Self) -> bool {
+        let kept = |m: &Self| (m.page, m.number, m.link, m.up, m.down, m.followon);
+        kept(self) == kept(other) && self.levels == other.levels
+    }
 }
 
-impl Fields<'_> {
-    fn take(&mut self, width: usize) -> u32 {
-        let mut value = 0;
-        for _ in 0..width {
-            let byte = self.bytes[self.taken / 8];
-            value = value << 1 | u32::from(byte >> (7 - self.taken % 8) & 1);
-            self.taken += 1;
+impl<'a> Memory<'a> {
+    /// What a slot keeps, from the values of its head and its levels; `None` where it is not used.
+    fn of(slot: u32, head: [u32; HEAD_VALUES], levels: &'a [u8]) -> Option<Memory<'a>> {
+        let [used, page, whole, tenths, rest @ ..] = head;
+        let [linked, link_whole, link_tenths, rest @ ..] = rest;
+        let [up, up_fade, up_delay, down, down_fade, down_delay, follows, followon, _] = rest;
+        let memory = Memory {
+            slot,
+            page,
+            number: Number { whole, tenths },
+            link: present(linked, Number { whole: link_whole, tenths: link_tenths }),
+            up: present(up, Fade { fade: up_fade, delay: up_delay }),
+            down: present(down, Fade { fade: down_fade, delay: down_delay }),
+            followon: present(follows, followon),
+            levels,
+        };
+        present(used, memory)
+    }
+}
+
+/// A value, where its mark says that it is there.
+fn present<T>(mark: u32, value: T) -> Option<T> {
+    (mark == 1).then_some(value)
+}
+
+impl Desk {
+    /// The kept memories of a kind, by page and number. Or R2, R3, R4a, R4b, R4c.
+    pub fn memories(self, store: &[u8], kind: Kind) -> Result<Memories<'_>, Refused> {
+        let (mut slots, mut count) = ([0; MOST_SLOTS], [0]);
+        match calls::memories(&self.limits(), store, kind.number(), &mut slots, &mut count) {
+            0 => Ok(Memories { desk: self, store, slots, count: count[0], given: 0 }),
+            r => Err(Refused::of(r, 0)),
         }
-        value
     }
 
-    fn number(&mut self) -> Number {
-        Number { whole: self.take(10), tenths: self.take(4) }
+    /// What a slot keeps; `None` where it is not used, or the desk has no such slot. Or R2, R3. The store's form is not tested: of a
+    /// damaged one this tells the bits as they stand.
+    pub fn memory(self, store: &[u8], slot: u32) -> Result<Option<Memory<'_>>, Refused> {
+        let (mut head, mut place) = ([0; HEAD_VALUES], [0]);
+        match calls::head(&self.limits(), store, slot, &mut head) {
+            0 => {}
+            NOT_KEPT => return Ok(None),
+            r => return Err(Refused::of(r, 0)),
+        }
+        match calls::levels(&self.limits(), store, slot, &mut place) {
+            0 => Ok(Memory::of(slot, head, self.levels_at(store, place[0]))),
+            NOT_KEPT => Ok(None),
+            r => Err(Refused::of(r, 0)),
+        }
     }
 
-    fn fade(&mut self) -> Option<Fade> {
-        let present = self.take(1) == 1;
-        let fade = Fade { fade: self.take(26), delay: self.take(26) };
-        present.then_some(fade)
+    /// What a dimmer is patched to; `None` where it is unpatched, or the desk has no such dimmer. Or R2, R3. The store's form is not
+    /// tested: of a damaged one this tells the bits as they stand.
+    pub fn patched(self, store: &[u8], page: u32, dimmer: u32) -> Result<Option<Patched>, Refused> {
+        let mut values = [0; PATCH_VALUES];
+        match calls::patch(&self.limits(), store, page, dimmer, &mut values) {
+            0 => Ok(Patched::of(page, dimmer, values)),
+            NOT_KEPT => Ok(None),
+            r => Err(Refused::of(r, 0)),
+        }
     }
-}
-
-/// `None` where the slot is not used.
-fn memory(slot: &[u8]) -> Option<Memory<'_>> {
-    let (head, levels) = slot.split_at(HEAD_BYTES);
-    let mut fields = Fields { bytes: head, taken: 0 };
-    if fields.take(1) == 0 {
-        return None;
-    }
-    let (page, number) = (fields.take(6), fields.number());
-    let linked = fields.take(1) == 1;
-    let link = fields.number();
-    let (up, down) = (fields.fade(), fields.fade());
-    let follows = fields.take(1) == 1;
-    let followon = fields.take(26);
-    Some(Memory { page, number, link: linked.then_some(link), up, down, followon: follows.then_some(followon), levels })
 }
 
 /// The kept memories of a kind, by page and number.
 #[derive(Clone, Debug)]
 pub struct Memories<'a> {
-    slots: &'a [u8],
-    slot_bytes: usize,
-    last: Option<(u32, Number)>,
-}
-
-impl<'a> Memories<'a> {
-    /// Of a store in good form: `count` slots from the slot `first` on.
-    pub(crate) fn new(desk: Desk, store: &'a [u8], first: usize, count: usize) -> Memories<'a> {
-        let slot_bytes = HEAD_BYTES + desk.channels as usize;
-        Memories { slots: &store[first * slot_bytes..(first + count) * slot_bytes], slot_bytes, last: None }
-    }
+    desk: Desk,
+    store: &'a [u8],
+    slots: [u32; MOST_SLOTS],
+    count: usize,
+    given: usize,
 }
 
 impl<'a> Iterator for Memories<'a> {
     type Item = Memory<'a>;
 
-    /// Slots stand in the order in which they were taken, so each step looks for the least name above the last one.
+    /// The store is lent since the slots were listed, so that each of them still keeps a memory.
     fn next(&mut self) -> Option<Memory<'a>> {
-        let name = |m: &Memory| (m.page, m.number);
-        let kept = self.slots.chunks_exact(self.slot_bytes).filter_map(memory);
-        let next = kept.filter(|m| self.last.is_none_or(|last| last < name(m))).min_by_key(name)?;
-        self.last = Some(name(&next));
-        Some(next)
+        let &slot = self.slots[..self.count].get(self.given)?;
+        self.given += 1;
+        Some(self.desk.memory(self.store, slot).ok().flatten().expect("a slot that was listed keeps a memory"))
+    }
+
+    fn size_hint(&self) -> (usize, Option<usize>) {
+        let left = self.count - self.given;
+        (left, Some(left))
     }
 }
+
+impl ExactSizeIterator for Memories<'_> {}
+
+impl FusedIterator for Memories<'_> {}
 
 /// A patched dimmer.
 #[derive(Clone, Copy, Debug, PartialEq, Eq)]
@@ -138,11 +190,18 @@ pub struct Patched {
     pub level: u8,
 }
 
+impl Patched {
+    /// A dimmer's entry, from its values; `None` where it is unpatched.
+    fn of(page: u32, dimmer: u32, [channel, level, _]: [u32; PATCH_VALUES]) -> Option<Patched> {
+        (channel != 0).then_some(Patched { page, dimmer, channel, level: level as u8 })
+    }
+}
+
 /// The patched dimmers, by page and dimmer.
 #[derive(Clone, Debug)]
 pub struct Patches<'a> {
-    entries: &'a [u8],
-    dimmers: u32,
+    desk: Desk,
+    store: &'a [u8],
     page: u32,
     dimmer: u32,
 }
@@ -150,10 +209,13 @@ pub struct Patches<'a> {
 impl<'a> Patches<'a> {
     /// Of a store in good form.
     pub(crate) fn new(desk: Desk, store: &'a [u8]) -> Patches<'a> {
-        let slots = desk.cues as usize + desk.groups as usize + desk.submasters as usize * desk.submaster_pages as usize;
-        let entries = &store[slots * (HEAD_BYTES + desk.channels as usize)..];
-        let count = desk.dimmers as usize * desk.patch_pages as usize;
-        Patches { entries: &entries[..count * PATCH_BYTES], dimmers: desk.dimmers, page: 1, dimmer: 0 }
+        Patches { desk, store, page: 1, dimmer: 0 }
+    }
+
+    /// The next dimmer of the desk, patched or not.
+    fn step(&mut self) -> Option<(u32, u32)> {
+        (self.page, self.dimmer) = if self.dimmer < self.desk.dimmers { (self.page, self.dimmer + 1) } else { (self.page + 1, 1) };
+        (self.page <= self.desk.patch_pages).then_some((self.page, self.dimmer))
     }
 }
 
@@ -161,16 +223,10 @@ impl Iterator for Patches<'_> {
     type Item = Patched;
 
     fn next(&mut self) -> Option<Patched> {
-        while let Some((entry, rest)) = self.entries.split_at_checked(PATCH_BYTES) {
-            self.entries = rest;
-            self.dimmer += 1;
-            if self.dimmers < self.dimmer {
-                (self.page, self.dimmer) = (self.page + 1, 1);
-            }
-            let mut fields = Fields { bytes: entry, taken: 0 };
-            let (channel, level) = (fields.take(10), fields.take(8));
-            if channel != 0 {
-                return Some(Patched { page: self.page, dimmer: self.dimmer, channel, level: level as u8 });
+        while let Some((page, dimmer)) = self.step() {
+            let patched = self.desk.patched(self.store, page, dimmer);
+            if let Some(patched) = patched.expect("the desk and the store were tested when the walk began") {
+                return Some(patched);
             }
         }
         None
