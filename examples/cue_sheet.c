@@ -2,7 +2,8 @@
  *
  * The desk is the house small desk unless its nine limits are given, in the order of include/sphairune.h. First come the reports, each with
  * the record as received and a mark under the field that is blamed, then the cues by page and number, then what is kept and the tallies.
- * Exit status 0 where there is a sheet, 1 where the file cannot be read or a call is turned away, 2 where the arguments are wrong.
+ * Exit status 0 where there is a sheet, 1 where the file cannot be read, a call is turned away or the sheet cannot be written, 2 where the
+ * arguments are wrong.
  * bindings/rust/examples/cue_sheet.rs prints the same. */
 #include <errno.h>
 #include <stdio.h>
@@ -131,7 +132,9 @@ static void print_reports(const uint64_t *reports, uint32_t count, size_t n) {
         while (r.number < record && r.to < n) step(&r, n);
         char where[24];
         snprintf(where, sizeof where, "(%05u:%u)", record, column);
-        int ahead = printf("  %-10s %04u-%c %-36s", where, condition, sphairune_severity(condition), sphairune_condition_text(condition));
+        char text[SPHAIRUNE_TEXT];
+        sphairune_condition_string(condition, text);
+        int ahead = printf("  %-10s %04u-%c %-36s", where, condition, sphairune_severity(condition), text);
         if (condition == 100) {
             printf("\n"); /* of the end of the stream, not of a record */
         } else {
@@ -141,36 +144,30 @@ static void print_reports(const uint64_t *reports, uint32_t count, size_t n) {
     }
 }
 
-/* In minutes and seconds, with tenths where there are any; the seconds of a column stand under one another. */
 static void print_time(uint32_t present, uint32_t tenths) {
-    if (!present)
-        printf("        -  ");
-    else if (tenths % 10)
-        printf(" %5u:%02u.%u", tenths / 600, tenths / 10 % 60, tenths % 10);
-    else
-        printf(" %5u:%02u  ", tenths / 600, tenths / 10 % 60);
+    char text[SPHAIRUNE_TEXT];
+    printf(" %11s", present ? sphairune_time_string(tenths, text) : "-");
 }
-
-/* Table C-1 of the standard, by its formula: to the nearest whole percent. */
-static unsigned percent(uint8_t level) { return (level * 200u + 255) / 510; }
 
 static void print_levels(const uint8_t *levels, uint32_t channels) {
     unsigned shown = 0;
     for (uint32_t c = 0; c < channels; c++) {
         if (!levels[c]) continue;
-        printf("%s%3u@H%02X %3u%%", shown % PER_LINE ? "  " : shown ? "\n        " : "        ", c + 1, levels[c], percent(levels[c]));
+        printf("%s%3u@H%02X %3u%%", shown % PER_LINE ? "  " : shown ? "\n        " : "        ", c + 1, levels[c],
+               sphairune_percent(levels[c]));
         shown++;
     }
     printf("%s\n", shown ? "" : "        blackout");
 }
 
+/* Whole numbers under one another. */
 static void print_cue(const struct sphairune_memory *m) {
     printf("  %3u", m->whole);
     if (m->tenths)
         printf(".%u", m->tenths);
     else
         printf("  ");
-    printf("  %4u", m->page);
+    printf(" %4u", m->page);
     print_time(m->up, m->up_fade);
     print_time(m->up_delay != 0, m->up_delay);
     print_time(m->down, m->down_fade);
@@ -184,37 +181,47 @@ static void print_cue(const struct sphairune_memory *m) {
         printf("  %3u\n", m->link_whole);
 }
 
-static unsigned kept(const uint32_t *desk, const uint8_t *store, int kind) {
-    struct sphairune_memory m = {0};
-    unsigned count = 0;
-    while (sphairune_next(desk, store, kind, &m)) count++;
+/* The slots of the kept memories of a kind, in `slots`, which has room for all; returns how many. */
+static size_t kept(const char *file, const uint32_t *desk, const uint8_t *store, size_t store_n, uint32_t kind, uint32_t *slots) {
+    size_t count = 0;
+    answered(file, sphairune_memories(desk, SPHAIRUNE_LIMITS, store, store_n, kind, slots, SPHAIRUNE_MOST_SLOTS, &count, 1));
     return count;
 }
 
 static void print_cues(const char *file, const uint32_t *desk, const uint8_t *store, size_t store_n) {
-    struct sphairune_memory m = {0};
-    unsigned count = kept(desk, store, SPHAIRUNE_CUE);
+    uint32_t slots[SPHAIRUNE_MOST_SLOTS];
+    size_t count = kept(file, desk, store, store_n, SPHAIRUNE_CUE, slots);
     if (count == 0) {
         printf("CUES none\n");
         return;
     }
-    printf("CUES %u\n", count);
-    printf("  cue    page  up fade      delay  down fade      delay   followon    link\n");
-    while (sphairune_next(desk, store, SPHAIRUNE_CUE, &m)) {
-        const uint8_t *levels = sphairune_look_up(desk, SPHAIRUNE_LIMITS, store, store_n, m.page, m.whole, m.tenths, NULL);
-        if (!levels) quit(file, "a cue that is kept was not found");
+    printf("CUES %zu\n", count);
+    printf("  cue   page     up fade       delay   down fade       delay    followon  link\n");
+    for (size_t i = 0; i < count; i++) {
+        struct sphairune_memory m;
+        answered(file, sphairune_memory_of(desk, SPHAIRUNE_LIMITS, store, store_n, slots[i], &m));
         print_cue(&m);
-        print_levels(levels, desk[SPHAIRUNE_CHANNELS]);
+        print_levels(m.levels, desk[SPHAIRUNE_CHANNELS]);
     }
 }
 
-static void print_kept(const uint32_t *desk, const uint8_t *store) {
+static unsigned patched_dimmers(const char *file, const uint32_t *desk, const uint8_t *store, size_t store_n) {
+    uint32_t values[SPHAIRUNE_PATCH_VALUES];
     unsigned patched = 0;
     for (uint32_t page = 1; page <= desk[SPHAIRUNE_PATCH_PAGES]; page++)
-        for (uint32_t dimmer = 1; dimmer <= desk[SPHAIRUNE_DIMMERS]; dimmer++)
-            if (sphairune_patch_of(desk, store, page, dimmer).channel) patched++;
-    printf("KEPT cues %u, groups %u, submasters %u, patched dimmers %u\n", kept(desk, store, SPHAIRUNE_CUE),
-           kept(desk, store, SPHAIRUNE_GROUP), kept(desk, store, SPHAIRUNE_SUBMASTER), patched);
+        for (uint32_t dimmer = 1; dimmer <= desk[SPHAIRUNE_DIMMERS]; dimmer++) {
+            answered(file, sphairune_patch(desk, SPHAIRUNE_LIMITS, store, store_n, page, dimmer, values, SPHAIRUNE_PATCH_VALUES));
+            if (values[SPHAIRUNE_PATCH_CHANNEL]) patched++;
+        }
+    return patched;
+}
+
+static void print_kept(const char *file, const uint32_t *desk, const uint8_t *store, size_t store_n) {
+    uint32_t slots[SPHAIRUNE_MOST_SLOTS];
+    size_t cues = kept(file, desk, store, store_n, SPHAIRUNE_CUE, slots), groups = kept(file, desk, store, store_n, SPHAIRUNE_GROUP, slots);
+    size_t submasters = kept(file, desk, store, store_n, SPHAIRUNE_SUBMASTER, slots);
+    printf("KEPT cues %zu, groups %zu, submasters %zu, patched dimmers %u\n", cues, groups, submasters,
+           patched_dimmers(file, desk, store, store_n));
 }
 
 static void print_desk(const uint32_t *desk) {
@@ -226,10 +233,11 @@ static void print_desk(const uint32_t *desk) {
 
 static void print_totals(const uint32_t *t) {
     uint32_t closing = t[SPHAIRUNE_CLOSING];
+    char text[SPHAIRUNE_TEXT];
     printf("RECORDS %u: blank %u, obeyed %u, passed %u, dropped %u\n",
            t[SPHAIRUNE_BLANK] + t[SPHAIRUNE_OBEYED] + t[SPHAIRUNE_PASSED] + t[SPHAIRUNE_DROPPED], t[SPHAIRUNE_BLANK], t[SPHAIRUNE_OBEYED],
            t[SPHAIRUNE_PASSED], t[SPHAIRUNE_DROPPED]);
-    printf("CLOSING %04u-%c %s\n", closing, sphairune_severity(closing), sphairune_condition_text(closing));
+    printf("CLOSING %04u-%c %s\n", closing, sphairune_severity(closing), sphairune_condition_string(closing, text));
 }
 
 int main(int count, char **words) {
@@ -255,9 +263,10 @@ int main(int count, char **words) {
     printf("\n");
     print_cues(file, desk, store, store_n);
     printf("\n");
-    print_kept(desk, store);
+    print_kept(file, desk, store, store_n);
     print_totals(totals);
     free(reports);
     free(store);
+    if (fflush(stdout) || ferror(stdout)) quit(file, "the sheet cannot be written");
     return 0;
 }

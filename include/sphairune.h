@@ -1,11 +1,11 @@
 /* sphairune.h: the proved reader and writer of lighting show data (USITT ASCII 3.0), for programs in C99 or C++.
  *
  * Link with libsphairune.a, which tools/library builds; it needs memcpy and memset of the C library and nothing else. docs/LIBRARY.md
- * tells how, and what is proved: the five calls declared under "The calls" are, the inline functions below them are not.
+ * tells how, and what is proved: the thirteen calls declared here are, the inline functions at the end are not.
  *
  * A show lives in a store, which is the caller's own bytes. A desk is the list of its nine limits, which says how long the store has to be
- * and how it is laid out. Nothing allocates, nothing is kept between calls, and a call that is turned away changes no lent byte, but that
- * a write answered R6 stores the length needed.
+ * and how it is laid out; no caller has to know the layout, since calls read it. Nothing allocates, nothing is kept between calls, and a
+ * call that is turned away changes no lent byte, but that a write or a text answered R6 stores the length needed.
  *
  *     static const uint32_t desk[SPHAIRUNE_LIMITS] = SPHAIRUNE_HOUSE;
  *     static uint8_t store[SPHAIRUNE_HOUSE_STORE];
@@ -51,10 +51,19 @@ enum {
 #define SPHAIRUNE_HOUSE { 96, 192, 200, 40, 24, 2, 1, 2, 1 }
 #define SPHAIRUNE_HOUSE_STORE 35136
 
+/* The largest desk, to initialise a list of limits with. */
+#define SPHAIRUNE_LARGEST { 512, 512, 600, 200, 96, 63, 63, 8, 4 }
+
 /* The bytes that the store of the largest desk needs, and the longest stream that is read or written: a list of SPHAIRUNE_MOST_STREAM bytes
  * takes every stream that is written, so that such a write is never answered R6. */
 #define SPHAIRUNE_MOST_STORE 846592
 #define SPHAIRUNE_MOST_STREAM 262143
+
+/* The most slots that a desk has of one kind, 96 submasters on each of 8 pages: a list of so many takes every list of memories. */
+#define SPHAIRUNE_MOST_SLOTS 768
+
+/* Room for every text of a time or condition, with a NUL behind it. */
+#define SPHAIRUNE_TEXT 45
 
 /* ---- Answers */
 
@@ -71,8 +80,8 @@ enum {
     SPHAIRUNE_R4B = 0x4B,     /* a slot has the number and page of an earlier one of its kind; the first that repeats one */
     SPHAIRUNE_R4C = 0x4C,     /* a patch entry is out of form; the first such entry */
     SPHAIRUNE_R5 = 5,         /* the written stream would be longer than SPHAIRUNE_MOST_STREAM bytes */
-    SPHAIRUNE_R6 = 6,         /* the written stream is longer than the output given */
-    SPHAIRUNE_NOT_KEPT = 0xFF /* of sphairune_find alone: no refusal, the cue is not kept */
+    SPHAIRUNE_R6 = 6,         /* the written stream, or a text, is longer than the output given */
+    SPHAIRUNE_NOT_KEPT = 0xFF /* no refusal: the cue is not kept; or the desk has no such slot or dimmer, or there is no such kind */
 };
 
 /* What a load tells, by its place in the list of totals. Each record read is in one of the four tallies. */
@@ -86,7 +95,40 @@ enum {
     SPHAIRUNE_TOTALS   /* how many there are */
 };
 
-/* ---- The calls */
+/* The kinds of memory. */
+enum { SPHAIRUNE_CUE, SPHAIRUNE_GROUP, SPHAIRUNE_SUBMASTER };
+
+/* What sphairune_head tells of a slot, by its place in the list of values. In a store in good form, what is not present is 0, and so is what
+ * goes with it; an unused slot has all of them 0. Times are in tenths of a second. */
+enum {
+    SPHAIRUNE_HEAD_USED, /* 1: a memory is kept here */
+    SPHAIRUNE_HEAD_PAGE,
+    SPHAIRUNE_HEAD_WHOLE, /* the number: 2.5 has the whole 2 and the tenths 5; a submaster has no tenths */
+    SPHAIRUNE_HEAD_TENTHS,
+    SPHAIRUNE_HEAD_LINK, /* 1: a link is present, to the cue of the next two; cues alone have one */
+    SPHAIRUNE_HEAD_LINK_WHOLE,
+    SPHAIRUNE_HEAD_LINK_TENTHS,
+    SPHAIRUNE_HEAD_UP, /* 1: UP was given; groups have no times */
+    SPHAIRUNE_HEAD_UP_FADE,
+    SPHAIRUNE_HEAD_UP_DELAY,
+    SPHAIRUNE_HEAD_DOWN, /* 1: DOWN was given */
+    SPHAIRUNE_HEAD_DOWN_FADE,
+    SPHAIRUNE_HEAD_DOWN_DELAY,
+    SPHAIRUNE_HEAD_FOLLOWON, /* 1: FOLLOWON was given; cues alone have one */
+    SPHAIRUNE_HEAD_FOLLOWON_TIME,
+    SPHAIRUNE_HEAD_ZERO_BITS, /* 0 in a store in good form */
+    SPHAIRUNE_HEAD_VALUES     /* how many there are */
+};
+
+/* What sphairune_patch tells of a dimmer, by its place in the list of values. */
+enum {
+    SPHAIRUNE_PATCH_CHANNEL,   /* 0: the dimmer is unpatched */
+    SPHAIRUNE_PATCH_LEVEL,     /* the level at which it follows its channel */
+    SPHAIRUNE_PATCH_ZERO_BITS, /* 0 in a store in good form */
+    SPHAIRUNE_PATCH_VALUES     /* how many there are */
+};
+
+/* ---- The calls: a show */
 
 /* How many bytes a store of this desk needs.
  * Answers 0, with the length in length[0]; or R2, with `length` as it was. Entries past length[0] stay as they were; an empty `length` gets
@@ -119,7 +161,58 @@ uint32_t sphairune_write(const uint32_t *limits, size_t limits_n, const uint8_t 
 uint32_t sphairune_find(const uint32_t *limits, size_t limits_n, const uint8_t *store, size_t store_n, uint32_t page, uint32_t whole,
                         uint32_t tenths, size_t *place, size_t place_n);
 
-/* ---- From here on: inline functions over the calls and the store. They are plain C, not proved. */
+/* ---- The calls: reading a store
+ *
+ * Slots count from 1 through the whole store, cues, then groups, then submasters page by page: the numbers that R4a and R4b tell. Of the
+ * lists, entries past what is told stay as they were, and one that is too short gets what it has room for.
+ *
+ * sphairune_memories looks at the whole store. The other three do not, so that to walk all memories is one listing and a step for each: of a
+ * store that is not in good form they tell the bits as they stand. */
+
+/* The kept memories of a kind, by page and number, which is the order of the written stream: their slots.
+ * Answers 0, with the slots at the beginning of `slots`, as many as it has room for, and in count[0] how many are kept, those that found no
+ * room too. Or SPHAIRUNE_NOT_KEPT, for a kind other than the three; or R2, R3, R4a, R4b, R4c; with `slots` and `count` as they were. */
+uint32_t sphairune_memories(const uint32_t *limits, size_t limits_n, const uint8_t *store, size_t store_n, uint32_t kind, uint32_t *slots,
+                            size_t slots_n, size_t *count, size_t count_n);
+
+/* The head of a slot.
+ * Answers 0, with the SPHAIRUNE_HEAD_VALUES values in `values`. Or SPHAIRUNE_NOT_KEPT, where the desk has no such slot; or R2, R3; with
+ * `values` as it was. A slot that is not used answers 0 too, with 0 in values[SPHAIRUNE_HEAD_USED]. */
+uint32_t sphairune_head(const uint32_t *limits, size_t limits_n, const uint8_t *store, size_t store_n, uint32_t slot, uint32_t *values,
+                        size_t values_n);
+
+/* Where the levels of a slot begin in the store.
+ * Answers 0, with the place in place[0]: store[place[0]] is the level of channel 1, and C bytes from there are the slot's levels. Or
+ * SPHAIRUNE_NOT_KEPT, where the desk has no such slot; or R2, R3; with `place` as it was. */
+uint32_t sphairune_levels(const uint32_t *limits, size_t limits_n, const uint8_t *store, size_t store_n, uint32_t slot, size_t *place,
+                          size_t place_n);
+
+/* What a dimmer is patched to on a page, both from 1.
+ * Answers 0, with the SPHAIRUNE_PATCH_VALUES values in `values`. Or SPHAIRUNE_NOT_KEPT, where the desk has no such page or dimmer; or R2,
+ * R3; with `values` as it was. */
+uint32_t sphairune_patch(const uint32_t *limits, size_t limits_n, const uint8_t *store, size_t store_n, uint32_t page, uint32_t dimmer,
+                         uint32_t *values, size_t values_n);
+
+/* ---- The calls: what people read */
+
+/* A level in percent, by Table C-1 of the standard. */
+uint32_t sphairune_percent(uint8_t level);
+
+/* The standard's letter for a condition's severity: E error, W warning, I (of the closing number 0 alone) information. */
+uint8_t sphairune_severity(uint32_t condition);
+
+/* A time in tenths of a second as the written stream has it: 3, 1:30, 2:00:10.5.
+ * Answers 0, with the text at the beginning of `out`, no NUL behind it, the bytes of `out` past it as they were, and its length in
+ * length[0]. Or R6, with the length needed in length[0] and `out` as it was. An empty `length` gets nothing, and its entries past length[0]
+ * stay as they were. No time needs more than 14 bytes. */
+uint32_t sphairune_time_text(uint32_t tenths, uint8_t *out, size_t out_n, size_t *length, size_t length_n);
+
+/* The standard's text for a condition that a load can report (Appendix B), or for the closing number 0; of any other number a text of no
+ * bytes. Where the appendix puts the record's own field or keyword between two words, the text has the words alone.
+ * Answers as sphairune_time_text does. No text needs more than 44 bytes. */
+uint32_t sphairune_condition_text(uint32_t condition, uint8_t *out, size_t out_n, size_t *length, size_t length_n);
+
+/* ---- From here on: inline functions over the calls. They are plain C, not proved. */
 
 /* The number of an answer, one of those above. */
 static inline uint32_t sphairune_answer_number(uint32_t answer) { return answer % 256; }
@@ -179,139 +272,61 @@ static inline uint32_t sphairune_report_condition(uint64_t word) { return (uint3
  * one. 51, 52, 151 and 152 blame the keyword. 0 where the field is missing, and with 21, 22, 91, 100, 701 and 702. */
 static inline uint32_t sphairune_report_column(uint64_t word) { return (uint32_t)(word >> 25 & 0x7f); }
 
-/* The standard's letter for a condition's severity: E error, W warning, I (of the closing number 0 alone) information. */
-static inline char sphairune_severity(uint32_t condition) {
-    return condition == 0 ? 'I' : 70 <= condition && condition <= 149 ? 'E' : 'W';
-}
+/* ---- Memories and texts */
 
-/* The standard's text for a condition that a load can report (Appendix B), or for the closing number 0. Where the appendix puts the record's
- * own field or keyword between two words, the text has the words alone. "" for any other number. */
-static inline const char *sphairune_condition_text(uint32_t condition) {
-    switch (condition) {
-    case 0: return "Data stream successfully processed";
-    case 21: return "Cue memory exhausted";
-    case 22: return "Group memory exhausted";
-    case 41: return "Invalid cue or group number";
-    case 42: return "Cue or group number too large";
-    case 43: return "Page out of range";
-    case 44: return "Submaster number out of range";
-    case 51: return "Groups not supported";
-    case 52: return "Submasters not supported";
-    case 91: return "Encountered record longer than 80 characters";
-    case 99: return "Ident mismatch prohibits processing";
-    case 100: return "Data stream terminated without ENDDATA";
-    case 151: return "Undefined standard keyword";
-    case 152: return "Wrong secondary keyword";
-    case 171: return "Invalid integer";
-    case 172: return "Invalid hexadecimal value";
-    case 201: return "Channel out of range";
-    case 203: return "Dimmer out of range";
-    case 221: return "Invalid level";
-    case 231: return "Patch page skipped";
-    case 241: return "Invalid time";
-    case 701: return "Ignored character with high-bit set";
-    case 702: return "Ignored non-printing character";
-    default: return "";
-    }
-}
-
-/* ---- Reading a store
- *
- * A store is slots of equal length (cues, then groups, then submasters), then patch entries. These functions test nothing: they are for a
- * desk and a store on which a call other than sphairune_needed has just answered 0. */
-
-#define SPHAIRUNE_HEAD_BYTES 24
-#define SPHAIRUNE_PATCH_BYTES 3
-
-/* The kinds of memory. */
-enum { SPHAIRUNE_CUE, SPHAIRUNE_GROUP, SPHAIRUNE_SUBMASTER };
-
-/* A memory's head. What is not present is 0, and so is what goes with it. Times are in tenths of a second. */
+/* A slot's head by name, and its levels as the very bytes of the caller's store: C of them, channel 1 first. */
 struct sphairune_memory {
+    uint32_t slot;
     uint32_t used;
     uint32_t page, whole, tenths;
     uint32_t link, link_whole, link_tenths;
     uint32_t up, up_fade, up_delay;
     uint32_t down, down_fade, down_delay;
     uint32_t followon, followon_time;
+    const uint8_t *levels;
 };
 
-/* What a dimmer is patched to: channel 0 is none. */
-struct sphairune_patch {
-    uint32_t channel, level;
-};
-
-/* The number in `count` bits, the first of them bit `from`; the most significant bit comes first. */
-static inline uint32_t sphairune_bits(const uint8_t *bytes, uint32_t from, uint32_t count) {
-    uint32_t value = 0;
-    for (uint32_t bit = from; bit < from + count; bit++) value = value << 1 | (bytes[bit / 8] >> (7 - bit % 8) & 1u);
-    return value;
+/* Fills *memory from a slot. Answers as sphairune_head and sphairune_levels do; where that is not 0, *memory is as it was. */
+static inline uint32_t sphairune_memory_of(const uint32_t *limits, size_t limits_n, const uint8_t *store, size_t store_n, uint32_t slot,
+                                           struct sphairune_memory *memory) {
+    uint32_t v[SPHAIRUNE_HEAD_VALUES];
+    size_t place = 0;
+    uint32_t answer = sphairune_head(limits, limits_n, store, store_n, slot, v, SPHAIRUNE_HEAD_VALUES);
+    if (answer == SPHAIRUNE_DONE) answer = sphairune_levels(limits, limits_n, store, store_n, slot, &place, 1);
+    if (answer != SPHAIRUNE_DONE) return answer;
+    memory->slot = slot;
+    memory->used = v[SPHAIRUNE_HEAD_USED];
+    memory->page = v[SPHAIRUNE_HEAD_PAGE];
+    memory->whole = v[SPHAIRUNE_HEAD_WHOLE];
+    memory->tenths = v[SPHAIRUNE_HEAD_TENTHS];
+    memory->link = v[SPHAIRUNE_HEAD_LINK];
+    memory->link_whole = v[SPHAIRUNE_HEAD_LINK_WHOLE];
+    memory->link_tenths = v[SPHAIRUNE_HEAD_LINK_TENTHS];
+    memory->up = v[SPHAIRUNE_HEAD_UP];
+    memory->up_fade = v[SPHAIRUNE_HEAD_UP_FADE];
+    memory->up_delay = v[SPHAIRUNE_HEAD_UP_DELAY];
+    memory->down = v[SPHAIRUNE_HEAD_DOWN];
+    memory->down_fade = v[SPHAIRUNE_HEAD_DOWN_FADE];
+    memory->down_delay = v[SPHAIRUNE_HEAD_DOWN_DELAY];
+    memory->followon = v[SPHAIRUNE_HEAD_FOLLOWON];
+    memory->followon_time = v[SPHAIRUNE_HEAD_FOLLOWON_TIME];
+    memory->levels = store + place;
+    return SPHAIRUNE_DONE;
 }
 
-/* The head of a slot. */
-static inline struct sphairune_memory sphairune_memory_of(const uint8_t *slot) {
-    struct sphairune_memory m;
-    m.used = sphairune_bits(slot, 0, 1);
-    m.page = sphairune_bits(slot, 1, 6);
-    m.whole = sphairune_bits(slot, 7, 10);
-    m.tenths = sphairune_bits(slot, 17, 4);
-    m.link = sphairune_bits(slot, 21, 1);
-    m.link_whole = sphairune_bits(slot, 22, 10);
-    m.link_tenths = sphairune_bits(slot, 32, 4);
-    m.up = sphairune_bits(slot, 36, 1);
-    m.up_fade = sphairune_bits(slot, 37, 26);
-    m.up_delay = sphairune_bits(slot, 63, 26);
-    m.down = sphairune_bits(slot, 89, 1);
-    m.down_fade = sphairune_bits(slot, 90, 26);
-    m.down_delay = sphairune_bits(slot, 116, 26);
-    m.followon = sphairune_bits(slot, 142, 1);
-    m.followon_time = sphairune_bits(slot, 143, 26);
-    return m;
+/* The text of a time, or of a condition, with a NUL behind it, in `text`, which is room for SPHAIRUNE_TEXT characters and is returned. */
+static inline const char *sphairune_time_string(uint32_t tenths, char *text) {
+    size_t length = 0;
+    sphairune_time_text(tenths, (uint8_t *)text, SPHAIRUNE_TEXT - 1, &length, 1);
+    text[length] = 0;
+    return text;
 }
 
-/* The C level bytes of a slot, channel 1 first. */
-static inline const uint8_t *sphairune_levels(const uint8_t *slot) { return slot + SPHAIRUNE_HEAD_BYTES; }
-
-static inline size_t sphairune_slot_bytes(const uint32_t *limits) { return SPHAIRUNE_HEAD_BYTES + (size_t)limits[SPHAIRUNE_CHANNELS]; }
-
-/* How many slots a kind has, and which is the first of them, counted from 0. */
-static inline size_t sphairune_slots(const uint32_t *limits, int kind) {
-    switch (kind) {
-    case SPHAIRUNE_CUE: return limits[SPHAIRUNE_CUES];
-    case SPHAIRUNE_GROUP: return limits[SPHAIRUNE_GROUPS];
-    default: return (size_t)limits[SPHAIRUNE_SUBMASTERS] * limits[SPHAIRUNE_SUBMASTER_PAGES];
-    }
-}
-
-static inline size_t sphairune_first_slot(const uint32_t *limits, int kind) {
-    size_t first = 0;
-    for (int before = SPHAIRUNE_CUE; before < kind; before++) first += sphairune_slots(limits, before);
-    return first;
-}
-
-/* Walks the kept memories of a kind by page and number. Begin with a memory that is all zero; each call puts the head of the next one into
- * *memory and returns its slot, or returns NULL after the last. */
-static inline const uint8_t *sphairune_next(const uint32_t *limits, const uint8_t *store, int kind, struct sphairune_memory *memory) {
-    const size_t bytes = sphairune_slot_bytes(limits), slots = sphairune_slots(limits, kind);
-    const uint8_t *slot = store + sphairune_first_slot(limits, kind) * bytes, *next = NULL;
-    uint32_t last = memory->page << 14 | memory->whole << 4 | memory->tenths, least = 0xffffffffu;
-    for (size_t i = 0; i < slots; i++, slot += bytes) {
-        uint32_t name = sphairune_bits(slot, 1, 20);
-        if (sphairune_bits(slot, 0, 1) && last < name && name < least) least = name, next = slot;
-    }
-    if (next) *memory = sphairune_memory_of(next);
-    return next;
-}
-
-/* What a dimmer is patched to on a page, both counted from 1 and within the desk's limits. */
-static inline struct sphairune_patch sphairune_patch_of(const uint32_t *limits, const uint8_t *store, uint32_t page, uint32_t dimmer) {
-    const uint8_t *entry = store + (sphairune_first_slot(limits, SPHAIRUNE_SUBMASTER) + sphairune_slots(limits, SPHAIRUNE_SUBMASTER)) *
-                                       sphairune_slot_bytes(limits);
-    struct sphairune_patch p;
-    entry += ((size_t)(page - 1) * limits[SPHAIRUNE_DIMMERS] + (dimmer - 1)) * SPHAIRUNE_PATCH_BYTES;
-    p.channel = sphairune_bits(entry, 0, 10);
-    p.level = sphairune_bits(entry, 10, 8);
-    return p;
+static inline const char *sphairune_condition_string(uint32_t condition, char *text) {
+    size_t length = 0;
+    sphairune_condition_text(condition, (uint8_t *)text, SPHAIRUNE_TEXT - 1, &length, 1);
+    text[length] = 0;
+    return text;
 }
 
 #ifdef __cplusplus

@@ -2,9 +2,9 @@
 //!
 //! The desk is the house small desk unless its nine limits are given, in the order of `Desk`. First come the reports, each with the record
 //! as received and a mark under the field that is blamed, then the cues by page and number, then what is kept and the tallies. Exit status 0
-//! where there is a sheet, 1 where the file cannot be read or a call is turned away, 2 where the arguments are wrong. examples/cue_sheet.c
-//! prints the same.
-use sphairune::{condition_text, severity, Desk, Fade, Memory, Number, Refused, Report, Totals, MOST_STREAM};
+//! where there is a sheet, 1 where the file cannot be read, a call is turned away or the sheet cannot be written, 2 where the arguments are
+//! wrong. examples/cue_sheet.c prints the same.
+use sphairune::{condition_text, percent, severity, time_text, Desk, Fade, Memory, Number, Refused, Report, Totals, MOST_STREAM};
 use std::env;
 use std::fs::File;
 use std::io::{self, ErrorKind, Read, Write};
@@ -96,12 +96,10 @@ fn marked(line: String, record: &[u8], column: usize) -> String {
     line + &received(record) + "\n" + &mark
 }
 
-/// In minutes and seconds, with tenths where there are any; the seconds of a column stand under one another.
 fn time(tenths: Option<u32>) -> String {
     match tenths {
-        None => "        -  ".into(),
-        Some(t) if t % 10 == 0 => format!(" {:5}:{:02}  ", t / 600, t / 10 % 60),
-        Some(t) => format!(" {:5}:{:02}.{}", t / 600, t / 10 % 60, t % 10),
+        Some(t) => format!(" {:>11}", time_text(t)),
+        None => format!(" {:>11}", "-"),
     }
 }
 
@@ -115,11 +113,6 @@ fn number(n: Number) -> String {
         0 => format!("{:3}", n.whole),
         tenths => format!("{:3}.{tenths}", n.whole),
     }
-}
-
-/// Table C-1 of the standard, by its formula: to the nearest whole percent.
-fn percent(level: u8) -> u32 {
-    (u32::from(level) * 200 + 255) / 510
 }
 
 fn level_lines(levels: &[u8]) -> String {
@@ -137,27 +130,27 @@ fn level_lines(levels: &[u8]) -> String {
 
 fn cue_line(m: &Memory) -> String {
     let link = m.link.map_or("  -".into(), number);
-    format!("  {:5}  {:4}{}{}{}  {link}\n", number(m.number), m.page, fade(m.up), fade(m.down), time(m.followon))
+    format!("  {:5} {:4}{}{}{}  {link}\n", number(m.number), m.page, fade(m.up), fade(m.down), time(m.followon))
 }
 
 fn cue_lines(desk: Desk, store: &[u8]) -> Result<String, Refused> {
-    let count = desk.cues(store)?.count();
+    let cues = desk.cues(store)?;
+    let count = cues.len();
     if count == 0 {
         return Ok("CUES none\n".into());
     }
     let mut text = format!("CUES {count}\n");
-    text += "  cue    page  up fade      delay  down fade      delay   followon    link\n";
-    for m in desk.cues(store)? {
-        let levels = desk.look_up(store, m.page, m.number.whole, m.number.tenths)?.expect("a cue that is kept was not found");
+    text += "  cue   page     up fade       delay   down fade       delay    followon  link\n";
+    for m in cues {
         text += &cue_line(&m);
-        text += &level_lines(levels);
+        text += &level_lines(m.levels);
     }
     Ok(text)
 }
 
 fn kept_line(desk: Desk, store: &[u8]) -> Result<String, Refused> {
-    let (cues, groups) = (desk.cues(store)?.count(), desk.groups(store)?.count());
-    let (submasters, patched) = (desk.submasters(store)?.count(), desk.patch(store)?.count());
+    let (cues, groups) = (desk.cues(store)?.len(), desk.groups(store)?.len());
+    let (submasters, patched) = (desk.submasters(store)?.len(), desk.patch(store)?.count());
     Ok(format!("KEPT cues {cues}, groups {groups}, submasters {submasters}, patched dimmers {patched}\n"))
 }
 
@@ -183,13 +176,15 @@ fn sheet(file: &str, desk: Desk, stream: &[u8]) -> Result<String, Refused> {
     Ok(text + &kept_line(desk, &store)? + &total_lines(totals))
 }
 
-/// The sheet, or why there is none, in words.
-fn run(file: &str, desk: Desk) -> Result<String, String> {
+/// Prints the sheet, or says in words why there is none.
+fn run(file: &str, desk: Desk) -> Result<(), String> {
     let stream = read_file(file).map_err(|e| match e.kind() {
         ErrorKind::NotFound => "no such file".to_string(),
         _ => "cannot be read".to_string(),
     })?;
-    sheet(file, desk, &stream).map_err(|refused| format!("refused, {}: {refused}", refused.name()))
+    let sheet = sheet(file, desk, &stream).map_err(|refused| format!("refused, {}: {refused}", refused.name()))?;
+    let mut out = io::stdout();
+    out.write_all(sheet.as_bytes()).and_then(|()| out.flush()).map_err(|_| "the sheet cannot be written".to_string())
 }
 
 fn main() -> ExitCode {
@@ -199,8 +194,7 @@ fn main() -> ExitCode {
         return ExitCode::from(2);
     };
     match run(file, desk) {
-        Ok(text) if io::stdout().write_all(text.as_bytes()).is_ok() => ExitCode::SUCCESS,
-        Ok(_) => ExitCode::FAILURE,
+        Ok(()) => ExitCode::SUCCESS,
         Err(why) => {
             eprintln!("cue_sheet: {file}: {why}");
             ExitCode::FAILURE
