@@ -31,9 +31,9 @@ fn conditions(reports: &[Report]) -> Vec<u32> {
 
 #[test]
 fn lengths() {
-    let largest = Desk::of([512, 512, 600, 200, 96, 63, 63, 8, 4]);
     assert_eq!(Desk::HOUSE.needed(), Ok(35_136));
-    assert_eq!(largest.needed(), Ok(846_592));
+    assert_eq!(Desk::LARGEST.needed(), Ok(846_592));
+    assert_eq!(Desk::LARGEST.limits(), [512, 512, 600, 200, 96, 63, 63, 8, 4]);
     assert_eq!(Desk::of(Desk::HOUSE.limits()), Desk::HOUSE);
 }
 
@@ -233,7 +233,7 @@ fn refusals_in_words() {
 /// The only way to R5: a show too long to write, which a large desk can keep.
 #[test]
 fn a_show_too_long_to_write() {
-    let desk = Desk::of([512, 512, 600, 200, 96, 63, 63, 8, 4]);
+    let desk = Desk::LARGEST;
     let mut store = vec![0; desk.needed().unwrap()];
     for cue in 1..=600 {
         let mut stream = std::format!("CUE {cue}\n");
@@ -243,4 +243,258 @@ fn a_show_too_long_to_write() {
         desk.load(&mut store, stream.as_bytes(), &mut []).unwrap();
     }
     assert_eq!(desk.write(&store, &mut [0; 8]), Err(Refused::R5));
+}
+
+/// The slots that are listed of a kind, and how many are kept, where `room` can be listed; what is past them has to stay as it was.
+fn listed(desk: Desk, store: &[u8], kind: u32, room: usize) -> Result<(Vec<u32>, usize), u32> {
+    let (mut slots, mut count) = (vec![77; room], [88, 99]);
+    let answer = calls::memories(&desk.limits(), store, kind, &mut slots, &mut count);
+    if answer != 0 {
+        assert_eq!((slots, count), (vec![77; room], [88, 99]));
+        return Err(answer);
+    }
+    let stored = room.min(count[0]);
+    assert!(slots[stored..].iter().all(|&slot| slot == 77) && count[1] == 99);
+    slots.truncate(stored);
+    Ok((slots, count[0]))
+}
+
+#[test]
+fn slots_are_listed_by_page_and_number() {
+    let house = Desk::HOUSE;
+    let (store, ..) = loaded(house, "house");
+    assert_eq!(listed(house, &store, Kind::Cue.number(), 768), Ok(((1..=10).collect(), 10)));
+    assert_eq!(listed(house, &store, Kind::Group.number(), 768), Ok((vec![201, 202], 2)));
+    assert_eq!(listed(house, &store, Kind::Submaster.number(), 768), Ok((vec![241, 242, 264, 265], 4)));
+    let slots: Vec<u32> = house.submasters(&store).unwrap().map(|m| m.slot).collect();
+    assert_eq!(slots, [241, 242, 264, 265]);
+
+    let mut store = vec![0; 35_136];
+    house.load(&mut store, b"CUE 9\nCUE 2\nCUE 2 2\nCUE 1.5\nCUE 0.1 2\nENDDATA\n", &mut []).unwrap();
+    assert_eq!(listed(house, &store, 0, 768), Ok((vec![4, 2, 1, 5, 3], 5)));
+    assert_eq!(listed(house, &store, 0, 5), Ok((vec![4, 2, 1, 5, 3], 5)));
+    assert_eq!(listed(house, &store, 0, 3), Ok((vec![4, 2, 1], 5)));
+    assert_eq!(listed(house, &store, 0, 0), Ok((vec![], 5)));
+    assert_eq!(listed(house, &store, 1, 768), Ok((vec![], 0)));
+    let mut slots = [77; 2];
+    assert_eq!(calls::memories(&house.limits(), &store, 0, &mut slots, &mut []), 0);
+    assert_eq!(slots, [4, 2]);
+    for kind in [3, 4, 255, u32::MAX] {
+        assert_eq!(listed(house, &store, kind, 5), Err(calls::NOT_KEPT));
+    }
+}
+
+/// A walk knows how far it has to go, and one over a full table is over every slot.
+#[test]
+fn a_walk_over_the_largest_desk() {
+    let desk = Desk::LARGEST;
+    let mut store = vec![0; desk.needed().unwrap()];
+    let cues: Vec<_> = (1..=600).rev().map(|cue| std::format!("CUE {cue}\nCHAN {}@H7F\n", cue % 512 + 1)).collect();
+    let submasters = (1..=8).flat_map(|page| (1..=96).map(move |n| std::format!("SUB {n} {page}\n")));
+    let stream: Vec<_> = cues.into_iter().chain(submasters).collect();
+    desk.load(&mut store, stream.concat().as_bytes(), &mut []).unwrap();
+    let mut walk = desk.cues(&store).unwrap();
+    assert_eq!(walk.len(), 600);
+    for cue in 1..=600 {
+        let m = walk.next().unwrap();
+        assert_eq!((m.slot, m.page, m.number), (601 - cue, 1, Number { whole: cue, tenths: 0 }));
+        assert_eq!((m.levels[cue as usize % 512], walk.len()), (0x7f, 600 - cue as usize));
+    }
+    assert_eq!((walk.next(), walk.next()), (None, None));
+    assert_eq!(desk.submasters(&store).unwrap().len(), MOST_SLOTS);
+    assert_eq!(desk.submasters(&store).unwrap().last().map(|m| (m.slot, m.page, m.number.whole)), Some((1568, 8, 96)));
+}
+
+/// The values of a slot's head, and where its levels begin; both have to stay as they were where that is not answered.
+fn slot_told(desk: Desk, store: &[u8], slot: u32) -> Result<([u32; 16], usize), u32> {
+    let (mut values, mut place) = ([77; 17], [88, 99]);
+    let answer = calls::head(&desk.limits(), store, slot, &mut values);
+    assert_eq!(calls::levels(&desk.limits(), store, slot, &mut place), answer);
+    assert_eq!((values[16], place[1]), (77, 99));
+    if answer != 0 {
+        assert_eq!((values, place[0]), ([77; 17], 88));
+        return Err(answer);
+    }
+    Ok((*values.first_chunk().unwrap(), place[0]))
+}
+
+fn patch_told(desk: Desk, store: &[u8], page: u32, dimmer: u32) -> Result<[u32; 3], u32> {
+    let mut values = [77; 4];
+    let answer = calls::patch(&desk.limits(), store, page, dimmer, &mut values);
+    assert_eq!(values[3], 77);
+    if answer != 0 {
+        assert_eq!(values, [77; 4]);
+        return Err(answer);
+    }
+    Ok(*values.first_chunk().unwrap())
+}
+
+#[test]
+fn slots_and_dimmers_one_by_one() {
+    let house = Desk::HOUSE;
+    let (store, ..) = loaded(house, "house");
+    assert_eq!(slot_told(house, &store, 2), Ok(([1, 1, 1, 0, 0, 0, 0, 1, 0, 0, 1, 25, 5, 1, 30, 0], 144)));
+    assert_eq!(slot_told(house, &store, 8), Ok(([1, 1, 99, 0, 1, 0, 5, 1, 10, 0, 1, 10, 0, 0, 0, 0], 864)));
+    assert_eq!(slot_told(house, &store, 288), Ok(([0; 16], 287 * 120 + 24)));
+    assert_eq!((house.memory(&store, 288), house.memory(&store, 289), house.memory(&store, 0)), (Ok(None), Ok(None), Ok(None)));
+    assert_eq!(house.memory(&store, 8).unwrap(), house.cues(&store).unwrap().nth(7));
+    for slot in [0, 289, 1_000, u32::MAX] {
+        assert_eq!(slot_told(house, &store, slot), Err(calls::NOT_KEPT));
+    }
+    assert_eq!((patch_told(house, &store, 1, 63), patch_told(house, &store, 1, 192)), (Ok([33, 255, 0]), Ok([0; 3])));
+    assert_eq!(house.patched(&store, 1, 63), Ok(Some(Patched { page: 1, dimmer: 63, channel: 33, level: 255 })));
+    for (page, dimmer) in [(0, 1), (1, 0), (1, 193), (2, 1), (u32::MAX, 1), (1, u32::MAX), (u32::MAX, u32::MAX)] {
+        assert_eq!(patch_told(house, &store, page, dimmer), Err(calls::NOT_KEPT));
+        assert_eq!(house.patched(&store, page, dimmer), Ok(None));
+    }
+    let mut short = [77; 3];
+    assert_eq!((calls::head(&house.limits(), &store, 8, &mut short), short), (0, [1, 1, 99]));
+    assert_eq!((calls::patch(&house.limits(), &store, 1, 63, &mut short[..1]), short), (0, [33, 1, 99]));
+    assert_eq!((calls::levels(&house.limits(), &store, 8, &mut []), calls::head(&house.limits(), &store, 8, &mut [])), (0, 0));
+}
+
+/// Of a store in no good form the bits are told as they stand; only the list of memories is refused.
+#[test]
+fn readers_of_a_damaged_store() {
+    let house = Desk::HOUSE;
+    let damaged = vec![0xff; 35_136];
+    let (number, time) = ([1_023, 15], (1 << 26) - 1);
+    let head = [1, 63, number[0], number[1], 1, number[0], number[1], 1, time, time, 1, time, time, 1, time, (1 << 23) - 1];
+    assert_eq!(slot_told(house, &damaged, 1), Ok((head, 24)));
+    assert_eq!(slot_told(house, &damaged, 288), Ok((head, 34_464)));
+    assert_eq!((slot_told(house, &damaged, 289), patch_told(house, &damaged, 1, 193)), (Err(calls::NOT_KEPT), Err(calls::NOT_KEPT)));
+    assert_eq!(patch_told(house, &damaged, 1, 192), Ok([1_023, 255, 63]));
+    assert_eq!(house.memory(&damaged, 1).unwrap().map(|m| (m.page, m.followon, m.levels.len())), Some((63, Some(time), 96)));
+    assert_eq!(listed(house, &damaged, 0, 9), Err(0x14a));
+    assert_eq!(listed(house, &damaged, 3, 9), Err(0x14a));
+
+    let (mut store, ..) = loaded(house, "house");
+    store[34_560 + 3 * 6 + 2] |= 1;
+    assert_eq!(listed(house, &store, 2, 9), Err(0x74c));
+    store.copy_within(120..123, 1_080);
+    assert_eq!(listed(house, &store, 2, 9), Err(0xa4b));
+}
+
+#[test]
+fn readers_refused() {
+    let house = Desk::HOUSE;
+    let none = Desk { patch_pages: 0, ..house };
+    let (store, ..) = loaded(house, "house");
+    for (desk, store, number, refused) in [(none, &store[..], 2, Refused::R2), (house, &store[..35_135], 3, Refused::R3)] {
+        assert_eq!((listed(desk, store, 0, 9), listed(desk, store, 9, 9)), (Err(number), Err(number)));
+        assert_eq!((slot_told(desk, store, 1), slot_told(desk, store, 0)), (Err(number), Err(number)));
+        assert_eq!((patch_told(desk, store, 1, 1), patch_told(desk, store, 0, 0)), (Err(number), Err(number)));
+        assert_eq!((desk.memory(store, 1), desk.patched(store, 1, 1)), (Err(refused), Err(refused)));
+        assert_eq!((desk.memories(store, Kind::Cue).err(), desk.patch(store).err()), (Some(refused), Some(refused)));
+    }
+}
+
+/// Memories are compared by what they keep, wherever they stand.
+#[test]
+fn the_same_memory_in_another_slot() {
+    let shows: [&[u8]; 3] = [b"CUE 1\nCUE 2\nUP 3\n", b"CUE 2\nUP 3\nCUE 1\n", b"CUE 2\nUP 3\nCUE 1\nCHAN 1@H01\n"];
+    let [a, b, c] = shows.map(|show| {
+        let mut store = vec![0; 35_136];
+        Desk::HOUSE.load(&mut store, show, &mut []).unwrap();
+        store
+    });
+    let cues = |store| Desk::HOUSE.cues(store).unwrap();
+    assert!(cues(&a).eq(cues(&b)) && cues(&a).map(|m| m.slot).ne(cues(&b).map(|m| m.slot)));
+    assert!(cues(&b).map(|m| m.slot).eq(cues(&c).map(|m| m.slot)) && cues(&b).ne(cues(&c)));
+}
+
+/// Table C-1 of the standard: a level's percentage, sixteen levels a row.
+const TABLE_C_1: [[u32; 16]; 16] = [
+    [0, 0, 1, 1, 2, 2, 2, 3, 3, 4, 4, 4, 5, 5, 5, 6],
+    [6, 7, 7, 7, 8, 8, 9, 9, 9, 10, 10, 11, 11, 11, 12, 12],
+    [13, 13, 13, 14, 14, 15, 15, 15, 16, 16, 16, 17, 17, 18, 18, 18],
+    [19, 19, 20, 20, 20, 21, 21, 22, 22, 22, 23, 23, 24, 24, 24, 25],
+    [25, 25, 26, 26, 27, 27, 27, 28, 28, 29, 29, 29, 30, 30, 31, 31],
+    [31, 32, 32, 33, 33, 33, 34, 34, 35, 35, 35, 36, 36, 36, 37, 37],
+    [38, 38, 38, 39, 39, 40, 40, 40, 41, 41, 42, 42, 42, 43, 43, 44],
+    [44, 44, 45, 45, 45, 46, 46, 47, 47, 47, 48, 48, 49, 49, 49, 50],
+    [50, 51, 51, 51, 52, 52, 53, 53, 53, 54, 54, 55, 55, 55, 56, 56],
+    [56, 57, 57, 58, 58, 58, 59, 59, 60, 60, 60, 61, 61, 62, 62, 62],
+    [63, 63, 64, 64, 64, 65, 65, 65, 66, 66, 67, 67, 67, 68, 68, 69],
+    [69, 69, 70, 70, 71, 71, 71, 72, 72, 73, 73, 73, 74, 74, 75, 75],
+    [75, 76, 76, 76, 77, 77, 78, 78, 78, 79, 79, 80, 80, 80, 81, 81],
+    [82, 82, 82, 83, 83, 84, 84, 84, 85, 85, 85, 86, 86, 87, 87, 87],
+    [88, 88, 89, 89, 89, 90, 90, 91, 91, 91, 92, 92, 93, 93, 93, 94],
+    [94, 95, 95, 95, 96, 96, 96, 97, 97, 98, 98, 98, 99, 99, 100, 100],
+];
+
+#[test]
+fn percents() {
+    let told: Vec<u32> = (0..=255).map(percent).collect();
+    assert_eq!(told, TABLE_C_1.concat());
+}
+
+/// The conditions that a load can report, and the closing number 0, with severity and text.
+const CONDITIONS: [(u32, char, &str); 23] = [
+    (0, 'I', "Data stream successfully processed"),
+    (21, 'W', "Cue memory exhausted"),
+    (22, 'W', "Group memory exhausted"),
+    (41, 'W', "Invalid cue or group number"),
+    (42, 'W', "Cue or group number too large"),
+    (43, 'W', "Page out of range"),
+    (44, 'W', "Submaster number out of range"),
+    (51, 'W', "Groups not supported"),
+    (52, 'W', "Submasters not supported"),
+    (91, 'E', "Encountered record longer than 80 characters"),
+    (99, 'E', "Ident mismatch prohibits processing"),
+    (100, 'E', "Data stream terminated without ENDDATA"),
+    (151, 'W', "Undefined standard keyword"),
+    (152, 'W', "Wrong secondary keyword"),
+    (171, 'W', "Invalid integer"),
+    (172, 'W', "Invalid hexadecimal value"),
+    (201, 'W', "Channel out of range"),
+    (203, 'W', "Dimmer out of range"),
+    (221, 'W', "Invalid level"),
+    (231, 'W', "Patch page skipped"),
+    (241, 'W', "Invalid time"),
+    (701, 'W', "Ignored character with high-bit set"),
+    (702, 'W', "Ignored non-printing character"),
+];
+
+#[test]
+fn conditions_in_words() {
+    for condition in (0..10_000).chain([1 << 14, 1 << 16, u32::MAX]) {
+        let named = CONDITIONS.iter().find(|row| row.0 == condition);
+        assert_eq!(&*condition_text(condition), named.map_or("", |row| row.2));
+        assert_eq!(severity(condition), named.map_or(if (70..150).contains(&condition) { 'E' } else { 'W' }, |row| row.1));
+    }
+    assert_eq!(CONDITIONS.iter().map(|row| row.2.len()).max(), Some(MOST_TEXT));
+    let (mut out, mut length) = ([b'~'; 46], [0]);
+    assert_eq!((calls::condition_text(91, &mut out[..43], &mut length), length), (6, [44]));
+    assert_eq!(out, [b'~'; 46]);
+    assert_eq!((calls::condition_text(91, &mut out, &mut length), length), (0, [44]));
+    assert_eq!(&out, b"Encountered record longer than 80 characters~~");
+    assert_eq!((calls::condition_text(1, &mut [], &mut length), length), (0, [0]));
+}
+
+#[test]
+fn times_in_words() {
+    let times = [
+        (0, "0"),
+        (1, "0.1"),
+        (30, "3"),
+        (599, "59.9"),
+        (600, "1:00"),
+        (905, "1:30.5"),
+        (35_999, "59:59.9"),
+        (36_000, "1:00:00"),
+        (72_105, "2:00:10.5"),
+        (35_999_999, "999:59:59.9"),
+        (u32::MAX, "119304:38:49.5"),
+    ];
+    for (tenths, text) in times {
+        assert_eq!(&*time_text(tenths), text);
+    }
+    assert_eq!(std::format!("[{:>8}|{:<6}]", time_text(905), time_text(1)), "[  1:30.5|0.1   ]");
+    let (mut out, mut length) = ([b'~'; 7], [0, 99]);
+    assert_eq!((calls::time_text(905, &mut out[..5], &mut length), length), (6, [6, 99]));
+    assert_eq!(&out, b"~~~~~~~");
+    assert_eq!((calls::time_text(905, &mut out[..6], &mut length), length), (0, [6, 99]));
+    assert_eq!(&out, b"1:30.5~");
+    assert_eq!((calls::time_text(5, &mut out, &mut []), calls::time_text(5, &mut [], &mut [])), (0, 6));
 }
