@@ -1,4 +1,4 @@
-//! The proved library's five calls. What is lent for an answer is marked first, and a refusal has to leave the mark.
+//! The proved library's calls. What is lent for an answer is marked first, and a refusal has to leave the mark.
 
 use crate::{Limits, Refused, Totals};
 use sphairune::calls;
@@ -67,5 +67,73 @@ pub fn find(limits: &Limits, store: &[u8], page: u32, whole: u32, tenths: u32) -
             Ok(None)
         }
         n => Err(refused(n, place[0])),
+    }
+}
+
+/// The slots of the kept memories of a kind, as many as there is room for; and how many are kept.
+pub fn memories(limits: &Limits, store: &[u8], kind: u32, slots: &mut [u32]) -> Result<Option<usize>, Refused> {
+    let mut count = [MARK];
+    match calls::memories(limits, store, kind, slots, &mut count) {
+        0 => Ok(Some(count[0])),
+        calls::NOT_KEPT => {
+            assert_eq!(count[0], MARK, "a kind that there is not has no count");
+            Ok(None)
+        }
+        n => Err(refused(n, count[0])),
+    }
+}
+
+/// The values of a slot's head, as many as there is room for; whether the desk has such a slot.
+pub fn head(limits: &Limits, store: &[u8], slot: u32, values: &mut [u32]) -> Result<bool, Refused> {
+    match calls::head(limits, store, slot, values) {
+        0 => Ok(true),
+        calls::NOT_KEPT => Ok(false),
+        n => Err(refused(n, MARK)),
+    }
+}
+
+/// Where in the store a slot's levels begin.
+pub fn levels(limits: &Limits, store: &[u8], slot: u32) -> Result<Option<usize>, Refused> {
+    let mut place = [MARK];
+    match calls::levels(limits, store, slot, &mut place) {
+        0 => Ok(Some(place[0])),
+        calls::NOT_KEPT => {
+            assert_eq!(place[0], MARK, "a slot that the desk lacks has no place");
+            Ok(None)
+        }
+        n => Err(refused(n, place[0])),
+    }
+}
+
+/// A dimmer's channel, level and zero bits, as many as there is room for; whether the desk has such a dimmer.
+pub fn patch(limits: &Limits, store: &[u8], page: u32, dimmer: u32, values: &mut [u32]) -> Result<bool, Refused> {
+    match calls::patch(limits, store, page, dimmer, values) {
+        0 => Ok(true),
+        calls::NOT_KEPT => Ok(false),
+        n => Err(refused(n, MARK)),
+    }
+}
+
+pub fn percent(level: u8) -> u32 {
+    calls::percent(level)
+}
+
+pub fn severity(condition: u32) -> u8 {
+    calls::severity(condition)
+}
+
+pub fn time_text(tenths: u32, out: &mut [u8]) -> Result<usize, Refused> {
+    let mut length = [MARK];
+    match calls::time_text(tenths, out, &mut length) {
+        0 => Ok(length[0]),
+        n => Err(refused(n, length[0])),
+    }
+}
+
+pub fn condition_text(condition: u32, out: &mut [u8]) -> Result<usize, Refused> {
+    let mut length = [MARK];
+    match calls::condition_text(condition, out, &mut length) {
+        0 => Ok(length[0]),
+        n => Err(refused(n, length[0])),
     }
 }

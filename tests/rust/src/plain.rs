@@ -8,6 +8,8 @@ pub(crate) const ENTRY: usize = 3;
 pub(crate) const LONGEST_RECORD: usize = 80;
 const MOST_CUES: usize = 600;
 const MOST_GROUPS: usize = 200;
+/// 96 submasters on each of 8 pages.
+const MOST_OF_A_KIND: usize = 768;
 /// 999:59:59.9 in tenths of a second.
 const LONGEST_TIME: u32 = 35_999_999;
 
@@ -90,6 +92,131 @@ pub fn find(limits: &Limits, store: &[u8], page: u32, whole: u32, tenths: u32) -
     Ok(desk.find(store, Kind::Cue, key(page, Number { whole, tenths })).map(|i| i * desk.slot() + HEAD))
 }
 
+/// The slots of the kept memories of a kind, from 1, by page and number, as many as there is room for; and how many are kept. `None` where
+/// there is no such kind.
+pub fn memories(limits: &Limits, store: &[u8], kind: u32, slots: &mut [u32]) -> Result<Option<usize>, Refused> {
+    let desk = Desk::new(limits)?;
+    let store = store.get(..desk.needed()).ok_or(Refused::R3)?;
+    desk.good_form(store)?;
+    let kind = match kind {
+        0 => Kind::Cue,
+        1 => Kind::Group,
+        2 => Kind::Sub,
+        _ => return Ok(None),
+    };
+    let mut order = [0; MOST_OF_A_KIND];
+    let mut count = 0;
+    for (i, slot) in store[desk.bytes(kind)].chunks_exact(desk.slot()).enumerate().filter(|(_, slot)| used(slot)) {
+        order[count] = slot_key(slot) << 10 | i as u32;
+        count += 1;
+    }
+    order[..count].sort_unstable();
+    for (to, word) in slots.iter_mut().zip(&order[..count]) {
+        *to = desk.places(kind).start as u32 + (word & 0x3ff) + 1;
+    }
+    Ok(Some(count))
+}
+
+/// The values of a slot's head, as many as there is room for; whether the desk has such a slot.
+pub fn head(limits: &Limits, store: &[u8], slot: u32, values: &mut [u32]) -> Result<bool, Refused> {
+    let desk = Desk::new(limits)?;
+    let store = store.get(..desk.needed()).ok_or(Refused::R3)?;
+    let Some(slot) = desk.place(slot) else { return Ok(false) };
+    let head = head_of(&store[slot * desk.slot()..]);
+    for (to, field) in values.iter_mut().zip(HEAD_FIELDS) {
+        *to = get(head, field);
+    }
+    Ok(true)
+}
+
+/// Where in the store a slot's levels begin.
+pub fn levels(limits: &Limits, store: &[u8], slot: u32) -> Result<Option<usize>, Refused> {
+    let desk = Desk::new(limits)?;
+    store.get(..desk.needed()).ok_or(Refused::R3)?;
+    Ok(desk.place(slot).map(|slot| slot * desk.slot() + HEAD))
+}
+
+/// A dimmer's channel, level and zero bits, as many as there is room for; whether the desk has such a dimmer.
+pub fn patch(limits: &Limits, store: &[u8], page: u32, dimmer: u32, values: &mut [u32]) -> Result<bool, Refused> {
+    let desk = Desk::new(limits)?;
+    let store = store.get(..desk.needed()).ok_or(Refused::R3)?;
+    let (page, dimmer) = (page as usize, dimmer as usize);
+    if !(1..=desk.patch_pages).contains(&page) || !(1..=desk.dimmers).contains(&dimmer) {
+        return Ok(false);
+    }
+    let from = desk.slots() * desk.slot() + ((page - 1) * desk.dimmers + dimmer - 1) * ENTRY;
+    let word = u32::from_be_bytes([0, store[from], store[from + 1], store[from + 2]]);
+    for (to, value) in values.iter_mut().zip([word >> 14, word >> 6 & 0xff, word & 0x3f]) {
+        *to = value;
+    }
+    Ok(true)
+}
+
+/// Table C-1, by the formula that it is based on.
+pub fn percent(level: u8) -> u32 {
+    (f64::from(level) * (100.0 / 255.0)).round() as u32
+}
+
+/// Appendix B: errors are 70 to 149.
+pub fn severity(condition: u32) -> u8 {
+    match condition {
+        0 => b'I',
+        70..=149 => b'E',
+        _ => b'W',
+    }
+}
+
+/// A time as it is written, at the front of `out`, and its length.
+pub fn time_text(tenths: u32, out: &mut [u8]) -> Result<usize, Refused> {
+    let (hours, minutes, seconds) = (tenths / 36_000, tenths / 600 % 60, tenths / 10 % 60);
+    let mut text = match (hours, minutes) {
+        (0, 0) => format!("{seconds}"),
+        (0, _) => format!("{minutes}:{seconds:02}"),
+        _ => format!("{hours}:{minutes:02}:{seconds:02}"),
+    };
+    if tenths % 10 != 0 {
+        text += &format!(".{}", tenths % 10);
+    }
+    put(&text, out)
+}
+
+/// The words of Appendix B, at the front of `out`, and their length.
+pub fn condition_text(condition: u32, out: &mut [u8]) -> Result<usize, Refused> {
+    let named = CONDITIONS.iter().find(|(number, _)| *number == condition);
+    put(named.map_or("", |(_, text)| text), out)
+}
+
+fn put(text: &str, out: &mut [u8]) -> Result<usize, Refused> {
+    out.get_mut(..text.len()).ok_or(Refused::R6(text.len()))?.copy_from_slice(text.as_bytes());
+    Ok(text.len())
+}
+
+const CONDITIONS: [(u32, &str); 23] = [
+    (0, "Data stream successfully processed"),
+    (21, "Cue memory exhausted"),
+    (22, "Group memory exhausted"),
+    (41, "Invalid cue or group number"),
+    (42, "Cue or group number too large"),
+    (43, "Page out of range"),
+    (44, "Submaster number out of range"),
+    (51, "Groups not supported"),
+    (52, "Submasters not supported"),
+    (91, "Encountered record longer than 80 characters"),
+    (99, "Ident mismatch prohibits processing"),
+    (100, "Data stream terminated without ENDDATA"),
+    (151, "Undefined standard keyword"),
+    (152, "Wrong secondary keyword"),
+    (171, "Invalid integer"),
+    (172, "Invalid hexadecimal value"),
+    (201, "Channel out of range"),
+    (203, "Dimmer out of range"),
+    (221, "Invalid level"),
+    (231, "Patch page skipped"),
+    (241, "Invalid time"),
+    (701, "Ignored character with high-bit set"),
+    (702, "Ignored non-printing character"),
+];
+
 // The desk and its store.
 
 #[derive(Clone, Copy, PartialEq, Eq)]
@@ -140,6 +267,11 @@ impl Desk {
             Kind::Group => self.cues..self.cues + self.groups,
             Kind::Sub => self.cues + self.groups..self.slots(),
         }
+    }
+
+    /// The slot of a number, which counts from 1.
+    fn place(&self, slot: u32) -> Option<usize> {
+        (slot as usize).checked_sub(1).filter(|&slot| slot < self.slots())
     }
 
     fn bytes(&self, kind: Kind) -> Range<usize> {
@@ -406,6 +538,7 @@ struct Fade {
     delay: Bits,
 }
 
+const USED: Bits = (0, 1);
 const PAGE: Bits = (1, 6);
 const WHOLE: Bits = (7, 10);
 const TENTHS: Bits = (17, 4);
@@ -417,6 +550,12 @@ const DOWN: Fade = Fade { given: (89, 1), fade: (90, 26), delay: (116, 26) };
 const FOLLOWON: Bits = (142, 1);
 const FOLLOWON_TIME: Bits = (143, 26);
 const ZERO: Bits = (169, 23);
+
+/// All of them, in the order of the paper's table.
+const HEAD_FIELDS: [Bits; 16] = [
+    USED, PAGE, WHOLE, TENTHS, LINK, LINK_WHOLE, LINK_TENTHS, UP.given, UP.fade, UP.delay, DOWN.given, DOWN.fade, DOWN.delay, FOLLOWON,
+    FOLLOWON_TIME, ZERO,
+];
 
 fn head_of(slot: &[u8]) -> &[u8; HEAD] {
     slot.first_chunk().expect("a slot begins with its head")

@@ -105,6 +105,20 @@ fn empty(limits: &Limits, store: &[u8]) -> Verdict {
     compare("ours", &x, &y).and_then(|()| same_bytes("ours", "store", &a, &b))
 }
 
+/// A call that writes into one lent list, on both sides.
+fn lending<T: Copy + PartialEq + Debug, A: PartialEq + Debug>(
+    list: &[T],
+    mark: T,
+    ours: impl FnOnce(&mut [T]) -> A,
+    plain: impl FnOnce(&mut [T]) -> A,
+) -> (Verdict, A) {
+    let (mut a, mut b) = (Lent::new(list, mark), Lent::new(list, mark));
+    let (x, y) = (ours(a.part()), plain(b.part()));
+    (compare("ours", &x, &y).and_then(|()| same("ours", "list", &a, &b, |&entry| entry)), y)
+}
+
+const WORD: u32 = 0xabcd_ef01;
+
 fn shown(bytes: &[u8]) -> String {
     bytes.escape_ascii().to_string()
 }
@@ -162,6 +176,10 @@ struct Tally {
     /// The stored reports that blame a field, by its column.
     columns: BTreeMap<u64, u64>,
     kept: u64,
+    /// The calls that read a store or tell a text, by name.
+    readers: BTreeMap<&'static str, u64>,
+    /// Those of them that answered "not kept".
+    not_kept: u64,
     /// Calls with a store of more than 100,000 bytes.
     large: u64,
 }
@@ -227,6 +245,115 @@ impl Case<'_> {
         }
     }
 
+    /// Of a call that reads a store; `asked` is what it was asked.
+    fn read<A>(&mut self, limits: &Limits, store: &[u8], call: &'static str, asked: &[u32], (verdict, answer): (Verdict, Result<A, Refused>)) -> A
+    where
+        A: Copy + Default + PartialEq,
+    {
+        self.calls += 1;
+        self.tally.note(store, &answer);
+        *self.tally.readers.entry(call).or_default() += 1;
+        self.tally.not_kept += answer.is_ok_and(|answer| answer == A::default()) as u64;
+        if let Err(why) = verdict {
+            self.differs(limits, store, &format!("{call} {asked:?}"), &why);
+        }
+        answer.unwrap_or_default()
+    }
+
+    fn memories(&mut self, limits: &Limits, store: &[u8], kind: u32, room: usize) -> Option<usize> {
+        let list: Vec<u32> = (0..room as u32).map(|i| i * 7).collect();
+        let ours = |slots: &mut [u32]| ours::memories(limits, store, kind, slots);
+        let plain = |slots: &mut [u32]| plain::memories(limits, store, kind, slots);
+        self.read(limits, store, "memories", &[kind, room as u32], lending(&list, WORD, ours, plain))
+    }
+
+    fn slot(&mut self, limits: &Limits, store: &[u8], slot: u32, room: usize) {
+        let list = &[0x5a5a_5a5a; 20][..room];
+        let ours = |values: &mut [u32]| ours::head(limits, store, slot, values);
+        let plain = |values: &mut [u32]| plain::head(limits, store, slot, values);
+        self.read(limits, store, "head", &[slot, room as u32], lending(list, WORD, ours, plain));
+        let (ours, plain) = (ours::levels(limits, store, slot), plain::levels(limits, store, slot));
+        self.read(limits, store, "levels", &[slot], (compare("ours", &ours, &plain), plain));
+    }
+
+    fn patch(&mut self, limits: &Limits, store: &[u8], page: u32, dimmer: u32, room: usize) {
+        let list = &[0x5a5a_5a5a; 20][..room];
+        let ours = |values: &mut [u32]| ours::patch(limits, store, page, dimmer, values);
+        let plain = |values: &mut [u32]| plain::patch(limits, store, page, dimmer, values);
+        self.read(limits, store, "patch", &[page, dimmer, room as u32], lending(list, WORD, ours, plain));
+    }
+
+    /// Of a call that has no store.
+    fn told<A: PartialEq>(&mut self, call: &'static str, asked: &[u32], (verdict, _): (Verdict, A)) {
+        self.calls += 1;
+        *self.tally.readers.entry(call).or_default() += 1;
+        if let Err(why) = verdict {
+            self.differs(&[0; 9], &[], &format!("{call} {asked:?}"), &why);
+        }
+    }
+
+    fn time_text(&mut self, tenths: u32, room: usize) {
+        let answer = lending(&[9; 99][..room], MARK, |out| ours::time_text(tenths, out), |out| plain::time_text(tenths, out));
+        self.told("time text", &[tenths, room as u32], answer);
+    }
+
+    fn condition(&mut self, condition: u32, room: usize) {
+        let answer = lending(&[9; 99][..room], MARK, |out| ours::condition_text(condition, out), |out| plain::condition_text(condition, out));
+        self.told("condition text", &[condition, room as u32], answer);
+        let (ours, plain) = (ours::severity(condition), plain::severity(condition));
+        self.told("severity", &[condition], (compare("ours", &ours, &plain), plain));
+    }
+
+    /// One of the readers, asked for what the desk has, nearly has or cannot have.
+    fn reader(&mut self, limits: &Limits, store: &[u8], dice: &mut Dice) {
+        let [_, dimmers, cues, groups, subs, .., sub_pages, patch_pages] = limits.map(|n| n % 1_000);
+        let any = dice.word() as u32;
+        match dice.below(3) {
+            0 => {
+                let kind = dice.pick(&[0, 0, 0, 1, 1, 2, 2, 3, any]);
+                let room = dice.pick(&[0, 1, 2, 5, 30, 200, 768, 769]);
+                self.memories(limits, store, kind, room);
+            }
+            1 => {
+                let slots = cues + groups + subs * sub_pages;
+                let near = dice.range(0, slots + 1);
+                let slot = dice.pick(&[near, near, near, near, near, 1, slots, slots + 1, any]);
+                self.slot(limits, store, slot, dice.pick(&[16, 16, 16, 16, 0, 1, 7, 15, 17, 20]));
+            }
+            _ => {
+                let (page, dimmer) = (dice.range(1, patch_pages + 1), dice.range(0, dimmers + 1));
+                let page = dice.pick(&[page, page, page, page, page, page, 0, any]);
+                let dimmer = dice.pick(&[dimmer, dimmer, dimmer, dimmer, 1, dimmers, dimmers + 1, dice.clone().word() as u32]);
+                self.patch(limits, store, page, dimmer, dice.pick(&[3, 3, 3, 3, 0, 1, 2, 4]));
+            }
+        }
+    }
+
+    /// Every memory of a store and every dimmer, as a program walks them.
+    fn walk(&mut self, limits: &Limits, store: &[u8]) {
+        for kind in 0..3 {
+            let Some(count) = self.memories(limits, store, kind, 0) else { return };
+            let mut slots = vec![0; count];
+            if plain::memories(limits, store, kind, &mut slots).is_err() {
+                return;
+            }
+            slots.iter().for_each(|&slot| self.slot(limits, store, slot, 16));
+        }
+        for page in 1..=limits[8] {
+            (1..=limits[1]).for_each(|dimmer| self.patch(limits, store, page, dimmer, 3));
+        }
+    }
+
+    /// A time at random, and a condition, with little room or enough.
+    fn words(&mut self, dice: &mut Dice) {
+        let tenths = dice.word() as u32 >> dice.below(32);
+        self.time_text(tenths, dice.below(20));
+        let any = dice.word() as u32;
+        let condition =
+            dice.pick(&[0, 21, 22, 41, 42, 43, 44, 51, 52, 91, 99, 100, 151, 152, 171, 172, 201, 203, 221, 231, 241, 701, 702, any, any >> 20]);
+        self.condition(condition, dice.below(50));
+    }
+
     fn run(&mut self) {
         let number = self.number.unwrap_or(0);
         let dice = &mut Dice(self.seed.wrapping_mul(0x2545_f491_4f6c_dd1d) ^ number.wrapping_mul(0x9e6c_63d0_876a_3f35));
@@ -273,6 +400,15 @@ impl Case<'_> {
             let (page, whole, tenths) = self.name(&limits, &store, dice);
             self.find(&limits, &store, page, whole, tenths);
         }
+        for _ in 0..dice.below(4) {
+            self.reader(&limits, &store, dice);
+        }
+        if dice.one_in(100) {
+            self.walk(&limits, &store);
+        }
+        if dice.one_in(4) {
+            self.words(dice);
+        }
         if dice.one_in(4) {
             self.spoil(&limits, &mut store, dice);
         }
@@ -316,6 +452,7 @@ impl Case<'_> {
             let kept: Vec<(usize, Vec<u8>)> = (0..many).map(|_| shape.spoil(store, &used, &unused, dice)).collect();
             let (page, whole, tenths) = self.name(limits, store, dice);
             self.find(limits, store, page, whole, tenths);
+            self.reader(limits, store, dice);
             match dice.below(8) {
                 0 => drop(self.load(limits, store, b"CUE 1\nCHAN 1@50\nCLEAR PATCH\n", &[9; 4])),
                 1 => drop(self.write(limits, store, &[9; 99])),
@@ -348,6 +485,7 @@ impl Case<'_> {
                 store[*from..from + bytes.len()].copy_from_slice(bytes);
             }
             self.find(&DESK, &store, 1, 3, 0);
+            self.memories(&DESK, &store, 0, 4);
             drop(self.load(&DESK, &store, b"CUE 1\nCHAN 1@50", &[9; 4]));
             drop(self.write(&DESK, &store, &[9; 300]));
         };
@@ -454,6 +592,9 @@ impl Case<'_> {
             let stream: String = cues.chain(groups).collect();
             let (mut store, _) = self.load(&DESK, &empty, stream.as_bytes(), &[]);
             drop(self.write(&DESK, &store, &[9; 20_000]));
+            for (kind, room) in (0..4).flat_map(|kind| [0, 1, 199, 200, 201, 599, 600, 601].map(|room| (kind, room))) {
+                self.memories(&DESK, &store, kind, room);
+            }
             for place in 0..800 {
                 let other = if place < 600 { dice.below(600) } else { 600 + dice.below(200) };
                 let (at, other) = (place * SLOT, other * SLOT);
@@ -463,6 +604,61 @@ impl Case<'_> {
                 store[at..at + 3].copy_from_slice(&kept);
             }
         }
+    }
+
+    /// Every slot and dimmer of small desks and of one large in part, and those just past them, in bytes at random; then every bit of a head and
+    /// of a patch entry by itself.
+    fn sweep_readers(&mut self, dice: &mut Dice) {
+        const DESKS: [Limits; 5] = [
+            [1, 1, 1, 0, 0, 1, 1, 1, 1],
+            [3, 5, 4, 3, 2, 2, 2, 3, 4],
+            [8, 7, 5, 0, 9, 1, 1, 8, 2],
+            [31, 512, 2, 200, 0, 63, 63, 8, 1],
+            [512, 2, 3, 1, 96, 1, 1, 1, 4],
+        ];
+        for limits in &DESKS {
+            let shape = Shape::of(limits);
+            let mut store: Vec<u8> = (0..plain::needed(limits).expect("a desk in range")).map(|_| dice.word() as u8).collect();
+            (0..=shape.slots() as u32 + 2).for_each(|slot| self.slot(limits, &store, slot, 16));
+            for (page, dimmer) in (0..=limits[8] + 1).flat_map(|page| (0..=limits[1] + 1).map(move |dimmer| (page, dimmer))) {
+                self.patch(limits, &store, page, dimmer, 3);
+            }
+            store.fill(0);
+            let (slot, entry) = (dice.below(shape.slots()), dice.below(shape.entries));
+            for bit in 0..192 {
+                let at = slot * shape.slot + bit / 8;
+                store[at] = 0x80 >> (bit % 8);
+                self.slot(limits, &store, slot as u32 + 1, 16);
+                store[at] = 0;
+            }
+            for bit in 0..24 {
+                let at = shape.slots() * shape.slot + 3 * entry + bit / 8;
+                store[at] = 0x80 >> (bit % 8);
+                let (page, dimmer) = (entry as u32 / limits[1] + 1, entry as u32 % limits[1] + 1);
+                self.patch(limits, &store, page, dimmer, 3);
+                store[at] = 0;
+            }
+        }
+    }
+
+    /// Every level, and every condition and the edges of times with just enough room, less and more.
+    fn sweep_words(&mut self) {
+        for level in 0..=255 {
+            let (ours, plain) = (ours::percent(level), plain::percent(level));
+            self.told("percent", &[level.into()], (compare("ours", &ours, &plain), plain));
+        }
+        for condition in (0..=800).chain((10..32).map(|bit| 1 << bit)).chain([u32::MAX]) {
+            let needed = plain::condition_text(condition, &mut [0; 99]).unwrap_or(0);
+            for room in [0, needed.saturating_sub(1), needed, needed + 9] {
+                self.condition(condition, room);
+            }
+        }
+        for unit in [1, 10, 100, 600, 6_000, 36_000, 360_000, 3_600_000, 36_000_000, 360_000_000, 3_600_000_000] {
+            for tenths in [unit - 1, unit, unit + 1, unit + 10, unit + 605] {
+                (0..=15).for_each(|room| self.time_text(tenths, room));
+            }
+        }
+        (0..=15).for_each(|room| self.time_text(u32::MAX, room));
     }
 
     /// What was written is read back with no report, and written again gives the same bytes.
@@ -659,6 +855,8 @@ fn edges(seed: u64, tally: &mut Tally) -> u64 {
     case.sweep_names(dice);
     case.sweep_places();
     case.sweep_columns();
+    case.sweep_readers(dice);
+    case.sweep_words();
     // The longest stream that may be written, and one byte more: ten bytes come from a submaster that a second load adds.
     let empty = vec![0; plain::needed(&LARGE).expect("the largest desk is in range")];
     for length in LONGEST - 1..=LONGEST + 1 {
@@ -691,20 +889,22 @@ fn random(seed: u64, count: u64) {
         tally.calls += calls;
         number += 1;
     }
-    let refused: Vec<String> = tally.refused.iter().map(|(name, count)| format!("{name} {count}")).collect();
+    let counts = |map: &BTreeMap<&str, u64>, gap| map.iter().map(|(name, count)| format!("{name} {count}")).collect::<Vec<_>>().join(gap);
     println!(
         "{} calls, edges and {number} cases from seed {seed}: no difference ({:.0} s); {} on large stores; answered {}, refused {}; {} records, \
-         {} reports, {} stored ones blame {} columns; {} cues found",
+         {} reports, {} stored ones blame {} columns; {} cues found; readers: {}; {} of a slot, dimmer or kind that there is not",
         tally.calls,
         begun.elapsed().as_secs_f64(),
         tally.large,
         tally.done,
-        refused.join(" "),
+        counts(&tally.refused, " "),
         tally.records,
         tally.reports,
         tally.columns.values().sum::<u64>(),
         tally.columns.len(),
-        tally.kept
+        tally.kept,
+        counts(&tally.readers, ", "),
+        tally.not_kept
     );
 }
 
