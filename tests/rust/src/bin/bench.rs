@@ -59,6 +59,36 @@ impl Side {
             Plain | Better => plain::find(limits, store, page, whole, tenths),
         }
     }
+
+    fn walk(self, limits: &Limits, store: &[u8]) -> Result<u64, Refused> {
+        let mut slots = [0; 768];
+        match self {
+            Ours => {
+                let count = ours::memories(limits, store, 0, &mut slots);
+                walked(&slots, count, |slot, values| ours::head(limits, store, slot, values), |slot| ours::levels(limits, store, slot))
+            }
+            Plain | Better => {
+                let count = plain::memories(limits, store, 0, &mut slots);
+                walked(&slots, count, |slot, values| plain::head(limits, store, slot, values), |slot| plain::levels(limits, store, slot))
+            }
+        }
+    }
+}
+
+/// As a program walks the cues: their slots, then of each the head and the levels. Comes to a sum over what was told.
+fn walked(
+    slots: &[u32],
+    count: Result<Option<usize>, Refused>,
+    head: impl Fn(u32, &mut [u32]) -> Result<bool, Refused>,
+    levels: impl Fn(u32) -> Result<Option<usize>, Refused>,
+) -> Result<u64, Refused> {
+    let mut sum = 0;
+    for &slot in &slots[..count?.unwrap_or(0)] {
+        let mut values = [0; 16];
+        head(slot, &mut values)?;
+        sum += u64::from(values[2]) + u64::from(values[8]) + levels(slot)?.unwrap_or(0) as u64;
+    }
+    Ok(sum)
 }
 
 #[repr(C)]
@@ -208,6 +238,20 @@ impl Table {
         Table::line(what, store.len(), ours, plain, None);
     }
 
+    fn walk(&self, what: &str, limits: &Limits, store: &[u8]) {
+        let what = format!("walk, {what}");
+        if !self.wants(&what, store.len()) {
+            return;
+        }
+        if let Some(side) = self.once {
+            counted(&mut || _ = black_box(side.walk(limits, store)));
+            return println!("{what}, {} bytes", store.len());
+        }
+        assert_eq!(Ours.walk(limits, store), Plain.walk(limits, store), "{what}");
+        let [ours, plain] = race([Ours, Plain], |side| timed(|| side.walk(limits, store)));
+        Table::line(&what, store.len(), ours, plain, None);
+    }
+
     fn grown(&self, what: &str, limits: &Limits, stream: &[u8]) -> Vec<u8> {
         let store = loaded(limits, stream);
         let mut back = vec![0; LONGEST];
@@ -295,6 +339,7 @@ impl Table {
         self.find(&format!("form, {name}: find 0.0, empty store"), limits, &empty, (0, 0, 0));
         self.find(&format!("form, {name}: find 0.0, full store"), limits, &taken, (0, 0, 0));
         self.find(&format!("look-up, {name}: last cue, full store"), limits, &taken, (1, limits[2], 0));
+        self.walk(&format!("{name}: all cues, full store"), limits, &taken);
         let mut turned = b"CLEAR ALL\n".to_vec();
         let mut order: Vec<u32> = (1..=limits[2]).collect();
         let mut dice = Dice(7);
@@ -306,6 +351,7 @@ impl Table {
         }
         let store = loaded(limits, &turned);
         self.find(&format!("form, {name}: find 0.0, cues in no order"), limits, &store, (0, 0, 0));
+        self.walk(&format!("{name}: all cues, in no order"), limits, &store);
         self.load(&format!("{name}: cues in no order, empty store"), limits, &empty, &turned);
         self.write(&format!("{name}: cues in no order, no levels"), limits, &store);
     }

@@ -307,7 +307,7 @@ impl Case<'_> {
     /// One of the readers, asked for what the desk has, nearly has or cannot have.
     fn reader(&mut self, limits: &Limits, store: &[u8], dice: &mut Dice) {
         let [_, dimmers, cues, groups, subs, .., sub_pages, patch_pages] = limits.map(|n| n % 1_000);
-        let any = dice.word() as u32;
+        let (any, other) = (dice.word() as u32, dice.word() as u32);
         match dice.below(3) {
             0 => {
                 let kind = dice.pick(&[0, 0, 0, 1, 1, 2, 2, 3, any]);
@@ -323,7 +323,7 @@ impl Case<'_> {
             _ => {
                 let (page, dimmer) = (dice.range(1, patch_pages + 1), dice.range(0, dimmers + 1));
                 let page = dice.pick(&[page, page, page, page, page, page, 0, any]);
-                let dimmer = dice.pick(&[dimmer, dimmer, dimmer, dimmer, 1, dimmers, dimmers + 1, dice.clone().word() as u32]);
+                let dimmer = dice.pick(&[dimmer, dimmer, dimmer, dimmer, 1, dimmers, dimmers + 1, other]);
                 self.patch(limits, store, page, dimmer, dice.pick(&[3, 3, 3, 3, 0, 1, 2, 4]));
             }
         }
