@@ -2,8 +2,9 @@
  *
  * Nine bytes choose the desk, three the room for reports, the bytes past the store, and a byte to spoil; the rest is the stream.
  * Then: load; the totals against the reports and the stream, each column against its record; write with too little room, just enough and
- * more; the written stream read back into this store and into an empty one; every kept cue found; the store spoilt, and then refused for
- * what was spoilt or not, by every call alike. */
+ * more; the written stream read back into this store and into an empty one; every kept cue found; the memories of each kind listed, every
+ * head and patch entry against a plain reading of its bits; the store spoilt, and then refused for what was spoilt or not, by every call
+ * alike, but that heads and patch entries are still told; a time and a condition in words. */
 #include <stdint.h>
 #include <stdio.h>
 #include <stdlib.h>
@@ -184,7 +185,131 @@ static void check_found(const uint32_t *limits, const uint8_t *store, size_t n) 
     HOLDS(sphairune_find(limits, 9, store, n, 0, 0, 0, &place, 1) == SPHAIRUNE_NOT_KEPT && place == 77);
 }
 
-/* Every call answers `why`, and touches nothing; emptying does not look at the store. */
+/* The number in `count` bits from bit `from` on, the most significant first. */
+static uint32_t bits(const uint8_t *bytes, uint32_t from, uint32_t count) {
+    uint32_t value = 0;
+    for (uint32_t bit = from; bit < from + count; bit++) value = value << 1 | (bytes[bit / 8] >> (7 - bit % 8) & 1u);
+    return value;
+}
+
+/* Values are the fields of these widths one after the other, as many as there is room for, and what is past them is untouched. */
+static void check_values(const uint8_t *bytes, const uint32_t *widths, size_t count, const uint32_t *values, size_t room) {
+    size_t told = room < count ? room : count;
+    for (uint32_t i = 0, from = 0; i < told; from += widths[i++]) HOLDS(values[i] == bits(bytes, from, widths[i]));
+    HOLDS(all_marked(values + told, (room - told) * sizeof *values));
+}
+
+/* Every slot's head and where its levels begin, with as much room for values as is given, and the slots that the desk lacks. The store is in
+ * good form or not. */
+static void check_heads(const uint32_t *limits, const uint8_t *store, size_t n, size_t room) {
+    static const uint32_t widths[SPHAIRUNE_HEAD_VALUES] = {1, 6, 10, 4, 1, 10, 4, 1, 26, 26, 1, 26, 26, 1, 26, 23};
+    size_t slot = 24 + limits[0], slots = limits[2] + limits[3] + limits[4] * limits[7], place;
+    uint32_t *values = lend(room * sizeof *values);
+    const uint32_t lacks[] = {0, (uint32_t)slots + 1, UINT32_MAX};
+    for (size_t i = 0; i < 3; i++) {
+        place = 77;
+        HOLDS(sphairune_head(limits, 9, store, n, lacks[i], values, room) == SPHAIRUNE_NOT_KEPT);
+        HOLDS(sphairune_levels(limits, 9, store, n, lacks[i], &place, 1) == SPHAIRUNE_NOT_KEPT && place == 77);
+    }
+    HOLDS(all_marked(values, room * sizeof *values));
+    for (size_t i = 0; i < slots; i++) {
+        HOLDS(sphairune_head(limits, 9, store, n, (uint32_t)i + 1, values, room) == 0);
+        check_values(store + i * slot, widths, SPHAIRUNE_HEAD_VALUES, values, room);
+        HOLDS(sphairune_levels(limits, 9, store, n, (uint32_t)i + 1, &place, 1) == 0 && place == i * slot + 24);
+    }
+    take_back(values, room * sizeof *values);
+}
+
+/* Every dimmer's patch, and the dimmers that the desk lacks. */
+static void check_patch(const uint32_t *limits, const uint8_t *store, size_t n, size_t room) {
+    static const uint32_t widths[SPHAIRUNE_PATCH_VALUES] = {10, 8, 6};
+    const uint8_t *entry = store + (limits[2] + limits[3] + limits[4] * limits[7]) * (24 + (size_t)limits[0]);
+    uint32_t *values = lend(room * sizeof *values);
+    const uint32_t lacks[][2] = {{0, 1}, {1, 0}, {limits[8] + 1, 1}, {1, limits[1] + 1}, {UINT32_MAX, UINT32_MAX}};
+    for (size_t i = 0; i < 5; i++)
+        HOLDS(sphairune_patch(limits, 9, store, n, lacks[i][0], lacks[i][1], values, room) == SPHAIRUNE_NOT_KEPT);
+    HOLDS(all_marked(values, room * sizeof *values));
+    for (uint32_t page = 1; page <= limits[8]; page++)
+        for (uint32_t dimmer = 1; dimmer <= limits[1]; dimmer++, entry += 3) {
+            HOLDS(sphairune_patch(limits, 9, store, n, page, dimmer, values, room) == 0);
+            check_values(entry, widths, SPHAIRUNE_PATCH_VALUES, values, room);
+        }
+    take_back(values, room * sizeof *values);
+}
+
+/* The memories of each kind, with room for all, for a few and for none: used slots of that kind, each once, by page and number, and no used
+ * slot is left out. The store is in good form. */
+static void check_memories(const uint32_t *limits, const uint8_t *store, size_t n, size_t few) {
+    const size_t ends[4] = {0, limits[2], limits[2] + limits[3], limits[2] + limits[3] + limits[4] * limits[7]};
+    size_t slot = 24 + limits[0], bytes = SPHAIRUNE_MOST_SLOTS * sizeof(uint32_t), count = 77, again = 77;
+    uint32_t *slots = lend(bytes), *less = lend(few * sizeof *less);
+    for (uint32_t kind = SPHAIRUNE_CUE; kind <= SPHAIRUNE_SUBMASTER; kind++) {
+        size_t used = 0;
+        memset(slots, MARK, bytes);
+        memset(less, MARK, few * sizeof *less);
+        for (size_t i = ends[kind]; i < ends[kind + 1]; i++) used += store[i * slot] >> 7;
+        HOLDS(sphairune_memories(limits, 9, store, n, kind, slots, SPHAIRUNE_MOST_SLOTS, &count, 1) == 0 && count == used);
+        HOLDS(all_marked(slots + count, bytes - count * sizeof *slots));
+        for (size_t i = 0; i < count; i++) {
+            HOLDS(ends[kind] < slots[i] && slots[i] <= ends[kind + 1] && store[(slots[i] - 1) * slot] >> 7);
+            HOLDS(i == 0 || name_of(store + (slots[i - 1] - 1) * slot) < name_of(store + (slots[i] - 1) * slot));
+        }
+        HOLDS(sphairune_memories(limits, 9, store, n, kind, less, few, &again, 1) == 0 && again == count);
+        size_t told = few < count ? few : count;
+        HOLDS(!memcmp(less, slots, told * sizeof *less) && all_marked(less + told, (few - told) * sizeof *less));
+    }
+    count = 77;
+    memset(less, MARK, few * sizeof *less);
+    HOLDS(sphairune_memories(limits, 9, store, n, SPHAIRUNE_SUBMASTER + 1, less, few, &count, 1) == SPHAIRUNE_NOT_KEPT);
+    HOLDS(count == 77 && all_marked(less, few * sizeof *less));
+    take_back(slots, bytes), take_back(less, few * sizeof *less);
+}
+
+/* A text in just enough room, in less and in more. */
+static void check_text(uint32_t (*call)(uint32_t, uint8_t *, size_t, size_t *, size_t), uint32_t asked, size_t most) {
+    size_t length = 77, told = 77;
+    uint8_t *out = lend(SPHAIRUNE_TEXT);
+    HOLDS(call(asked, out, SPHAIRUNE_TEXT, &length, 1) == 0 && length <= most && all_marked(out + length, SPHAIRUNE_TEXT - length));
+    for (size_t i = 0; i < length; i++) HOLDS(out[i] >= 0x20 && out[i] <= 0x7e);
+    uint8_t *exact = lend(length);
+    HOLDS(call(asked, exact, length, &told, 1) == 0 && told == length && !memcmp(exact, out, length));
+    if (length) {
+        memset(exact, MARK, length);
+        told = 77;
+        HOLDS(call(asked, exact, length - 1, &told, 1) == SPHAIRUNE_R6 && told == length && all_marked(exact, length));
+    }
+    take_back(out, SPHAIRUNE_TEXT), take_back(exact, length);
+}
+
+/* A time in words is the one that a stream has for it, where a stream can: it is read back as the same time. */
+static void check_time(uint32_t tenths) {
+    static const uint32_t limits[9] = {1, 1, 1, 0, 0, 1, 1, 1, 1};
+    uint8_t store[24 + 1 + 3] = {0}, stream[64] = "CUE 1\nUP ";
+    size_t length = 0;
+    uint32_t totals[TOTALS], values[SPHAIRUNE_HEAD_VALUES];
+    check_text(sphairune_time_text, tenths, 14);
+    HOLDS(sphairune_time_text(tenths, stream + 9, SPHAIRUNE_TEXT, &length, 1) == 0);
+    HOLDS(sphairune_load(limits, 9, store, sizeof store, stream, 9 + length, &no_reports, 0, totals, TOTALS) == 0);
+    HOLDS(sphairune_head(limits, 9, store, sizeof store, 1, values, SPHAIRUNE_HEAD_VALUES) == 0);
+    HOLDS(values[SPHAIRUNE_HEAD_UP] == (tenths <= 35999999));
+    if (tenths <= 35999999) HOLDS(values[SPHAIRUNE_HEAD_UP_FADE] == tenths);
+}
+
+static void check_words(uint32_t number) {
+    char text[SPHAIRUNE_TEXT];
+    check_time(number);
+    check_time(number % 36000000);
+    check_text(sphairune_condition_text, number, 44);
+    check_text(sphairune_condition_text, number % 1024, 44);
+    HOLDS(strlen(sphairune_time_string(number, text)) <= 14 && strlen(sphairune_condition_string(number % 1024, text)) <= 44);
+    uint8_t letter = sphairune_severity(number % 1024);
+    HOLDS(letter == (number % 1024 == 0 ? 'I' : 70 <= number % 1024 && number % 1024 <= 149 ? 'E' : 'W'));
+    uint8_t level = (uint8_t)number;
+    HOLDS(sphairune_percent(level) * 510 <= level * 200u + 255 && level * 200u + 255 < (sphairune_percent(level) + 1) * 510);
+}
+
+/* Every call answers `why`, and touches nothing; emptying does not look at the store, nor do the readers of a slot and a dimmer at its
+ * form. */
 static void check_refused(const uint32_t *limits, const uint8_t *store, size_t n, const uint8_t *stream, size_t m, uint32_t why) {
     enum { OUT = 64, REPORTS = 4 * sizeof(uint64_t), WORDS = TOTALS * sizeof(uint32_t) };
     uint8_t *kept = lend(n), *out = lend(OUT);
@@ -195,7 +320,13 @@ static void check_refused(const uint32_t *limits, const uint8_t *store, size_t n
     HOLDS(sphairune_load(limits, 9, kept, n, stream, m, reports, 4, totals, TOTALS) == why);
     HOLDS(sphairune_write(limits, 9, kept, n, out, OUT, word, 1) == why);
     HOLDS(sphairune_find(limits, 9, kept, n, 1, 1, 0, word, 1) == why);
-    if (why == SPHAIRUNE_R2 || why == SPHAIRUNE_R3) HOLDS(sphairune_empty(limits, 9, kept, n) == why);
+    HOLDS(sphairune_memories(limits, 9, kept, n, n % 4, totals, TOTALS, word, 1) == why);
+    if (why == SPHAIRUNE_R2 || why == SPHAIRUNE_R3) {
+        HOLDS(sphairune_empty(limits, 9, kept, n) == why);
+        HOLDS(sphairune_head(limits, 9, kept, n, 1, totals, TOTALS) == why);
+        HOLDS(sphairune_levels(limits, 9, kept, n, 0, word, 1) == why);
+        HOLDS(sphairune_patch(limits, 9, kept, n, 1, 1, totals, TOTALS) == why);
+    }
     HOLDS(!memcmp(kept, store, n) && all_marked(out, OUT) && all_marked(reports, REPORTS) && all_marked(totals, WORDS));
     HOLDS(all_marked(word, sizeof *word));
     take_back(kept, n), take_back(out, OUT), take_back(reports, REPORTS), take_back(totals, WORDS), take_back(word, sizeof *word);
@@ -230,6 +361,7 @@ int LLVMFuzzerTestOneInput(const uint8_t *data, size_t size) {
         limits[i] = data[i] >= 250 ? ends[data[i] - 250] : small < most[i] ? small : most[i];
         in_range &= limits[i] >= least[i] && limits[i] <= most[i];
     }
+    check_words((uint32_t)data[8] << 24 | (uint32_t)data[9] << 16 | (uint32_t)data[10] << 8 | data[11]);
     const uint8_t *stream = data + 12;
     size_t m = size - 12, room = data[9] % 8 == 7 ? FULL : data[9] % 8, past = data[10] % 4, needed = 77;
     uint32_t answer = sphairune_needed(limits, 9, &needed, 1);
@@ -257,6 +389,9 @@ int LLVMFuzzerTestOneInput(const uint8_t *data, size_t size) {
     HOLDS(!memcmp(store, other, n) && !memcmp(totals, other_totals, sizeof totals));
     check_written(limits, store, n);
     check_found(limits, store, n);
+    check_memories(limits, store, n, data[9] % 32);
+    check_heads(limits, store, n, data[10] % 20);
+    check_patch(limits, store, n, data[10] % 5);
     /* A spoilt byte: in good form still, or refused by every call. */
     size_t at = ((size_t)data[11] << 8 | data[10]) % needed;
     store[at] ^= (uint8_t)(1 << data[9] / 8 % 8);
@@ -265,11 +400,14 @@ int LLVMFuzzerTestOneInput(const uint8_t *data, size_t size) {
     if (answer == SPHAIRUNE_DONE || answer == SPHAIRUNE_NOT_KEPT) {
         check_written(limits, store, n);
         check_found(limits, store, n);
+        check_memories(limits, store, n, data[10] % 32);
         answer = SPHAIRUNE_R4C + 256 * limits[8] * limits[1];
     } else {
         check_place(limits, store, at, answer);
         check_refused(limits, store, n, stream, m, answer);
     }
+    check_heads(limits, store, n, SPHAIRUNE_HEAD_VALUES);
+    check_patch(limits, store, n, SPHAIRUNE_PATCH_VALUES);
     /* The last bit of the last patch entry has to be 0: where it is not, this is the last thing that is told. */
     if (at + 3 < needed) {
         store[needed - 1] |= 1;
