@@ -1,0 +1,95 @@
+//! prep: show files (USITT ASCII 3.0) at the prep bench. `prep --help` tells what it does.
+mod arguments;
+mod check;
+mod clean;
+mod compare;
+mod desk;
+mod input;
+mod kind;
+mod output;
+mod page;
+mod passed;
+mod records;
+mod rehearse;
+mod sheet;
+mod show;
+mod status;
+mod words;
+
+use arguments::Order;
+use show::Show;
+use sphairune::Desk;
+use status::Trouble;
+use std::env;
+use std::ffi::{OsStr, OsString};
+use std::process::ExitCode;
+
+/// Does what was asked, and says how it ended.
+fn run(words: Vec<OsString>) -> Result<u8, Trouble> {
+    match arguments::order(words)? {
+        Order::Say(text) => output::print(text.as_bytes()).map(|()| status::CLEAN),
+        Order::Sheet { desk, files } => sheets(desk, &files),
+        Order::Page { desk, file, out, force } => page(&input::show(&file, desk)?, &out, force),
+        Order::Clean { desk, file, out, force } => clean(&input::show(&file, desk)?, &out, force),
+        Order::Check { desk, places, all } => check::check(desk, &places, all),
+        Order::Compare { desk, a, b } => compare(desk, &a, &b),
+        Order::Rehearse { file, small, large } => rehearse(&file, small, large),
+    }
+}
+
+/// One sheet after the other. A file that cannot be loaded is told, and the next one taken.
+fn sheets(desk: Desk, files: &[OsString]) -> Result<u8, Trouble> {
+    let mut worst = status::CLEAN;
+    let mut between = "";
+    for file in files {
+        match input::show(file, desk) {
+            Ok(show) => {
+                output::print(format!("{between}{}", sheet::sheet(&show)).as_bytes())?;
+                between = "\n";
+                worst = worst.max(status::of_reports(show.reports.len()));
+            }
+            Err(trouble) => {
+                output::tell(&trouble.to_string());
+                worst = worst.max(trouble.status());
+            }
+        }
+    }
+    Ok(worst)
+}
+
+fn page(show: &Show, out: &OsStr, force: bool) -> Result<u8, Trouble> {
+    output::put(out, page::page(show).as_bytes(), force)?;
+    Ok(status::of_reports(show.reports.len()))
+}
+
+/// What was dropped is not in the clean stream, so it is said that there was something.
+fn clean(show: &Show, out: &OsStr, force: bool) -> Result<u8, Trouble> {
+    output::put(out, &clean::clean(show)?, force)?;
+    if !show.reports.is_empty() {
+        let count = words::counted(show.reports.len(), "report");
+        output::tell(&format!("{}: written, with {count}: prep sheet tells what was dropped", show.name));
+    }
+    Ok(status::of_reports(show.reports.len()))
+}
+
+fn compare(desk: Desk, a: &OsStr, b: &OsStr) -> Result<u8, Trouble> {
+    let (text, differ) = compare::compare(&input::show(a, desk)?, &input::show(b, desk)?);
+    output::print(text.as_bytes())?;
+    Ok(if differ { status::REPORTS } else { status::CLEAN })
+}
+
+/// The stream is read once, since standard input cannot be read again.
+fn rehearse(file: &OsStr, small: Desk, large: Desk) -> Result<u8, Trouble> {
+    let small = input::show(file, small)?;
+    let large = input::loaded(small.name.clone(), large, small.stream.clone())?;
+    output::print(rehearse::rehearse(&small, &large).as_bytes())?;
+    Ok(status::of_reports(small.reports.len() + large.reports.len()))
+}
+
+fn main() -> ExitCode {
+    let status = run(env::args_os().skip(1).collect()).unwrap_or_else(|trouble| {
+        output::tell(&trouble.to_string());
+        trouble.status()
+    });
+    ExitCode::from(status)
+}

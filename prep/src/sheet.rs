@@ -1,0 +1,166 @@
+//! The sheet for the prep bench: what was dropped and why, what was passed over, and all that is kept.
+use crate::desk;
+use crate::input;
+use crate::kind::Kind;
+use crate::records;
+use crate::show::Show;
+use crate::words::{channels_asked, condition, kept, level, number, received};
+use sphairune::{time_text, Fade, Memory, Patched, Report};
+
+/// Levels on one line of the sheet.
+const LEVELS_A_LINE: usize = 5;
+
+/// Dimmers on one line of the sheet.
+const DIMMERS_A_LINE: usize = 4;
+
+pub fn sheet(show: &Show) -> String {
+    let head = format!("SHEET {}\nDESK {}\n", show.name, desk::described(show.desk));
+    let parts = [head, reports(show), passed(show), patch(show), memories(show, Kind::Cue), memories(show, Kind::Group)];
+    parts.join("\n") + "\n" + &memories(show, Kind::Submaster) + "\n" + &totals(show)
+}
+
+fn reports(show: &Show) -> String {
+    let mut text = match show.reports.len() {
+        0 => "REPORTS none\n".to_string(),
+        count => format!("REPORTS {count}\n"),
+    };
+    let records = show.records();
+    for report in &show.reports {
+        text += &format!("  ({:05}:{}) {}\n", report.record, report.column, condition(report.condition));
+        text += &marked(report, &records);
+    }
+    text + &notes(show)
+}
+
+/// The record that is blamed, and a mark under the character in the column, if there is one. 0100 is of no record.
+fn marked(report: &Report, records: &[&[u8]]) -> String {
+    if report.condition == 100 {
+        return String::new();
+    }
+    let (record, column) = (records[report.record as usize - 1], report.column as usize);
+    let mark = match column {
+        0 => String::new(),
+        _ => format!("      {:1$}^\n", "", received(&record[..column - 1]).len()),
+    };
+    format!("      {}\n{mark}", received(record))
+}
+
+/// What lies behind many of the reports at once.
+fn notes(show: &Show) -> String {
+    let mark = "the file begins with the byte order mark of UTF-8: three characters with the high bit set, which are ignored".to_string();
+    let mark = input::has_byte_order_mark(&show.stream).then_some(mark);
+    [mark, channels_asked(show)].into_iter().flatten().map(|note| format!("  NOTE {note}\n")).collect()
+}
+
+fn passed(show: &Show) -> String {
+    let passed = show.passed();
+    if passed.is_empty() {
+        return "PASSED OVER none\n".into();
+    }
+    let mut text = format!("PASSED OVER {}\n", show.totals.passed);
+    for p in &passed {
+        text += &format!("  {:5}  {}\n", p.count, p.keyword);
+    }
+    if passed.iter().any(|p| p.keyword == "TEXT") {
+        text += "  NOTE the names of cues are among it (TEXT): they are not kept\n";
+    }
+    text
+}
+
+fn patch(show: &Show) -> String {
+    let patch = show.patch();
+    if patch.is_empty() {
+        return "PATCH none\n".into();
+    }
+    let mut text = format!("PATCH {}\n", patch.len());
+    for page in patch.chunk_by(|a, b| a.page == b.page) {
+        text += &format!("  page {}, dimmer: channel@level\n", page[0].page);
+        for line in page.chunks(DIMMERS_A_LINE) {
+            text += &format!("    {}\n", line.iter().map(patched).collect::<Vec<_>>().join("   "));
+        }
+    }
+    text
+}
+
+fn patched(p: &Patched) -> String {
+    format!("{:3}: {:3}@{}", p.dimmer, p.channel, level(p.level))
+}
+
+fn memories(show: &Show, kind: Kind) -> String {
+    let memories = kind.kept(show);
+    let title = format!("{}S", kind.name().to_uppercase());
+    if memories.is_empty() {
+        return format!("{title} none\n");
+    }
+    let mut text = format!("{title} {}\n{}", memories.len(), headings(kind));
+    for m in &memories {
+        text += &format!("  {:1$}  {2:4}{3}\n{4}", number(m.number), width(kind), m.page, values(kind, m), levels(m.levels));
+    }
+    text
+}
+
+fn headings(kind: Kind) -> String {
+    let times = "     up fade       delay   down fade       delay";
+    let times = match kind {
+        Kind::Cue => format!("{times}    followon  link"),
+        Kind::Group => String::new(),
+        Kind::Submaster => times.to_string(),
+    };
+    format!("  {:1$}  page{times}\n", kind.name(), width(kind))
+}
+
+/// Of the column of numbers: `999.9`, or the kind's name above it.
+fn width(kind: Kind) -> usize {
+    kind.name().len().max(5)
+}
+
+/// The values that a memory of this kind can have besides its levels.
+fn values(kind: Kind, m: &Memory) -> String {
+    let times = fade(m.up) + &fade(m.down);
+    match kind {
+        Kind::Cue => times + &time(m.followon) + "  " + m.link.map_or("  -".into(), number).as_str(),
+        Kind::Group => String::new(),
+        Kind::Submaster => times,
+    }
+}
+
+fn fade(fade: Option<Fade>) -> String {
+    time(fade.map(|f| f.fade)) + &time(fade.map(|f| f.delay).filter(|&delay| delay != 0))
+}
+
+fn time(tenths: Option<u32>) -> String {
+    match tenths {
+        Some(tenths) => format!(" {:>11}", time_text(tenths)),
+        None => format!(" {:>11}", "-"),
+    }
+}
+
+fn levels(levels: &[u8]) -> String {
+    let lit: Vec<String> = lit(levels).map(|(channel, value)| format!("{channel:3}@{}", level(value))).collect();
+    if lit.is_empty() {
+        return "        blackout\n".into();
+    }
+    lit.chunks(LEVELS_A_LINE).map(|line| format!("        {}\n", line.join("  "))).collect()
+}
+
+/// The channels above zero, with their levels.
+pub fn lit(levels: &[u8]) -> impl Iterator<Item = (u32, u8)> + '_ {
+    (1..).zip(levels.iter().copied()).filter(|&(_, level)| level != 0)
+}
+
+fn totals(show: &Show) -> String {
+    let t = show.totals;
+    let tallies = format!("blank {}, obeyed {}, passed over {}, dropped {}", t.blank, t.obeyed, t.passed, t.dropped);
+    let records = format!("RECORDS {}: {tallies}\n", t.records());
+    format!("KEPT {}\n{records}{}CLOSING {}\n", kept(show), unread(show), condition(t.closing))
+}
+
+/// What stands behind the record that ended the load.
+fn unread(show: &Show) -> String {
+    let behind = records::records(&show.stream).len() - show.totals.records() as usize;
+    match (behind, show.totals.closing) {
+        (0, _) => String::new(),
+        (_, 91 | 99) => format!("NOT READ {behind}: the load stopped at record {}\n", show.totals.records()),
+        _ => format!("NOT READ {behind}: they stand behind ENDDATA\n"),
+    }
+}

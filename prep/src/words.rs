@@ -1,0 +1,58 @@
+//! Short texts that several commands print.
+use crate::desk::LIMITS;
+use crate::records::MOST_CHARACTERS;
+use crate::show::Show;
+use sphairune::{condition_text, percent, severity, Number};
+
+/// `1 cue`, `2 cues`.
+pub fn counted(count: usize, thing: &str) -> String {
+    format!("{count} {thing}{}", if count == 1 { "" } else { "s" })
+}
+
+/// A condition as the standard prints it: number, severity, text.
+pub fn condition(number: u32) -> String {
+    format!("{number:04}-{} {}", severity(number), condition_text(number))
+}
+
+/// `HFF 100%`.
+pub fn level(level: u8) -> String {
+    format!("H{level:02X} {:3}%", percent(level))
+}
+
+/// Whole numbers under one another.
+pub fn number(n: Number) -> String {
+    format!("{:>1$}", n.to_string(), if n.tenths == 0 { 3 } else { 5 })
+}
+
+/// A record for the eye: a tab as a space, other characters that do not print in hexadecimal, and no more of it than a record may have.
+pub fn received(record: &[u8]) -> String {
+    let mut text = String::new();
+    for &c in record.iter().take(MOST_CHARACTERS) {
+        match c {
+            b'\t' => text.push(' '),
+            0x20..=0x7e => text.push(char::from(c)),
+            _ => text += &format!("\\x{c:02X}"),
+        }
+    }
+    text + if MOST_CHARACTERS < record.len() { "..." } else { "" }
+}
+
+/// What a desk keeps of a show.
+pub fn kept(show: &Show) -> String {
+    let [cues, groups, submasters] = [show.cues(), show.groups(), show.submasters()].map(|kept| kept.len());
+    let memories = [counted(cues, "cue"), counted(groups, "group"), counted(submasters, "submaster")].join(", ");
+    format!("{memories}, {}", counted(show.patch().len(), "patched dimmer"))
+}
+
+/// Where the show has channels that the desk lacks: how many it asks for, and what to do.
+pub fn channels_asked(show: &Show) -> Option<String> {
+    let (asked, has, most) = (show.channels_asked()?, show.desk.channels, LIMITS[0].most);
+    let asks = format!("the show asks for channel {asked}; this desk has {has}");
+    Some(if asked <= most {
+        format!("{asks}: try --desk largest, or a desk with {asked} channels")
+    } else if asked < u32::MAX {
+        format!("{asks}, and no desk has more than {most}")
+    } else {
+        format!("the show asks for a channel of very many digits; this desk has {has}, and no desk has more than {most}")
+    })
+}
