@@ -167,7 +167,8 @@ impl Given {
             return self.set(alone, OsString::new());
         }
         let name = known(self.command.with_word).ok_or_else(|| self.wrong(format!("no option '{}'", input::printable(option))))?;
-        let word = joined.or_else(|| words.next()).ok_or_else(|| self.wrong(format!("{name} needs a word behind it")))?;
+        let next = || words.next().filter(|word| word == "-" || !word.to_string_lossy().starts_with('-'));
+        let word = joined.or_else(next).ok_or_else(|| self.wrong(format!("{name} needs a word behind it")))?;
         self.set(name, word)
     }
 

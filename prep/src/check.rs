@@ -4,7 +4,7 @@ use crate::output;
 use crate::records;
 use crate::show::Show;
 use crate::status::{self, Trouble};
-use crate::words::{channels_asked, condition, counted, kept};
+use crate::words::{condition, counted, kept, notes};
 use sphairune::Desk;
 use std::ffi::{OsStr, OsString};
 use std::fs;
@@ -106,7 +106,7 @@ fn loaded_line(show: &Show) -> String {
     if behind != 0 {
         parts.push(format!("{} behind the end not read", counted(behind, "record")));
     }
-    parts.extend(channels_asked(show));
+    parts.extend(notes(show));
     parts.join("; ")
 }
 

@@ -3,6 +3,7 @@
 //! skipped.
 use crate::records::{self, MOST_CHARACTERS};
 use sphairune::Report;
+use std::cmp::Reverse;
 use std::collections::HashMap;
 
 /// Records passed over or skipped with no report: their keyword as the standard writes it, or as given where it begins with `$`, and how
@@ -87,7 +88,7 @@ fn settle(mut found: Vec<Passed>, total: u32) -> Vec<Passed> {
     if total < sum {
         found.clear();
     }
-    found.sort_by(|a, b| b.count.cmp(&a.count));
+    found.sort_by_key(|p| Reverse(p.count));
     let other = total - found.iter().map(|p| p.count).sum::<u32>();
     if other != 0 {
         found.push(Passed { keyword: "other".into(), count: other });

@@ -22,8 +22,8 @@ pub fn rehearse(small: &Show, large: &Show) -> String {
     }
     let head = format!("REHEARSE {}\nSMALL {}\nLARGE {}\n", small.name, side(small), side(large));
     let room = format!("ROOM\n  small: {}\n  large: {}\n", room(small), room(large));
-    let beyond = if lines.beyond.is_empty() { String::new() } else { section("BEYOND THE LARGE", &lines.beyond) + "\n" };
-    format!("{head}\n{room}\n{}\n{beyond}{}", section("LACKING ON THE SMALL", &lines.lacking), sure(small, large))
+    let different = if lines.different.is_empty() { String::new() } else { section("DIFFERENT ON THE SMALL", &lines.different) + "\n" };
+    format!("{head}\n{room}\n{}\n{different}{}", section("LACKING ON THE SMALL", &lines.lacking), sure(small, large))
 }
 
 fn side(show: &Show) -> String {
@@ -62,18 +62,18 @@ fn times(count: usize) -> String {
     }
 }
 
-/// What one desk has and the other has not.
+/// What the small desk lacks of the large one's show, and what it has that the large one has not, or not so.
 #[derive(Default)]
 struct Lines {
     lacking: Vec<String>,
-    beyond: Vec<String>,
+    different: Vec<String>,
 }
 
 impl Lines {
     fn memory(&mut self, kind: Kind, pair: (Option<Memory>, Option<Memory>), small: &Show) {
         match pair {
             (None, Some(l)) => self.lacking.push(format!("  {}: {}\n", kind.named(&l), why(kind, &l, small))),
-            (Some(s), None) => self.beyond.push(format!("  {}: kept by the small desk alone\n", kind.named(&s))),
+            (Some(s), None) => self.different.push(format!("  {}: kept by the small desk alone\n", kind.named(&s))),
             (Some(s), Some(l)) => self.both(kind, &s, &l),
             (None, None) => {}
         }
@@ -89,17 +89,17 @@ impl Lines {
         }
         let differing = changes(s, &Memory { levels: shared, ..*l });
         if !differing.is_empty() {
-            self.beyond.push(format!("  {}, small -> large\n{differing}", kind.named(l)));
+            self.different.push(format!("  {}, small -> large\n{differing}", kind.named(l)));
         }
     }
 
     fn dimmer(&mut self, pair: (Option<Patched>, Option<Patched>), small: Desk) {
         match pair {
             (s, Some(l)) if s != Some(l) => {
-                let instead = s.map_or(String::new(), |s| format!("; the small desk has {}", patched(Some(s))));
+                let instead = s.map_or(String::new(), |s| format!("; there it is {}", patched(Some(s))));
                 self.lacking.push(format!("  {}: {}, but {}{instead}\n", dimmer(&l), patched(Some(l)), why_not_patched(&l, small)));
             }
-            (Some(s), None) => self.beyond.push(format!("  {}: {} on the small desk alone\n", dimmer(&s), patched(Some(s)))),
+            (Some(s), None) => self.different.push(format!("  {}: {} on the small desk alone\n", dimmer(&s), patched(Some(s)))),
             _ => {}
         }
     }

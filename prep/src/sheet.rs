@@ -1,11 +1,10 @@
 //! The sheet for the prep bench: what was dropped and why, what was passed over, and all that is kept.
 use crate::desk;
-use crate::input;
 use crate::kind::Kind;
 use crate::records;
 use crate::show::Show;
-use crate::words::{channels_asked, condition, kept, level, number, received};
-use sphairune::{time_text, Fade, Memory, Patched, Report};
+use crate::words::{condition, kept, notes, number, received};
+use sphairune::{percent, time_text, Fade, Memory, Patched, Report};
 
 /// Levels on one line of the sheet.
 const LEVELS_A_LINE: usize = 5;
@@ -29,7 +28,7 @@ fn reports(show: &Show) -> String {
         text += &format!("  ({:05}:{}) {}\n", report.record, report.column, condition(report.condition));
         text += &marked(report, &records);
     }
-    text + &notes(show)
+    text + &notes(show).iter().map(|note| format!("  NOTE {note}\n")).collect::<String>()
 }
 
 /// The record that is blamed, and a mark under the character in the column, if there is one. 0100 is of no record.
@@ -43,13 +42,6 @@ fn marked(report: &Report, records: &[&[u8]]) -> String {
         _ => format!("      {:1$}^\n", "", received(&record[..column - 1]).len()),
     };
     format!("      {}\n{mark}", received(record))
-}
-
-/// What lies behind many of the reports at once.
-fn notes(show: &Show) -> String {
-    let mark = "the file begins with the byte order mark of UTF-8: three characters with the high bit set, which are ignored".to_string();
-    let mark = input::has_byte_order_mark(&show.stream).then_some(mark);
-    [mark, channels_asked(show)].into_iter().flatten().map(|note| format!("  NOTE {note}\n")).collect()
 }
 
 fn passed(show: &Show) -> String {
@@ -83,7 +75,12 @@ fn patch(show: &Show) -> String {
 }
 
 fn patched(p: &Patched) -> String {
-    format!("{:3}: {:3}@{}", p.dimmer, p.channel, level(p.level))
+    format!("{:3}: {}", p.dimmer, at_level(p.channel, p.level))
+}
+
+/// A channel and its level, in a column.
+fn at_level(channel: u32, level: u8) -> String {
+    format!("{channel:3}@H{level:02X} {:3}%", percent(level))
 }
 
 fn memories(show: &Show, kind: Kind) -> String {
@@ -136,7 +133,7 @@ fn time(tenths: Option<u32>) -> String {
 }
 
 fn levels(levels: &[u8]) -> String {
-    let lit: Vec<String> = lit(levels).map(|(channel, value)| format!("{channel:3}@{}", level(value))).collect();
+    let lit: Vec<String> = lit(levels).map(|(channel, value)| at_level(channel, value)).collect();
     if lit.is_empty() {
         return "        blackout\n".into();
     }

@@ -1,5 +1,6 @@
 //! Short texts that several commands print.
 use crate::desk::LIMITS;
+use crate::input;
 use crate::records::MOST_CHARACTERS;
 use crate::show::Show;
 use sphairune::{condition_text, percent, severity, Number};
@@ -16,7 +17,7 @@ pub fn condition(number: u32) -> String {
 
 /// `HFF 100%`.
 pub fn level(level: u8) -> String {
-    format!("H{level:02X} {:3}%", percent(level))
+    format!("H{level:02X} {}%", percent(level))
 }
 
 /// Whole numbers under one another.
@@ -44,15 +45,22 @@ pub fn kept(show: &Show) -> String {
     format!("{memories}, {}", counted(show.patch().len(), "patched dimmer"))
 }
 
-/// Where the show has channels that the desk lacks: how many it asks for, and what to do.
-pub fn channels_asked(show: &Show) -> Option<String> {
+/// What lies behind many reports at once, and what to do.
+pub fn notes(show: &Show) -> Vec<String> {
+    let mark = "the file begins with the byte order mark of UTF-8, three characters that are ignored (0701); save it without one";
+    let mark = input::has_byte_order_mark(&show.stream).then(|| mark.to_string());
+    mark.into_iter().chain(channels_asked(show)).collect()
+}
+
+/// Where the show has channels that the desk lacks: how many it asks for.
+fn channels_asked(show: &Show) -> Option<String> {
     let (asked, has, most) = (show.channels_asked()?, show.desk.channels, LIMITS[0].most);
-    let asks = format!("the show asks for channel {asked}; this desk has {has}");
+    let asks = format!("the show asks for channel {asked}, and this desk has {has}");
     Some(if asked <= most {
         format!("{asks}: try --desk largest, or a desk with {asked} channels")
     } else if asked < u32::MAX {
-        format!("{asks}, and no desk has more than {most}")
+        format!("{asks}; no desk has more than {most}")
     } else {
-        format!("the show asks for a channel of very many digits; this desk has {has}, and no desk has more than {most}")
+        format!("the show asks for a channel of very many digits, and this desk has {has}; no desk has more than {most}")
     })
 }

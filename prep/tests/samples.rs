@@ -1,0 +1,109 @@
+//! Every sample of examples/, with exact outputs. Where an output is to change, look at the new one line by line, then put it in
+//! tests/expected.
+mod common;
+
+use common::{line, prep, repository, Folder, Ran};
+use std::fs;
+
+/// The samples by name, each with the desk that it is for.
+fn samples() -> Vec<(String, String)> {
+    let entries = fs::read_dir(repository().join("examples")).expect("the samples");
+    let names = entries.map(|e| e.expect("a sample").file_name().into_string().expect("a name in letters"));
+    let mut samples: Vec<String> = names.filter_map(|name| name.strip_suffix(".asc").map(str::to_string)).collect();
+    samples.sort();
+    let desk = |name: &str| match format!("examples/{name}.limits") {
+        limits if repository().join(&limits).is_file() => limits,
+        _ => "house".into(),
+    };
+    samples.into_iter().map(|name| (desk(&name), name)).map(|(desk, name)| (name, desk)).collect()
+}
+
+fn expected(name: &str) -> String {
+    let path = format!("{}/tests/expected/{name}", env!("CARGO_MANIFEST_DIR"));
+    fs::read_to_string(&path).unwrap_or_else(|e| panic!("{path}: {e}"))
+}
+
+/// What the samples' pages of docs/LIBRARY.md say: no report on these.
+const CLEAN: [&str; 2] = ["foreign", "house"];
+
+fn status(name: &str) -> i32 {
+    i32::from(!CLEAN.contains(&name))
+}
+
+#[test]
+fn a_sheet_of_each() {
+    assert!(samples().len() >= 9);
+    for (name, desk) in samples() {
+        let ran = prep(&["sheet", &format!("examples/{name}.asc"), "--desk", &desk]);
+        assert_eq!(ran.out, expected(&format!("{name}.sheet")), "{name}");
+        assert_eq!((ran.status, ran.err.as_str()), (status(&name), ""), "{name}");
+    }
+}
+
+/// Reports and closing number are those of the C example's sheet.
+#[test]
+fn a_sheet_has_the_reports_of_the_examples() {
+    for (name, desk) in samples() {
+        let ran = prep(&["sheet", &format!("examples/{name}.asc"), "--desk", &desk]);
+        let theirs = fs::read_to_string(repository().join(format!("examples/{name}.sheet"))).expect("the example's sheet");
+        let told = |sheet: &str| {
+            let words = |line: &str| line.split_whitespace().take(2).collect::<Vec<_>>().join(" ");
+            sheet.lines().filter(|line| line.starts_with("  (") || line.starts_with("CLOSING")).map(words).collect::<Vec<_>>()
+        };
+        assert_eq!(told(&ran.out), told(&theirs), "{name}");
+    }
+}
+
+#[test]
+fn each_cleaned() {
+    let folder = Folder::new("cleaned");
+    for (name, desk) in samples() {
+        let file = format!("examples/{name}.asc");
+        let out = folder.path(&format!("{name}.asc"));
+        let ran = prep(&["clean", &file, "-o", &out, "--desk", &desk]);
+        let stream = fs::read_to_string(&out).expect("a clean stream");
+        assert_eq!(stream, expected(&format!("{name}.clean")).replace('\n', "\r\n"), "{name}");
+        assert_eq!((ran.status, ran.out.as_str(), ran.err.is_empty()), (status(&name), "", status(&name) == 0), "{name}");
+
+        let again = prep(&["sheet", &out, "--desk", &desk]);
+        assert_eq!(again.status, 0, "{name}: {}", again.out);
+        let same = prep(&["compare", &file, &out, "--desk", &desk]);
+        assert!(same.status == 0 && same.out.ends_with("\nSAME the desk keeps the same of both\n"), "{name}: {}", same.out);
+    }
+}
+
+#[test]
+fn what_cleaning_says_of_reports() {
+    let ran = line("clean examples/worked.asc -o -");
+    let stream = "IDENT 3:0\r\nCLEAR ALL\r\nPATCH 1 1<5@HFF\r\nCUE 2.5 1\r\nUP 3\r\nCHAN 1@HFF 2@H8F\r\nENDDATA\r\n";
+    let message = "prep: examples/worked.asc: written, with 2 reports: prep sheet tells what was dropped\n";
+    assert_eq!(ran, Ran { status: 1, out: stream.into(), err: message.into() });
+}
+
+#[test]
+fn all_checked() {
+    line("check examples").only_prints(1, &expected("examples.check"));
+    let one = "reports     examples/bare_desk.asc: 2 cues, 0 groups, 0 submasters, 0 patched dimmers; 2 reports, \
+               closing 0052-W Submasters not supported; 2 records passed over\n1 file: 0 clean, 1 with reports, 0 not loaded\n";
+    line("check examples/bare_desk.asc --desk examples/bare_desk.limits").only_prints(1, one);
+}
+
+#[test]
+fn compared() {
+    line("compare examples/house.asc examples/foreign.asc").only_prints(1, &expected("house-foreign.compare"));
+    line("compare examples/small_desk.asc examples/small_desk.asc").only_prints(0, &expected("same.compare"));
+}
+
+#[test]
+fn rehearsed() {
+    let house = "rehearse examples/house.asc --small";
+    line(&format!("{house} 12,30,4,1,2,1,1,1,1 --large house")).only_prints(1, &expected("house.rehearse"));
+    line(&format!("{house} house --large largest")).only_prints(0, &expected("house-fits.rehearse"));
+    line("rehearse examples/bare_desk.asc --small examples/bare_desk.limits --large house").only_prints(1, &expected("bare_desk.rehearse"));
+}
+
+/// The desk of examples/house.desk is the house small desk.
+#[test]
+fn the_desk_in_a_file() {
+    assert_eq!(line("sheet examples/house.asc --desk examples/house.desk"), line("sheet examples/house.asc"));
+}
