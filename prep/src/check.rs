@@ -1,10 +1,9 @@
 //! Many show files at once: a line a file.
 use crate::input;
 use crate::output;
-use crate::records;
 use crate::show::Show;
 use crate::status::{self, Trouble};
-use crate::words::{condition, counted, kept, notes};
+use crate::words::{condition, counted, kept, notes, unread};
 use sphairune::Desk;
 use std::ffi::{OsStr, OsString};
 use std::fs;
@@ -102,10 +101,7 @@ fn loaded_line(show: &Show) -> String {
     if show.totals.passed != 0 {
         parts.push(format!("{} passed over", counted(show.totals.passed as usize, "record")));
     }
-    let behind = records::records(&show.stream).len() - show.totals.records() as usize;
-    if behind != 0 {
-        parts.push(format!("{} behind the end not read", counted(behind, "record")));
-    }
+    parts.extend(unread(show).map(|behind| format!("not read: {behind}")));
     parts.extend(notes(show));
     parts.join("; ")
 }

@@ -1,6 +1,7 @@
 //! The show as one clean stream.
 use crate::show::Show;
 use crate::status::Trouble;
+use crate::words::{condition, counted, unread};
 use sphairune::{Refused, MOST_STREAM};
 
 /// What the desk keeps, as the written stream.
@@ -9,6 +10,14 @@ pub fn clean(show: &Show) -> Result<Vec<u8>, Trouble> {
     let length = show.desk.write(&show.store, &mut out).map_err(|refused| refusal(show, refused))?;
     out.truncate(length);
     Ok(out)
+}
+
+/// What was dropped or not read is not in the clean stream, and so it is said that there was something.
+pub fn warning(show: &Show) -> Option<String> {
+    let count = counted(show.reports.len(), "report");
+    let unread = unread(show).map_or(String::new(), |behind| format!("; not read: {behind}"));
+    let warning = format!("{}: written, with {count}, closing {}{unread}", show.name, condition(show.totals.closing));
+    (!show.reports.is_empty()).then(|| warning + "; prep sheet tells what was dropped")
 }
 
 fn refusal(show: &Show, refused: Refused) -> Trouble {

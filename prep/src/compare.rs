@@ -73,7 +73,7 @@ fn difference(kind: Kind, pair: (Option<Memory>, Option<Memory>)) -> Option<Stri
 /// What differs between two memories of one name: the times and the link, then the levels.
 pub fn changes(a: &Memory, b: &Memory) -> String {
     let fade = |f: Option<Fade>| f.map(|f| f.fade);
-    let delay = |f: Option<Fade>| f.map(|f| f.delay);
+    let delay = |f: Option<Fade>| Some(f.map_or(0, |f| f.delay));
     let link = |m: &Memory| m.link.map_or("none".into(), |cue| cue.to_string());
     let values = [
         ("up", time(fade(a.up)), time(fade(b.up))),

@@ -62,12 +62,10 @@ fn page(show: &Show, out: &OsStr, force: bool) -> Result<u8, Trouble> {
     Ok(status::of_reports(show.reports.len()))
 }
 
-/// What was dropped is not in the clean stream, so it is said that there was something.
 fn clean(show: &Show, out: &OsStr, force: bool) -> Result<u8, Trouble> {
     output::put(out, &clean::clean(show)?, force)?;
-    if !show.reports.is_empty() {
-        let count = words::counted(show.reports.len(), "report");
-        output::tell(&format!("{}: written, with {count}: prep sheet tells what was dropped", show.name));
+    if let Some(warning) = clean::warning(show) {
+        output::tell(&warning);
     }
     Ok(status::of_reports(show.reports.len()))
 }

@@ -157,7 +157,7 @@ fn sure(small: &Show, large: &Show) -> String {
     if channels == large.desk.channels {
         text += "  Both desks have as many channels, so every dimmer of the small desk is patched as on the large one.\n";
     } else {
-        text += "  The large desk has more channels, so a dimmer of the small desk may be patched in another way there.\n";
+        text += "  The large desk has more channels, so a dimmer of the small desk may be patched in another way there:\n  each that is stands above.\n";
     }
     text
 }

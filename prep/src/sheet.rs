@@ -1,9 +1,8 @@
 //! The sheet for the prep bench: what was dropped and why, what was passed over, and all that is kept.
 use crate::desk;
 use crate::kind::Kind;
-use crate::records;
 use crate::show::Show;
-use crate::words::{condition, kept, notes, number, received};
+use crate::words::{condition, kept, notes, number, received, unread};
 use sphairune::{percent, time_text, Fade, Memory, Patched, Report};
 
 /// Levels on one line of the sheet.
@@ -148,16 +147,6 @@ pub fn lit(levels: &[u8]) -> impl Iterator<Item = (u32, u8)> + '_ {
 fn totals(show: &Show) -> String {
     let t = show.totals;
     let tallies = format!("blank {}, obeyed {}, passed over {}, dropped {}", t.blank, t.obeyed, t.passed, t.dropped);
-    let records = format!("RECORDS {}: {tallies}\n", t.records());
-    format!("KEPT {}\n{records}{}CLOSING {}\n", kept(show), unread(show), condition(t.closing))
-}
-
-/// What stands behind the record that ended the load.
-fn unread(show: &Show) -> String {
-    let behind = records::records(&show.stream).len() - show.totals.records() as usize;
-    match (behind, show.totals.closing) {
-        (0, _) => String::new(),
-        (_, 91 | 99) => format!("NOT READ {behind}: the load stopped at record {}\n", show.totals.records()),
-        _ => format!("NOT READ {behind}: they stand behind ENDDATA\n"),
-    }
+    let unread = unread(show).map_or(String::new(), |behind| format!("NOT READ {behind}\n"));
+    format!("KEPT {}\nRECORDS {}: {tallies}\n{unread}CLOSING {}\n", kept(show), t.records(), condition(t.closing))
 }

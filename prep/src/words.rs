@@ -1,7 +1,7 @@
 //! Short texts that several commands print.
 use crate::desk::LIMITS;
 use crate::input;
-use crate::records::MOST_CHARACTERS;
+use crate::records::{self, MOST_CHARACTERS};
 use crate::show::Show;
 use sphairune::{condition_text, percent, severity, Number};
 
@@ -43,6 +43,17 @@ pub fn kept(show: &Show) -> String {
     let [cues, groups, submasters] = [show.cues(), show.groups(), show.submasters()].map(|kept| kept.len());
     let memories = [counted(cues, "cue"), counted(groups, "group"), counted(submasters, "submaster")].join(", ");
     format!("{memories}, {}", counted(show.patch().len(), "patched dimmer"))
+}
+
+/// How many records stand behind the one that ended the load, and which that was. 0091 and 0099 are the errors that stop a load.
+pub fn unread(show: &Show) -> Option<String> {
+    let last = show.totals.records() as usize;
+    let behind = records::records(&show.stream).len() - last;
+    let end = match show.totals.closing {
+        91 | 99 => "at which the load stopped",
+        _ => "ENDDATA",
+    };
+    (behind != 0).then(|| format!("{behind} behind record {last}, {end}"))
 }
 
 /// What lies behind many reports at once, and what to do.

@@ -25,7 +25,7 @@ const LARGE_RAN_OUT: &str = "  The large desk ran out of room, so nothing is sur
 const BOTH_HAD_ROOM: &str = "  The small desk had room too, so it keeps every memory of the large one that lies within its limits.\n";
 const SMALL_RAN_OUT: &str = "  The small desk ran out of room, so it may lack memories that lie within its limits.\n";
 const AS_MANY: &str = "  Both desks have as many channels, so every dimmer of the small desk is patched as on the large one.\n";
-const MORE: &str = "  The large desk has more channels, so a dimmer of the small desk may be patched in another way there.\n";
+const MORE: &str = "  The large desk has more channels, so a dimmer of the small desk may be patched in another way there:\n  each that is stands above.\n";
 
 #[test]
 fn the_large_desk_is_full() {

@@ -76,8 +76,13 @@ fn each_cleaned() {
 fn what_cleaning_says_of_reports() {
     let ran = line("clean examples/worked.asc -o -");
     let stream = "IDENT 3:0\r\nCLEAR ALL\r\nPATCH 1 1<5@HFF\r\nCUE 2.5 1\r\nUP 3\r\nCHAN 1@HFF 2@H8F\r\nENDDATA\r\n";
-    let message = "prep: examples/worked.asc: written, with 2 reports: prep sheet tells what was dropped\n";
+    let message =
+        "prep: examples/worked.asc: written, with 2 reports, closing 0043-W Page out of range; prep sheet tells what was dropped\n";
     assert_eq!(ran, Ran { status: 1, out: stream.into(), err: message.into() });
+    let message = "prep: examples/other_version.asc: written, with 1 report, closing 0099-E Ident mismatch prohibits processing; \
+                   not read: 3 behind record 2, at which the load stopped; prep sheet tells what was dropped\n";
+    let stream = "IDENT 3:0\r\nCLEAR ALL\r\nENDDATA\r\n";
+    assert_eq!(line("clean examples/other_version.asc -o -"), Ran { status: 1, out: stream.into(), err: message.into() });
 }
 
 #[test]
