@@ -42,22 +42,28 @@ pub enum Order {
     },
 }
 
-/// A command as its help tells it.
+/// A command: its options, first those followed by a word, its help, and how its words become an order.
 struct Command {
     name: &'static str,
-    /// Options followed by a word, then options that stand alone.
     with_word: &'static [&'static str],
     alone: &'static [&'static str],
     help: &'static str,
+    order: fn(Given) -> Result<Order, Trouble>,
 }
 
 const COMMANDS: [Command; 6] = [
-    Command { name: "sheet", with_word: &["--desk"], alone: &[], help: include_str!("help/sheet.txt") },
-    Command { name: "page", with_word: &["--desk", "-o"], alone: &["--force"], help: include_str!("help/page.txt") },
-    Command { name: "clean", with_word: &["--desk", "-o"], alone: &["--force"], help: include_str!("help/clean.txt") },
-    Command { name: "check", with_word: &["--desk"], alone: &["--all"], help: include_str!("help/check.txt") },
-    Command { name: "compare", with_word: &["--desk"], alone: &[], help: include_str!("help/compare.txt") },
-    Command { name: "rehearse", with_word: &["--small", "--large"], alone: &[], help: include_str!("help/rehearse.txt") },
+    Command { name: "sheet", with_word: &["--desk"], alone: &[], help: include_str!("help/sheet.txt"), order: Given::sheet },
+    Command { name: "page", with_word: &["--desk", "-o"], alone: &["--force"], help: include_str!("help/page.txt"), order: Given::page },
+    Command { name: "clean", with_word: &["--desk", "-o"], alone: &["--force"], help: include_str!("help/clean.txt"), order: Given::clean },
+    Command { name: "check", with_word: &["--desk"], alone: &["--all"], help: include_str!("help/check.txt"), order: Given::check },
+    Command { name: "compare", with_word: &["--desk"], alone: &[], help: include_str!("help/compare.txt"), order: Given::compare },
+    Command {
+        name: "rehearse",
+        with_word: &["--small", "--large"],
+        alone: &[],
+        help: include_str!("help/rehearse.txt"),
+        order: Given::rehearse,
+    },
 ];
 
 const HELP: &str = include_str!("help/prep.txt");
@@ -78,10 +84,15 @@ pub fn order(words: Vec<OsString>) -> Result<Order, Trouble> {
     }
 }
 
+/// A word as messages quote it.
+fn shown(word: &OsStr) -> String {
+    input::printable(&word.to_string_lossy())
+}
+
 fn command(word: &OsStr) -> Result<&'static Command, Trouble> {
     COMMANDS.iter().find(|command| word == command.name).ok_or_else(|| {
         let names = COMMANDS.map(|command| command.name).join(", ");
-        Trouble::Use(format!("no command is called '{}'; the commands are {names} (prep --help)", input::name(word)))
+        Trouble::Use(format!("no command is called '{}'; the commands are {names} (prep --help)", shown(word)))
     })
 }
 
@@ -99,30 +110,12 @@ fn help_of(command: &Command) -> String {
 
 fn of_command(command: &'static Command, words: Vec<OsString>) -> Result<Order, Trouble> {
     let mut given = Given { command, files: Vec::new(), options: Vec::new() };
-    if given.take_all(words)? == Wish::Help {
-        return Ok(Order::Say(help_of(command)));
-    }
-    match command.name {
-        "sheet" => Ok(Order::Sheet { desk: given.desk("--desk")?, files: given.some_files("FILE")? }),
-        "page" => Ok(Order::Page {
-            desk: given.desk("--desk")?,
-            file: given.one_file()?,
-            out: given.needed("-o", "OUT")?,
-            force: given.has("--force"),
-        }),
-        "clean" => Ok(Order::Clean {
-            desk: given.desk("--desk")?,
-            file: given.one_file()?,
-            out: given.needed("-o", "OUT")?,
-            force: given.has("--force"),
-        }),
-        "check" => Ok(Order::Check { desk: given.desk("--desk")?, all: given.has("--all"), places: given.some_files("FILE or FOLDER")? }),
-        "compare" => given.compare(),
-        _ => given.rehearse(),
+    match given.take_all(words)? {
+        Wish::Help => Ok(Order::Say(help_of(command))),
+        Wish::Work => (command.order)(given),
     }
 }
 
-#[derive(PartialEq, Eq)]
 enum Wish {
     Help,
     Work,
@@ -195,22 +188,20 @@ impl Given {
     /// The house small desk unless another one is given.
     fn desk(&self, name: &str) -> Result<Desk, Trouble> {
         match self.word(name) {
-            Some(word) => {
-                desk::desk(word).map_err(|why| Trouble::Use(format!("{name} {}: {why}", input::printable(&word.to_string_lossy()))))
-            }
+            Some(word) => desk::desk(word).map_err(|why| Trouble::Use(format!("{name} {}: {why}", shown(word)))),
             None => Ok(Desk::HOUSE),
         }
     }
 
     /// Standard input can be read once.
-    fn some_files(self, what: &str) -> Result<Vec<OsString>, Trouble> {
+    fn some_files(&self, what: &str) -> Result<Vec<OsString>, Trouble> {
         if self.files.is_empty() {
             return Err(self.wrong(format!("no {what}")));
         }
         if self.files.iter().filter(|file| *file == "-").count() > 1 {
             return Err(self.wrong("standard input (-) can be read only once".into()));
         }
-        Ok(self.files)
+        Ok(self.files.clone())
     }
 
     fn one_file(&self) -> Result<OsString, Trouble> {
@@ -221,32 +212,48 @@ impl Given {
         }
     }
 
-    fn compare(self) -> Result<Order, Trouble> {
-        let desk = self.desk("--desk")?;
-        let name = self.command.name;
-        let files: [OsString; 2] = self.some_files("FILE")?.try_into().map_err(|files: Vec<OsString>| {
-            Trouble::Use(format!("{name}: two FILEs are compared, and here are {} (prep {name} --help)", files.len()))
-        })?;
-        let [a, b] = files;
-        Ok(Order::Compare { desk, a, b })
+    fn sheet(self) -> Result<Order, Trouble> {
+        Ok(Order::Sheet { desk: self.desk("--desk")?, files: self.some_files("FILE")? })
     }
 
-    /// Demand 3 speaks of two desks of which the second is equal or larger in every limit.
+    fn page(self) -> Result<Order, Trouble> {
+        let (file, out) = (self.one_file()?, self.needed("-o", "OUT")?);
+        Ok(Order::Page { desk: self.desk("--desk")?, file, out, force: self.has("--force") })
+    }
+
+    fn clean(self) -> Result<Order, Trouble> {
+        let (file, out) = (self.one_file()?, self.needed("-o", "OUT")?);
+        Ok(Order::Clean { desk: self.desk("--desk")?, file, out, force: self.has("--force") })
+    }
+
+    fn check(self) -> Result<Order, Trouble> {
+        Ok(Order::Check { desk: self.desk("--desk")?, all: self.has("--all"), places: self.some_files("FILE or FOLDER")? })
+    }
+
+    fn compare(self) -> Result<Order, Trouble> {
+        let desk = self.desk("--desk")?;
+        match self.some_files("FILE")?.as_slice() {
+            [a, b] => Ok(Order::Compare { desk, a: a.clone(), b: b.clone() }),
+            files => Err(self.wrong(format!("two FILEs are compared, and here are {}", files.len()))),
+        }
+    }
+
     fn rehearse(self) -> Result<Order, Trouble> {
         let file = self.one_file()?;
         self.needed("--small", "DESK")?;
         self.needed("--large", "DESK")?;
         let (small, large) = (self.desk("--small")?, self.desk("--large")?);
-        let pairs = small.limits().into_iter().zip(large.limits());
-        let over: Vec<String> = desk::LIMITS
-            .iter()
-            .zip(pairs)
-            .filter(|(_, (s, l))| s > l)
-            .map(|(limit, (s, l))| format!("{} {s} above {l}", limit.name))
-            .collect();
-        if !over.is_empty() {
-            return Err(self.wrong(format!("the small desk must be smaller or equal in every limit; it has {}", over.join(", "))));
+        match larger(small, large) {
+            Some(over) => Err(self.wrong(format!("the small desk must be smaller or equal in every limit; it has {over}"))),
+            None => Ok(Order::Rehearse { file, small, large }),
         }
-        Ok(Order::Rehearse { file, small, large })
     }
+}
+
+/// The limits in which the small desk is the larger; demand 3 speaks of two desks with none.
+fn larger(small: Desk, large: Desk) -> Option<String> {
+    let pairs = small.limits().into_iter().zip(large.limits());
+    let over = desk::LIMITS.iter().zip(pairs).filter(|(_, (s, l))| s > l);
+    let over: Vec<String> = over.map(|(limit, (s, l))| format!("{} {s} above {l}", limit.name)).collect();
+    (!over.is_empty()).then(|| over.join(", "))
 }

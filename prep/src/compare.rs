@@ -70,7 +70,7 @@ fn difference(kind: Kind, pair: (Option<Memory>, Option<Memory>)) -> Option<Stri
     }
 }
 
-/// What differs between two memories of one name: the times and the link, then the levels.
+/// What differs between two memories of one name: the times and the link, then the levels of the channels that both have.
 pub fn changes(a: &Memory, b: &Memory) -> String {
     let fade = |f: Option<Fade>| f.map(|f| f.fade);
     let delay = |f: Option<Fade>| Some(f.map_or(0, |f| f.delay));
@@ -105,7 +105,7 @@ pub fn dimmer(p: &Patched) -> String {
     format!("dimmer {} page {}", p.dimmer, p.page)
 }
 
-/// `channel 1@HFF 100%`.
+/// `channel 1@HFF 100%`, or that there is none.
 pub fn patched(p: Option<Patched>) -> String {
     p.map_or("not patched".into(), |p| format!("channel {}@{}", p.channel, level(p.level)))
 }

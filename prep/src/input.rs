@@ -69,7 +69,7 @@ fn whole(from: impl Read) -> Result<Vec<u8>, String> {
 /// Why nothing can be read, and what to do.
 pub fn unreadable(e: &io::Error) -> String {
     match e.kind() {
-        ErrorKind::NotFound => "no such file; look at its name and folder".into(),
+        ErrorKind::NotFound | ErrorKind::NotADirectory => "no such file; look at its name and folder".into(),
         ErrorKind::PermissionDenied => "may not be read; ask for the right to read it, or for a copy".into(),
         ErrorKind::IsADirectory => "a folder, where a file is needed; name a file in it, or try prep check on the folder".into(),
         _ => format!("cannot be read: {e}"),

@@ -25,9 +25,10 @@ pub fn put(out: &OsStr, bytes: &[u8], force: bool) -> Result<(), Trouble> {
         return print(bytes);
     }
     let failed = |why: String| Trouble::Failed(format!("{}: {why}", input::name(out)));
-    let there = fs::metadata(out).ok();
+    let there = fs::metadata(out).or_else(|_| fs::symlink_metadata(out)).ok();
     match &there {
         Some(found) if found.is_dir() => Err(failed("a folder, where a file is to be written; name a file in it".into())),
+        Some(found) if found.is_symlink() => Err(failed("a link that leads nowhere; name the file itself".into())),
         Some(found) if !found.is_file() => through(out, bytes).map_err(|e| failed(unwritable(&e))),
         Some(_) if !force => Err(failed("is there already, and nothing was written; --force replaces it".into())),
         _ => replace(out, bytes, there.as_ref()).map_err(|e| failed(unwritable(&e))),
@@ -43,7 +44,8 @@ fn through(out: &OsStr, bytes: &[u8]) -> io::Result<()> {
 fn replace(out: &OsStr, bytes: &[u8], there: Option<&Metadata>) -> io::Result<()> {
     let target = if there.is_some() { fs::canonicalize(out)? } else { PathBuf::from(out) };
     let beside = beside(&target);
-    let written = write_new(&beside, bytes, there).and_then(|()| fs::rename(&beside, &target));
+    let file = File::create_new(&beside)?;
+    let written = fill(file, bytes, there).and_then(|()| fs::rename(&beside, &target));
     if written.is_err() {
         // What went wrong is told by the first failure; a second one here adds nothing.
         let _ = fs::remove_file(&beside);
@@ -59,8 +61,8 @@ fn beside(target: &Path) -> PathBuf {
     target.with_file_name(name)
 }
 
-fn write_new(path: &Path, bytes: &[u8], like: Option<&Metadata>) -> io::Result<()> {
-    let mut file = File::create_new(path)?;
+/// With the rights of the file that it is to replace.
+fn fill(mut file: File, bytes: &[u8], like: Option<&Metadata>) -> io::Result<()> {
     if let Some(old) = like {
         file.set_permissions(old.permissions())?;
     }
@@ -71,7 +73,7 @@ fn write_new(path: &Path, bytes: &[u8], like: Option<&Metadata>) -> io::Result<(
 /// Why nothing can be written, and what to do.
 fn unwritable(e: &io::Error) -> String {
     match e.kind() {
-        ErrorKind::NotFound => "no such folder; make it first, or name another place".into(),
+        ErrorKind::NotFound | ErrorKind::NotADirectory => "no such folder; make it first, or name another place".into(),
         ErrorKind::PermissionDenied | ErrorKind::ReadOnlyFilesystem => "may not be written; name a place where you may write".into(),
         ErrorKind::StorageFull | ErrorKind::QuotaExceeded => "no room is left there; make some, and try again".into(),
         ErrorKind::BrokenPipe => "closed before all was written".into(),

@@ -82,12 +82,12 @@ impl Lines {
     /// Levels of channels that the small desk lacks, and whatever else is not alike.
     fn both(&mut self, kind: Kind, s: &Memory, l: &Memory) {
         let most = s.levels.len();
-        let (shared, above) = l.levels.split_at(most);
+        let above = &l.levels[most..];
         if above.iter().any(|&level| level != 0) {
             let above: Vec<String> = lit(above).map(|(channel, value)| format!("{}@{}", channel as usize + most, level(value))).collect();
             self.lacking.push(format!("  {}: channels above {most}: {}\n", kind.named(l), above.join(", ")));
         }
-        let differing = changes(s, &Memory { levels: shared, ..*l });
+        let differing = changes(s, l);
         if !differing.is_empty() {
             self.different.push(format!("  {}, small -> large\n{differing}", kind.named(l)));
         }

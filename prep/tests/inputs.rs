@@ -163,8 +163,22 @@ fn names_that_were_passed_over() {
 }
 
 #[test]
+fn standard_input_in_a_file_s_place() {
+    let house = fs::read(common::repository().join("examples/house.asc")).expect("a sample");
+    let same = prep_fed(&["compare", "-", "examples/house.asc"], &house);
+    assert_eq!((same.status, same.err.as_str()), (0, ""));
+    assert!(same.out.starts_with("COMPARE\n  A standard input: 10 cues"), "{}", same.out);
+    let fits = prep_fed(&["rehearse", "-", "--small=house", "--large=largest"], &house);
+    assert_eq!(
+        fits.out,
+        line("rehearse examples/house.asc --small house --large largest").out.replace("examples/house.asc", "standard input")
+    );
+}
+
+#[test]
 fn files_that_cannot_be_read() {
     line("sheet nowhere.asc").only_says(2, "prep: nowhere.asc: no such file; look at its name and folder\n");
+    line("sheet examples/house.asc/x").only_says(2, "prep: examples/house.asc/x: no such file; look at its name and folder\n");
     line("compare examples/house.asc nowhere").only_says(2, "prep: nowhere: no such file; look at its name and folder\n");
     let folder = "a folder, where a file is needed; name a file in it, or try prep check on the folder";
     line("sheet examples").only_says(2, &format!("prep: examples: {folder}\n"));
@@ -187,7 +201,7 @@ fn one_of_several_cannot_be_read() {
 fn a_file_that_may_not_be_read() {
     let folder = Folder::new("locked");
     let file = folder.file("locked.asc", b"ENDDATA\n");
-    fs::set_permissions(&file, fs::Permissions::from_mode(0)).expect("a locked file");
+    fs::set_permissions(&file, fs::Permissions::from_mode(0o000)).expect("a locked file");
     let ran = prep(&["sheet", &file]);
     match fs::read(&file) {
         Ok(_) => assert_eq!(ran.status, 0),

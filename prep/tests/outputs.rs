@@ -105,7 +105,13 @@ fn places_that_cannot_be_written() {
     let clean = |out: &str| prep(&["clean", "examples/house.asc", "-o", out]);
     clean(&at).only_says(2, &format!("prep: {at}: a folder, where a file is to be written; name a file in it\n"));
     clean(&below).only_says(2, &format!("prep: {below}: no such folder; make it first, or name another place\n"));
+    let under = "examples/house.asc/out";
+    clean(under).only_says(2, &format!("prep: {under}: no such folder; make it first, or name another place\n"));
     assert_eq!(folder.names(), [""; 0]);
+    let link = folder.path("link");
+    symlink("nowhere", &link).expect("a link");
+    clean(&link).only_says(2, &format!("prep: {link}: a link that leads nowhere; name the file itself\n"));
+    assert_eq!(folder.names(), ["link"]);
 }
 
 #[test]

@@ -14,6 +14,7 @@ fn commands() {
     assert_eq!((ran.status, ran.out.as_str()), (64, ""));
     assert!(ran.err.starts_with("prep: no command\n\nprep: show files"), "{}", ran.err);
     wrong("tidy x", "no command is called 'tidy'; the commands are sheet, page, clean, check, compare, rehearse (prep --help)");
+    wrong("-", "no command is called '-'; the commands are sheet, page, clean, check, compare, rehearse (prep --help)");
     wrong("--tidy", "no command is called '--tidy'; the commands are sheet, page, clean, check, compare, rehearse (prep --help)");
 }
 
