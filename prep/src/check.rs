@@ -3,7 +3,7 @@ use crate::input;
 use crate::output;
 use crate::show::Show;
 use crate::status::{self, Trouble};
-use crate::words::{condition, counted, kept, notes, unread};
+use crate::words::{self, counted};
 use sphairune::Desk;
 use std::ffi::{OsStr, OsString};
 use std::fs;
@@ -93,17 +93,8 @@ fn outcome(file: &Found, desk: Desk) -> (String, u8) {
 }
 
 fn loaded_line(show: &Show) -> String {
-    let keeps = format!("{}: {}", show.name, kept(show));
-    let mut parts = match show.reports.len() {
-        0 => vec![format!("clean       {keeps}")],
-        count => vec![format!("reports     {keeps}; {}, closing {}", counted(count, "report"), condition(show.totals.closing))],
-    };
-    if show.totals.passed != 0 {
-        parts.push(format!("{} passed over", counted(show.totals.passed as usize, "record")));
-    }
-    parts.extend(unread(show).map(|behind| format!("not read: {behind}")));
-    parts.extend(notes(show));
-    parts.join("; ")
+    let outcome = if show.reports.is_empty() { "clean  " } else { "reports" };
+    format!("{outcome}     {}", words::summary(show))
 }
 
 /// A line on a terminal that says how far it is, and goes before anything else is printed.

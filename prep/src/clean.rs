@@ -1,7 +1,7 @@
 //! The show as one clean stream.
 use crate::show::Show;
 use crate::status::Trouble;
-use crate::words::{condition, counted, unread};
+use crate::words::losses;
 use sphairune::{Refused, MOST_STREAM};
 
 /// What the desk keeps, as the written stream.
@@ -12,12 +12,10 @@ pub fn clean(show: &Show) -> Result<Vec<u8>, Trouble> {
     Ok(out)
 }
 
-/// What was dropped or not read is not in the clean stream, and so it is said that there was something.
+/// What is lost is not in the clean stream, and so it is said that there was something.
 pub fn warning(show: &Show) -> Option<String> {
-    let count = counted(show.reports.len(), "report");
-    let unread = unread(show).map_or(String::new(), |behind| format!("; not read: {behind}"));
-    let warning = format!("{}: written, with {count}, closing {}{unread}", show.name, condition(show.totals.closing));
-    (!show.reports.is_empty()).then(|| warning + "; prep sheet tells what was dropped")
+    let losses = losses(show);
+    (!losses.is_empty()).then(|| format!("{}: written; {}; prep sheet tells more", show.name, losses.join("; ")))
 }
 
 fn refusal(show: &Show, refused: Refused) -> Trouble {

@@ -2,13 +2,13 @@
 use crate::desk;
 use crate::kind::Kind;
 use crate::show::Show;
-use crate::words::{counted, kept, level};
+use crate::words::{counted, level, summary};
 use sphairune::{time_text, Fade, Memory, Patched};
 
-/// The list, and whether anything differs.
+/// The list, and whether anything differs. What a desk does not keep is not compared, and so it is told of each show what that is.
 pub fn compare(a: &Show, b: &Show) -> (String, bool) {
     let kinds = Kind::ALL.map(|kind| (kind.name(), of_kind(kind, a, b)));
-    let mut text = format!("COMPARE\n  A {}\n  B {}\nDESK {}\n\n", side(a), side(b), desk::described(a.desk));
+    let mut text = format!("COMPARE\n  A {}\n  B {}\nDESK {}\n\n", summary(a), summary(b), desk::described(a.desk));
     let patch = of_patch(a, b);
     let mut counts = Vec::new();
     for (name, differences) in kinds.into_iter().chain([("patched dimmer", patch)]) {
@@ -21,15 +21,6 @@ pub fn compare(a: &Show, b: &Show) -> (String, bool) {
         true => (text + "SAME the desk keeps the same of both\n", false),
         false => (text + &format!("DIFFER {}\n", counts.join(", ")), true),
     }
-}
-
-/// What was dropped is not compared, so it is said how much that is.
-fn side(show: &Show) -> String {
-    let reports = match show.reports.len() {
-        0 => "no report".into(),
-        count => format!("{} (prep sheet shows them)", counted(count, "report")),
-    };
-    format!("{}: {}; {reports}", show.name, kept(show))
 }
 
 /// Entries of two sorted lists that bear the same name, side by side.

@@ -2,7 +2,7 @@
 use crate::desk;
 use crate::kind::Kind;
 use crate::show::Show;
-use crate::words::{condition, kept, notes, number, received, unread};
+use crate::words::{condition, has_names, kept, notes, number, received, unread};
 use sphairune::{percent, time_text, Fade, Memory, Patched, Report};
 
 /// Levels on one line of the sheet.
@@ -52,7 +52,7 @@ fn passed(show: &Show) -> String {
     for p in &passed {
         text += &format!("  {:5}  {}\n", p.count, p.keyword);
     }
-    if passed.iter().any(|p| p.keyword == "TEXT") {
+    if has_names(&passed) {
         text += "  NOTE the names of cues are among it (TEXT): they are not kept\n";
     }
     text

@@ -1,6 +1,7 @@
 //! Short texts that several commands print.
 use crate::desk::LIMITS;
 use crate::input;
+use crate::passed::Passed;
 use crate::records::{self, MOST_CHARACTERS};
 use crate::show::Show;
 use sphairune::{condition_text, percent, severity, Number};
@@ -54,6 +55,29 @@ pub fn unread(show: &Show) -> Option<String> {
         _ => "ENDDATA",
     };
     (behind != 0).then(|| format!("{behind} behind record {last}, {end}"))
+}
+
+/// A show in a line: its name, what is kept of it, and what is not.
+pub fn summary(show: &Show) -> String {
+    [vec![format!("{}: {}", show.name, kept(show))], losses(show)].concat().join("; ")
+}
+
+/// All that is not kept of a show, in short; empty where nothing is lost.
+pub fn losses(show: &Show) -> Vec<String> {
+    let reports = counted(show.reports.len(), "report");
+    let reports = (!show.reports.is_empty()).then(|| format!("{reports}, closing {}", condition(show.totals.closing)));
+    let unread = unread(show).map(|behind| format!("not read: {behind}"));
+    [reports, passed_over(show), unread].into_iter().flatten().chain(notes(show)).collect()
+}
+
+/// Names are what an operator misses first.
+fn passed_over(show: &Show) -> Option<String> {
+    let names = if has_names(&show.passed()) { ", names (TEXT) among them" } else { "" };
+    (show.totals.passed != 0).then(|| format!("{} passed over{names}", counted(show.totals.passed as usize, "record")))
+}
+
+pub fn has_names(passed: &[Passed]) -> bool {
+    passed.iter().any(|p| p.keyword == "TEXT")
 }
 
 /// What lies behind many reports at once, and what to do.
