@@ -147,7 +147,7 @@ pub record WriteKept (stream out : List ℕ) (x : WriteCall) : Type 0 where
   pub mute : (x .reply .number ≡ 0 → ⊥) → (x .reply .number ≡ 6 → ⊥) → x .reply .told ≡ []
   pub needs : x .reply .number ≡ 6 → x .reply .told ≡ length stream ∷ []
 
-put-kept : (stream out : List ℕ) → WriteKept stream out (putCall stream out)
+pub put-kept : (stream out : List ℕ) → WriteKept stream out (putCall stream out)
 unfolding putCall
 put-kept stream out =
     by-test (WriteKept stream out) (ltb mostBytes (length stream)) _ _

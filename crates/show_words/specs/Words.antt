@@ -4,12 +4,14 @@
 use mathlib.Core.Bool.{cond}
 use mathlib.Core.List.{List, [], _∷_}
 use mathlib.Core.Path.{_≡_}
-use Prim.Native.Nat.{ℕ}
+use Prim.Native.Nat.{ℕ, _<_}
 use lib.Dec.{eqb}
+use lib.ListN.{length}
 use Rattle.cells.specs.Text.{bytes}
 use Rattle.load.specs.Condition.{isError}
 use Rattle.show.specs.declared.Written.{Written}
 use Rattle.show.specs.Calls.{writeReply, writtenAs, putCall}
+use Rattle.show.specs.Refusals.{Line, line, Told}
 
 -- E, W, and I of the closing number 0
 unfoldable pub severityOf : ℕ → ℕ
@@ -63,3 +65,10 @@ conditionText c = textIn conditionRows c
 -- ---- a text in a lent output: R6 with the length needed, or the text at its front and its length
 abbrev pub TextPromise : List ℕ → List ℕ → Written → List ℕ → Type 0
 TextPromise text out a o = writtenAs (writeReply a) o ≡ putCall text out
+
+-- R6, the text exceeds the output given; no other
+abbrev pub short : List ℕ → List ℕ → List Line
+short text out = line 6 (length out < length text) ∷ []
+
+abbrev pub TextRefused : List ℕ → List ℕ → ℕ → Type 0
+TextRefused text out n = Told (short text out) n

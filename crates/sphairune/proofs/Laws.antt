@@ -6,7 +6,8 @@ use mathlib.Core.List.{List, [], _∷_}
 use Prim.Native.Nat.{ℕ, _≤_}
 use native.Mathlib.Omega.{arith}
 use lib.ListN.{length, getD, set}
-use lib.Seq.{set-out}
+use Rattle.cells.specs.Note.{notedFrom}
+use Rattle.cells.proofs.Noted.{noted-none}
 use Rattle.store_desk.specs.declared.Desk.{Desk}
 use Rattle.store_desk.specs.declared.Needed.{Needed}
 use Rattle.store_desk.specs.declared.Needed.the-variants.{Away as NeededAway}
@@ -14,20 +15,30 @@ use Rattle.store_desk.specs.declared.Refusal.{Refusal}
 use Rattle.store_desk.specs.declared.Refusal.the-variants.{R6}
 use Rattle.store_desk.specs.Refusal.{refusalNumber, refusalPlace, refusalTold, Reply, refused, replyWord, refusalWord, mostPlaces, neededReply, neededCall, NeededPromise}
 use Rattle.store_desk.proofs.Reply.{refusal-some, needed-mute}
-use Rattle.load.specs.declared.Totals.{Totals}
 use Rattle.show.specs.declared.Loaded.{Loaded}
 use Rattle.show.specs.declared.Loaded.the-variants.{Away as LoadAway}
 use Rattle.show.specs.declared.Written.{Written}
-use Rattle.show.specs.declared.Written.the-variants.{Away as WriteAway}
+use Rattle.show.specs.declared.Written.the-variants.{Away as WriteAway, Done as WriteDone}
 use Rattle.show.specs.declared.Emptied.{Emptied}
 use Rattle.show.specs.declared.Emptied.the-variants.{Away as EmptyAway}
 use Rattle.show.specs.declared.Placed.{Placed}
 use Rattle.show.specs.declared.Placed.the-variants.{Away as FindAway}
-use Rattle.show.specs.Calls.{totalsTold, LoadCall, loadReply, loadCall, LoadPromise, WriteCall, writeReply, writeCall, WritePromise}
+use Rattle.show.specs.Calls.{LoadCall, loadReply, loadCall, LoadPromise, WriteCall, writeReply, writtenAs, writeCall, WritePromise}
 use Rattle.show.specs.Calls.{EmptyCall, emptyReply, emptyCall, EmptyPromise, findReply, findCall, FindPromise}
 use Rattle.show.proofs.OneAnswer.{load-kept, find-mute}
-use Rattle.show.proofs.Refusals.{Said, load-said, write-said, empty-said, needed-said, find-said}
-use Rattle.sphairune.specs.Calls.{deskOf, notedFrom, Exported, exported, repliedIn, emptiedIn, loadedIn, writtenIn}
+use Rattle.show.proofs.Refusals.{Said, load-said, put-said, write-said, empty-said, needed-said, find-said}
+use Rattle.show_read.specs.declared.Listed.{Listed}
+use Rattle.show_read.specs.declared.Listed.the-variants.{Away as ListAway}
+use Rattle.show_read.specs.declared.Headed.{Headed}
+use Rattle.show_read.specs.declared.Headed.the-variants.{Away as HeadAway}
+use Rattle.show_read.specs.declared.Patched.{Patched}
+use Rattle.show_read.specs.declared.Patched.the-variants.{Away as PatchAway}
+use Rattle.show_read.specs.Calls.{ListCall, listReply, memoriesCall, MemoriesPromise, headReply, headCall, HeadPromise, levelsCall, LevelsPromise}
+use Rattle.show_read.specs.Calls.{patchReply, patchCall, PatchPromise}
+use Rattle.show_read.proofs.OneAnswer.{memories-kept, head-mute, levels-mute, patch-mute}
+use Rattle.show_read.proofs.Refusals.{memories-said, head-said, levels-said, patch-said}
+use Rattle.show_words.specs.Words.{TextPromise}
+use Rattle.sphairune.specs.Calls.{deskOf, Exported, exported, repliedIn, emptiedIn, loadedIn, writtenIn, listedIn}
 
 -- ---- a desk, limit by limit
 
@@ -63,9 +74,6 @@ desk-is l p q r s t u v w x =
 
 -- ---- lists of numbers
 
-pub noted-none : (l : List ℕ) (i v : ℕ) → length l ≤ i → l ≡ set l i v
-noted-none l i v h = sym (set-out l i v h)
-
 pub length-some : (l : List ℕ) (n : ℕ) → set l 0 n ≡ notedFrom 0 l (n ∷ [])
 unfolding notedFrom
 length-some l n = refl
@@ -85,18 +93,8 @@ told-length l e f = f ∙ sym (ap (λ (r : Refusal). notedFrom 0 l (refusalTold 
 pub told-none : (l : List ℕ) {r : Refusal} (q : Refusal) → r ≡ q → refusalTold q ≡ [] → l ≡ notedFrom 0 l (refusalTold r)
 told-none l q e h = mute-list l (ap refusalTold e ∙ h)
 
-pub noted-three : (l : List ℕ) (i j k x y z : ℕ) {a b c : List ℕ} → a ≡ set l i x → b ≡ set a j y → c ≡ set b k z
-    → c ≡ set (set (set l i x) j y) k z
-noted-three l i j k x y z e f g =
-    g ∙ ap (λ (m : List ℕ). set m k z) f ∙ ap (λ (m : List ℕ). set (set m j y) k z) e
-
-pub noted-totals : (l : List ℕ) (t : Totals) {a b c e : List ℕ} → a ≡ set l 0 (t .reports)
-    → b ≡ set (set (set a 1 (t .blank)) 2 (t .obeyed)) 3 (t .passed) → c ≡ set b 4 (t .dropped) → e ≡ set c 5 (t .closing)
-    → e ≡ notedFrom 0 l (totalsTold t)
-unfolding notedFrom
-noted-totals l t p q r s =
-    s ∙ ap (λ (m : List ℕ). set m 5 (t .closing)) r ∙ ap (λ (m : List ℕ). set (set m 4 (t .dropped)) 5 (t .closing)) q
-    ∙ ap (λ (m : List ℕ). set (set (set (set (set m 1 (t .blank)) 2 (t .obeyed)) 3 (t .passed)) 4 (t .dropped)) 5 (t .closing)) p
+pub told-values : (l : List ℕ) {vs ws k : List ℕ} → vs ≡ ws → k ≡ notedFrom 0 l vs → k ≡ notedFrom 0 l ws
+told-values l e f = f ∙ ap (notedFrom 0 l) e
 
 -- ---- the calls
 
@@ -127,29 +125,75 @@ pub load-within : (d : Desk) (s reps stream : List ℕ) {a : Loaded} {t q : List
 load-within d s reps stream {a} {t} {q} {r} f g =
     within r (sym (ap loadReply g) ∙ ap (λ (x : LoadCall). x .reply) f) (load-said d s reps stream)
 
-pub write-within : (d : Desk) (s out : List ℕ) {a : Written} {o : List ℕ} {r : Refusal} → WritePromise d s out a o → a ≡ WriteAway r
-    → refusalPlace r ≤ mostPlaces
-write-within d s out {a} {o} {r} f g = within r (sym (ap writeReply g) ∙ ap (λ (x : WriteCall). x .reply) f) (write-said d s out)
+-- of a write or a text
+pub write-most : (d : Desk) (s out : List ℕ) (a : Written) {o : List ℕ} → WritePromise d s out a o → writeReply a .place ≤ mostPlaces
+write-most d s out a f =
+    subst (λ (x : WriteCall). x .reply .place ≤ mostPlaces) (sym f) (write-said d s out .place .most)
+
+pub text-most : (text out : List ℕ) (a : Written) {o : List ℕ} → TextPromise text out a o → writeReply a .place ≤ mostPlaces
+text-most text out a f =
+    subst (λ (x : WriteCall). x .reply .place ≤ mostPlaces) (sym f) (put-said (deskOf []) [] text out .place .most)
 
 pub find-within : (d : Desk) (s : List ℕ) (page whole tenths : ℕ) {a : Placed} {r : Refusal} → FindPromise d s page whole tenths a
     → a ≡ FindAway r → refusalPlace r ≤ mostPlaces
 find-within d s page whole tenths {a} {r} f g = within r (sym (ap findReply g) ∙ f) (find-said d s page whole tenths)
 
+pub memories-within : (d : Desk) (s : List ℕ) (n : ℕ) (l : List ℕ) {a : Listed} {t : List ℕ} {r : Refusal} → MemoriesPromise d s n l a t
+    → a ≡ ListAway r → refusalPlace r ≤ mostPlaces
+memories-within d s n l {a} {t} {r} f g = within r (sym (ap listReply g) ∙ ap (λ (x : ListCall). x .reply) f) (memories-said d s n l)
+
+pub head-within : (d : Desk) (s : List ℕ) (n : ℕ) {a : Headed} {r : Refusal} → HeadPromise d s n a → a ≡ HeadAway r → refusalPlace r ≤ mostPlaces
+head-within d s n {a} {r} f g = within r (sym (ap headReply g) ∙ f) (head-said d s n)
+
+pub levels-within : (d : Desk) (s : List ℕ) (n : ℕ) {a : Placed} {r : Refusal} → LevelsPromise d s n a → a ≡ FindAway r → refusalPlace r ≤ mostPlaces
+levels-within d s n {a} {r} f g = within r (sym (ap findReply g) ∙ f) (levels-said d s n)
+
+pub patch-within : (d : Desk) (s : List ℕ) (page dimmer : ℕ) {a : Patched} {r : Refusal} → PatchPromise d s page dimmer a → a ≡ PatchAway r
+    → refusalPlace r ≤ mostPlaces
+patch-within d s page dimmer {a} {r} f g = within r (sym (ap patchReply g) ∙ f) (patch-said d s page dimmer)
+
+-- what a write or a text answers, noted
+pub note-away : (l : List ℕ) {a : Written} {r : Refusal} {n : ℕ} {k : List ℕ} → a ≡ WriteAway r → n ≡ refusalWord r
+    → k ≡ notedFrom 0 l (refusalTold r) → exported n (k ∷ []) ≡ repliedIn (writeReply a) l
+unfolding repliedIn
+note-away l {r = r} e f g =
+    (λ i. exported (f i) (g i ∷ [])) ∙ sym (ap (λ (x : Written). repliedIn (writeReply x) l) e)
+
+pub note-done : (l : List ℕ) {a : Written} {n : ℕ} {k : List ℕ} → a ≡ WriteDone n → k ≡ notedFrom 0 l (n ∷ [])
+    → exported 0 (k ∷ []) ≡ repliedIn (writeReply a) l
+unfolding repliedIn
+note-done l e g = ap (λ (m : List ℕ). exported 0 (m ∷ [])) g ∙ sym (ap (λ (x : Written). repliedIn (writeReply x) l) e)
+
+pub note-most : {a : Written} {r : Refusal} → writeReply a .place ≤ mostPlaces → a ≡ WriteAway r → refusalPlace r ≤ mostPlaces
+note-most h e = subst (λ (x : Written). writeReply x .place ≤ mostPlaces) e h
+
+pub written-by : (l : List ℕ) (a : Written) {n : ℕ} {o k : List ℕ} {x : WriteCall} → writtenAs (writeReply a) o ≡ x
+    → exported n (k ∷ []) ≡ repliedIn (writeReply a) l → exported n (o ∷ k ∷ []) ≡ writtenIn x l
+unfolding repliedIn writtenIn
+written-by l a {o = o} e f =
+    ap (λ (z : Exported). exported (z .word) (o ∷ getD (z .lent) 0 [] ∷ [])) f ∙ ap (λ (y : WriteCall). writtenIn y l) e
+
 module _ (limits : List ℕ) {d : Desk} (e : d ≡ deskOf limits) where
+  -- a call that answers a reply alone
+  replied-by : (l : List ℕ) (call : Desk → Reply) {x : Reply} {k : List ℕ} → x ≡ call d → k ≡ notedFrom 0 l (x .told)
+      → exported (replyWord x) (k ∷ []) ≡ repliedIn (call (deskOf limits)) l
+  unfolding repliedIn
+  replied-by l call {x} f h =
+      ap (λ (m : List ℕ). exported (replyWord x) (m ∷ [])) h
+      ∙ ap (λ (y : Reply). repliedIn y l) f
+      ∙ ap (λ (y : Desk). repliedIn (call y) l) e
+
+  replied-away : (l : List ℕ) (call : Desk → Reply) (r : Refusal) → refused r ≡ call d → ((call d .number ≡ 0 → ⊥) → call d .told ≡ [])
+      → exported (refusalWord r) (l ∷ []) ≡ repliedIn (call (deskOf limits)) l
+  replied-away l call r p m = replied-by l call p (mute-list l (ap (λ (x : Reply). x .told) p ∙ m (some r p)))
+
   pub needed-by : (l : List ℕ) {a : Needed} {k : List ℕ} → NeededPromise d a → (b : Needed) → a ≡ b → k ≡ notedFrom 0 l (neededReply b .told)
       → exported (replyWord (neededReply b)) (k ∷ []) ≡ repliedIn (neededCall (deskOf limits)) l
-  unfolding repliedIn
-  needed-by l f b g h =
-      ap (λ (m : List ℕ). exported (replyWord (neededReply b)) (m ∷ [])) h
-      ∙ sym (ap (λ (x : Needed). repliedIn (neededReply x) l) g)
-      ∙ ap (λ (x : Reply). repliedIn x l) f
-      ∙ ap (λ (x : Desk). repliedIn (neededCall x) l) e
+  needed-by l f b g h = replied-by l neededCall (sym (ap neededReply g) ∙ f) h
 
   pub needed-away : (l : List ℕ) {a : Needed} {r : Refusal} → NeededPromise d a → a ≡ NeededAway r
       → exported (refusalWord r) (l ∷ []) ≡ repliedIn (neededCall (deskOf limits)) l
-  needed-away l {a} {r} f g =
-      let p : refused r ≡ neededCall d = sym (ap neededReply g) ∙ f in
-      needed-by l f (NeededAway r) g (mute-list l (ap (λ (x : Reply). x .told) p ∙ needed-mute d (some r p)))
+  needed-away l {r = r} f g = replied-away l neededCall r (sym (ap neededReply g) ∙ f) (needed-mute d)
 
   pub empty-by : (s : List ℕ) {a : Emptied} {t : List ℕ} → EmptyPromise d s a t → (b : Emptied) → a ≡ b
       → exported (replyWord (emptyReply b)) (t ∷ []) ≡ emptiedIn (emptyCall (deskOf limits) s)
@@ -173,28 +217,56 @@ module _ (limits : List ℕ) {d : Desk} (e : d ≡ deskOf limits) where
       load-by s stream reps l f (LoadAway r) g
       (mute-list l (ap (λ (x : Reply). x .told) p ∙ load-kept d s reps stream (some r p) .2))
 
-  pub write-by : (s out l : List ℕ) {a : Written} {o k : List ℕ} → WritePromise d s out a o → (b : Written) → a ≡ b
-      → k ≡ notedFrom 0 l (writeReply b .told) → exported (replyWord (writeReply b)) (o ∷ k ∷ []) ≡ writtenIn (writeCall (deskOf limits) s out) l
-  unfolding writtenIn
-  write-by s out l {a} {o} f b g h =
-      ap (λ (m : List ℕ). exported (replyWord (writeReply b)) (o ∷ m ∷ [])) h
-      ∙ sym (ap (λ (x : Written). exported (replyWord (writeReply x)) (o ∷ notedFrom 0 l (writeReply x .told) ∷ [])) g)
-      ∙ ap (λ (x : WriteCall). writtenIn x l) f
-      ∙ ap (λ (x : Desk). writtenIn (writeCall x s out) l) e
+  pub write-by : (s out l : List ℕ) (a : Written) {n : ℕ} {o k : List ℕ} → WritePromise d s out a o
+      → exported n (k ∷ []) ≡ repliedIn (writeReply a) l → exported n (o ∷ k ∷ []) ≡ writtenIn (writeCall (deskOf limits) s out) l
+  write-by s out l a f g = written-by l a f g ∙ ap (λ (x : Desk). writtenIn (writeCall x s out) l) e
 
   pub find-by : (s : List ℕ) (page whole tenths : ℕ) (l : List ℕ) {a : Placed} {k : List ℕ} → FindPromise d s page whole tenths a
       → (b : Placed) → a ≡ b → k ≡ notedFrom 0 l (findReply b .told)
       → exported (replyWord (findReply b)) (k ∷ []) ≡ repliedIn (findCall (deskOf limits) s page whole tenths) l
-  unfolding repliedIn
-  find-by s page whole tenths l f b g h =
-      ap (λ (m : List ℕ). exported (replyWord (findReply b)) (m ∷ [])) h
-      ∙ sym (ap (λ (x : Placed). repliedIn (findReply x) l) g)
-      ∙ ap (λ (x : Reply). repliedIn x l) f
-      ∙ ap (λ (x : Desk). repliedIn (findCall x s page whole tenths) l) e
+  find-by s page whole tenths l f b g h = replied-by l (λ x. findCall x s page whole tenths) (sym (ap findReply g) ∙ f) h
 
   pub find-away : (s : List ℕ) (page whole tenths : ℕ) (l : List ℕ) {a : Placed} {r : Refusal} → FindPromise d s page whole tenths a
       → a ≡ FindAway r → exported (refusalWord r) (l ∷ []) ≡ repliedIn (findCall (deskOf limits) s page whole tenths) l
-  find-away s page whole tenths l {a} {r} f g =
-      let p : refused r ≡ findCall d s page whole tenths = sym (ap findReply g) ∙ f in
-      find-by s page whole tenths l f (FindAway r) g
-      (mute-list l (ap (λ (x : Reply). x .told) p ∙ find-mute d s page whole tenths (some r p)))
+  find-away s page whole tenths l {r = r} f g =
+      replied-away l (λ x. findCall x s page whole tenths) r (sym (ap findReply g) ∙ f) (find-mute d s page whole tenths)
+
+  pub memories-by : (s : List ℕ) (n : ℕ) (slots l : List ℕ) {a : Listed} {t k : List ℕ} → MemoriesPromise d s n slots a t → (b : Listed) → a ≡ b
+      → k ≡ notedFrom 0 l (listReply b .told)
+      → exported (replyWord (listReply b)) (t ∷ k ∷ []) ≡ listedIn (memoriesCall (deskOf limits) s n slots) l
+  unfolding listedIn
+  memories-by s n slots l {a} {t} f b g h =
+      ap (λ (m : List ℕ). exported (replyWord (listReply b)) (t ∷ m ∷ [])) h
+      ∙ sym (ap (λ (x : Listed). exported (replyWord (listReply x)) (t ∷ notedFrom 0 l (listReply x .told) ∷ [])) g)
+      ∙ ap (λ (x : ListCall). listedIn x l) f
+      ∙ ap (λ (x : Desk). listedIn (memoriesCall x s n slots) l) e
+
+  pub memories-away : (s : List ℕ) (n : ℕ) (slots l : List ℕ) {a : Listed} {t : List ℕ} {r : Refusal} → MemoriesPromise d s n slots a t
+      → a ≡ ListAway r → exported (refusalWord r) (t ∷ l ∷ []) ≡ listedIn (memoriesCall (deskOf limits) s n slots) l
+  memories-away s n slots l {a} {t} {r} f g =
+      let p : refused r ≡ memoriesCall d s n slots .reply = sym (ap listReply g) ∙ ap (λ (x : ListCall). x .reply) f in
+      memories-by s n slots l f (ListAway r) g (mute-list l (ap (λ (x : Reply). x .told) p ∙ memories-kept d s n slots (some r p) .1))
+
+  pub head-by : (s : List ℕ) (n : ℕ) (l : List ℕ) {a : Headed} {k : List ℕ} → HeadPromise d s n a → (b : Headed) → a ≡ b
+      → k ≡ notedFrom 0 l (headReply b .told) → exported (replyWord (headReply b)) (k ∷ []) ≡ repliedIn (headCall (deskOf limits) s n) l
+  head-by s n l f b g h = replied-by l (λ x. headCall x s n) (sym (ap headReply g) ∙ f) h
+
+  pub head-away : (s : List ℕ) (n : ℕ) (l : List ℕ) {a : Headed} {r : Refusal} → HeadPromise d s n a → a ≡ HeadAway r
+      → exported (refusalWord r) (l ∷ []) ≡ repliedIn (headCall (deskOf limits) s n) l
+  head-away s n l {r = r} f g = replied-away l (λ x. headCall x s n) r (sym (ap headReply g) ∙ f) (head-mute d s n)
+
+  pub levels-by : (s : List ℕ) (n : ℕ) (l : List ℕ) {a : Placed} {k : List ℕ} → LevelsPromise d s n a → (b : Placed) → a ≡ b
+      → k ≡ notedFrom 0 l (findReply b .told) → exported (replyWord (findReply b)) (k ∷ []) ≡ repliedIn (levelsCall (deskOf limits) s n) l
+  levels-by s n l f b g h = replied-by l (λ x. levelsCall x s n) (sym (ap findReply g) ∙ f) h
+
+  pub levels-away : (s : List ℕ) (n : ℕ) (l : List ℕ) {a : Placed} {r : Refusal} → LevelsPromise d s n a → a ≡ FindAway r
+      → exported (refusalWord r) (l ∷ []) ≡ repliedIn (levelsCall (deskOf limits) s n) l
+  levels-away s n l {r = r} f g = replied-away l (λ x. levelsCall x s n) r (sym (ap findReply g) ∙ f) (levels-mute d s n)
+
+  pub patch-by : (s : List ℕ) (page dimmer : ℕ) (l : List ℕ) {a : Patched} {k : List ℕ} → PatchPromise d s page dimmer a → (b : Patched) → a ≡ b
+      → k ≡ notedFrom 0 l (patchReply b .told) → exported (replyWord (patchReply b)) (k ∷ []) ≡ repliedIn (patchCall (deskOf limits) s page dimmer) l
+  patch-by s page dimmer l f b g h = replied-by l (λ x. patchCall x s page dimmer) (sym (ap patchReply g) ∙ f) h
+
+  pub patch-away : (s : List ℕ) (page dimmer : ℕ) (l : List ℕ) {a : Patched} {r : Refusal} → PatchPromise d s page dimmer a → a ≡ PatchAway r
+      → exported (refusalWord r) (l ∷ []) ≡ repliedIn (patchCall (deskOf limits) s page dimmer) l
+  patch-away s page dimmer l {r = r} f g = replied-away l (λ x. patchCall x s page dimmer) r (sym (ap patchReply g) ∙ f) (patch-mute d s page dimmer)

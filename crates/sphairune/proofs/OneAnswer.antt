@@ -6,6 +6,7 @@ use mathlib.Core.List.{List, [], _∷_}
 use Prim.Native.Nat.{ℕ}
 use native.Mathlib.Omega.{arith}
 use lib.ListN.{length, getD}
+use Rattle.cells.specs.Note.{notedFrom}
 use Rattle.store_desk.specs.declared.Desk.{Desk}
 use Rattle.store_desk.specs.Refusal.{Reply, replyWord}
 use Rattle.store_desk.proofs.Reply.{needed-mute}
@@ -13,7 +14,7 @@ use Rattle.save.specs.Lines.{streamOf}
 use Rattle.show.specs.Calls.{writeCall}
 use Rattle.show.proofs.OneAnswer.{load-kept, write-kept, empty-kept, find-mute}
 use Rattle.show.proofs.Refusals.{Said, needed-said, empty-said, load-said, write-said, find-said, word-number, number-word}
-use Rattle.sphairune.specs.Calls.{deskOf, notedFrom, Exported, repliedIn, emptiedIn, loadedIn, writtenIn}
+use Rattle.sphairune.specs.Calls.{deskOf, Exported, repliedIn, emptiedIn, loadedIn, writtenIn}
 use Rattle.sphairune.specs.Calls.{NeededExport, EmptyExport, LoadExport, WriteExport, FindExport}
 use Rattle.sphairune.proofs.Laws.{mute-list}
 

@@ -1,10 +1,10 @@
 -- `sphairune_load` meets its contract: a refusal gives its word, and the totals go into the lent list.
 -- Assumes nothing.
+use Rattle.sphairune.proofs.Laws.{answered, load-within, told-values, load-by, load-away}
 use Rattle.show.specs.declared.Loaded.the-variants.{Done}
-use Rattle.sphairune.proofs.Laws.{answered, load-within, load-by, load-away}
+use borrow.Author.Needs.{needs}
 use Rattle.sphairune.proofs.sphairune_load.Statement.{statement}
 use Rattle.sphairune.proofs.sphairune_load.Tie as tie
-use borrow.Author.Needs.{needs}
 
 desk-of-requires : tie.Need-desk-of-requires
 desk-of-requires c κs = search needs
@@ -21,8 +21,14 @@ word-requires c κs = load-within _ _ _ _ (c .before .before .before .before .be
 enum-known-t : tie.Need-enum-known-t
 enum-known-t c = search needs
 
-note-totals-requires : tie.Need-note-totals-requires
-note-totals-requires c κs = search needs
+totals-told-requires : tie.Need-totals-told-requires
+totals-told-requires c κs = search needs
+
+slice-aggregate-note-all : tie.Need-slice-aggregate-note-all
+slice-aggregate-note-all c = search needs
+
+note-all-requires : tie.Need-note-all-requires
+note-all-requires c κs = search needs
 
 same-length : tie.Need-same-length
 same-length c = search needs
@@ -43,7 +49,7 @@ same-length-5 : tie.Need-same-length-5
 same-length-5 c = search needs
 
 returns-2 : tie.Need-returns-2
-returns-2 c = load-by _ (c .before .before .before .before .before .before .before .before .before .before .before .before .before .before .desk-of .ensures) _ _ _ _ (c .before .before .before .before .before .before .before .before .before .before .before .load .ensures) (Done _) (c .before .before .before .before .before .t .given .1) (c .before .before .note-totals .ensures)
+returns-2 c = load-by _ (c .before .before .before .before .before .before .before .before .before .before .before .before .before .before .before .before .desk-of .ensures) _ _ _ _ (c .before .before .before .before .before .before .before .before .before .before .before .before .before .load .ensures) (Done _) (c .before .before .before .before .before .before .before .t .given .1) (told-values _ (c .before .before .before .before .totals-told .ensures) (c .before .before .note-all .ensures))
 
 pub sphairune-load-spec : {M : Type 1} → statement M
 sphairune-load-spec =
@@ -54,7 +60,9 @@ sphairune-load-spec =
     enum-known-refusal
     word-requires
     enum-known-t
-    note-totals-requires
+    totals-told-requires
+    slice-aggregate-note-all
+    note-all-requires
     same-length
     same-length-2
     returns
