@@ -1,5 +1,154 @@
+//! A loaded show as one html page that holds all it shows: style and script stand in it, named by their digests in a policy that forbids
+//! everything else, so that the page fetches nothing and nothing of a stream can run. The tables are there without scripts.
+mod digest;
+mod memories;
+mod patch;
+mod plot;
+mod stream;
+mod text;
+mod times;
+
 use crate::show::Show;
+use memories::{CUES, GROUPS, SUBMASTERS};
+use sphairune::{Desk, Totals};
+use text::{condition, counted, escaped, grouped};
+
+const STYLE: &str = include_str!("page/style.css");
+const SCRIPT: &str = include_str!("page/script.js");
 
 pub fn page(show: &Show) -> String {
-    format!("<!doctype html><title>{0}</title><p>{0}", show.name)
+    let cues = show.cues();
+    [
+        beginning(show),
+        head(show),
+        contents(show),
+        "<main>\n".into(),
+        stream::reports(show),
+        stream::passed(show),
+        memories::section(&CUES, &cues),
+        plot::section(&cues),
+        memories::section(&GROUPS, &show.groups()),
+        memories::section(&SUBMASTERS, &show.submasters()),
+        patch::section(show),
+        stream::stream(show),
+        "</main>\n".into(),
+        ending(show),
+    ]
+    .concat()
 }
+
+fn beginning(show: &Show) -> String {
+    let policy = format!("default-src 'none'; style-src '{}'; script-src '{}'", digest::named(STYLE), digest::named(SCRIPT));
+    format!(
+        "<!doctype html>\n<html lang=\"en\">\n<head>\n<meta charset=\"utf-8\">\n\
+         <meta http-equiv=\"Content-Security-Policy\" content=\"{policy}; base-uri 'none'; form-action 'none'\">\n\
+         <meta name=\"viewport\" content=\"width=device-width, initial-scale=1\">\n\
+         <meta name=\"color-scheme\" content=\"light dark\">\n\
+         <title>{}</title>\n<style>{STYLE}</style>\n</head>\n<body>\n",
+        escaped(&show.name)
+    )
+}
+
+fn ending(show: &Show) -> String {
+    let made = format!(
+        "Made by prep of {}, {}. The page holds all it shows and fetches nothing.",
+        escaped(&show.name),
+        counted(show.stream.len(), "byte")
+    );
+    format!("<footer><p>{made}</p></footer>\n<script>{SCRIPT}</script>\n</body>\n</html>\n")
+}
+
+fn head(show: &Show) -> String {
+    let (class, outcome, meaning) = outcome(show);
+    let closing = format!("closing number {}", condition(show.totals.closing));
+    format!("<header>\n<h1>{}</h1>\n<p class=\"desk\">{}</p>\n", escaped(&show.name), desk(show.desk))
+        + &format!("<div class=\"outcome {class}\" id=\"outcome\"><p><strong>{outcome}</strong> {meaning}</p><p class=\"closing\">{closing}</p></div>\n")
+        + "<div class=\"glance\">\n"
+        + &kept(show)
+        + &records(show.totals)
+        + "</div>\n</header>\n"
+}
+
+/// The closing number in plain words: how it looks, what came of the load, and what that means.
+fn outcome(show: &Show) -> (&'static str, String, String) {
+    let reports = counted(show.reports.len(), "report");
+    match show.totals.closing {
+        0 => ("clean", "Loaded with no report.".into(), "All that this desk reads of the stream is kept.".into()),
+        91 | 99 => {
+            let record = show.totals.records();
+            let meaning = "What was read before is kept; the rest of the stream was not read.";
+            ("error", format!("The load stopped at record {record}."), meaning.into())
+        }
+        100 => {
+            let meaning = format!("It has no ENDDATA: the end of the show may be missing. There are {reports} in all.");
+            ("error", "Loaded, but the stream breaks off.".into(), meaning)
+        }
+        _ => ("warning", format!("Loaded with {reports}."), "What they blame was dropped or ignored; the rest is kept.".into()),
+    }
+}
+
+fn desk(desk: Desk) -> String {
+    let pages = |count: u32| counted(count as usize, "page");
+    let of = |count: u32, thing: &str| counted(count as usize, thing);
+    let named = if desk == Desk::HOUSE { "The house small desk: " } else { "A desk of " };
+    let mut has = vec![of(desk.channels, "channel"), of(desk.dimmers, "dimmer"), of(desk.cues, "cue") + " on " + &pages(desk.cue_pages)];
+    has.push(if desk.groups == 0 { "no groups".into() } else { of(desk.groups, "group") + " on " + &pages(desk.group_pages) });
+    let submasters = || of(desk.submasters, "submaster") + " on " + &pages(desk.submaster_pages);
+    has.push(if desk.submasters == 0 { "no submasters".into() } else { submasters() });
+    format!("{named}{}, {}", has.join(", "), of(desk.patch_pages, "patch page"))
+}
+
+/// What the desk keeps, and how much it has room for.
+fn kept(show: &Show) -> String {
+    let desk = show.desk;
+    let figures = [
+        figure("cues", show.cues().len(), Some(desk.cues)),
+        figure("groups", show.groups().len(), Some(desk.groups)),
+        figure("submasters", show.submasters().len(), Some(desk.submasters * desk.submaster_pages)),
+        figure("patched dimmers", show.patch().len(), Some(desk.dimmers * desk.patch_pages)),
+    ];
+    format!("<dl class=\"figures\" id=\"kept\" aria-label=\"Kept\">\n{}</dl>\n", figures.concat())
+}
+
+fn records(t: Totals) -> String {
+    let figures = [
+        figure("records read", t.records() as usize, None),
+        figure("obeyed", t.obeyed as usize, None),
+        figure("blank", t.blank as usize, None),
+        figure("passed over", t.passed as usize, None),
+        figure("dropped", t.dropped as usize, None),
+    ];
+    format!("<dl class=\"figures records\" id=\"tallies\" aria-label=\"Records\">\n{}</dl>\n", figures.concat())
+}
+
+fn figure(name: &str, count: usize, room: Option<u32>) -> String {
+    let class = if count == 0 { " class=\"none\"" } else { "" };
+    let room = room.map_or(String::new(), |room| format!(" <small>of {}</small>", grouped(room as usize)));
+    format!("<div{class}><dt>{name}</dt><dd>{}{room}</dd></div>\n", grouped(count))
+}
+
+/// The ways to the sections, and the search box, which the script shows.
+fn contents(show: &Show) -> String {
+    let sections = [
+        ("reports", "Dropped", show.reports.len()),
+        ("passed", "Passed over", show.totals.passed as usize),
+        ("cues", "Cues", show.cues().len()),
+        ("plot", "Levels", 0),
+        ("groups", "Groups", show.groups().len()),
+        ("submasters", "Submasters", show.submasters().len()),
+        ("patch", "Patch", show.patch().len()),
+        ("stream", "Stream", show.totals.records() as usize),
+    ];
+    let mut text = String::from("<nav aria-label=\"Sections\">\n<ul>\n");
+    for (id, name, count) in sections {
+        let count = if count == 0 { String::new() } else { format!(" <small>{}</small>", grouped(count)) };
+        text += &format!("<li><a href=\"#{id}\">{name}{count}</a></li>\n");
+    }
+    text += "</ul>\n<label class=\"hexadecimal\"><input type=\"checkbox\" id=\"hexadecimal\"> levels in hexadecimal</label>\n";
+    text += "<div role=\"search\" id=\"finder\" hidden><label for=\"search\" class=\"unseen\">Search</label>";
+    text += "<input type=\"search\" id=\"search\" placeholder=\"Search: channel 33, cue 4.5, dimmer 41, any text\" autocomplete=\"off\" spellcheck=\"false\">";
+    text + "</div>\n</nav>\n<p id=\"found\" role=\"status\"></p>\n"
+}
+
+#[cfg(test)]
+mod tests;

@@ -1,0 +1,176 @@
+//! Cues, groups and submasters as tables: a row a memory, its times as text and drawn, its link, its levels.
+use super::text::{counted, range};
+use super::times::Scale;
+use sphairune::{percent, time_text, Fade, Memory, Number};
+
+/// What a table is of, and what goes with it.
+pub struct Kind {
+    pub one: &'static str,
+    pub title: &'static str,
+    pub id: &'static str,
+    /// Groups have no times.
+    pub timed: bool,
+    /// Cues alone follow on, and link.
+    pub linked: bool,
+}
+
+pub const CUES: Kind = Kind { one: "cue", title: "Cues", id: "cues", timed: true, linked: true };
+pub const GROUPS: Kind = Kind { one: "group", title: "Groups", id: "groups", timed: false, linked: false };
+pub const SUBMASTERS: Kind = Kind { one: "submaster", title: "Submasters", id: "submasters", timed: true, linked: false };
+
+/// A section with the memories of a kind, by page and number.
+pub fn section(kind: &Kind, memories: &[Memory]) -> String {
+    let Kind { title, id, .. } = kind;
+    let heading = format!("<section id=\"{id}\" aria-labelledby=\"{id}-title\">\n<h2 id=\"{id}-title\">{title}</h2>\n");
+    let body = match memories {
+        [] => format!("<p>No {} is kept.</p>\n", kind.one),
+        _ => legend(kind) + &table(kind, memories),
+    };
+    heading + &body + "</section>\n"
+}
+
+fn legend(kind: &Kind) -> String {
+    let times =
+        if kind.timed { "Times are seconds, minutes:seconds or hours:minutes:seconds; a dash is a time that was not given. " } else { "" };
+    let drawn = if kind.timed {
+        "<span class=\"key\"><svg class=\"times\" width=\"34\" height=\"24\" viewBox=\"0 0 34 24\" aria-hidden=\"true\"><path class=\"wait\" d=\"M0 10H12\"/><path class=\"up\" d=\"M12 11H34V1Z\"/><path class=\"wait\" d=\"M0 22H8\"/><path class=\"down\" d=\"M8 13V23H30Z\"/></svg> up above, down below, a line for the delay</span>"
+    } else {
+        ""
+    };
+    format!("<p class=\"legend\">{times}Levels are channel@percent. {drawn}</p>\n")
+}
+
+fn table(kind: &Kind, memories: &[Memory]) -> String {
+    let scale = Scale::of(memories);
+    let mut text = format!("<table class=\"memories {}\">\n{}", kind.id, columns(kind, &scale));
+    for page in memories.chunk_by(|a, b| a.page == b.page) {
+        text += "<tbody>\n";
+        if memories[0].page != 1 || memories[0].page != memories[memories.len() - 1].page {
+            let count = counted(page.len(), kind.one);
+            text += &format!(
+                "<tr class=\"page\"><th scope=\"rowgroup\" colspan=\"7\">Page {} <small>{count}</small></th></tr>\n",
+                page[0].page
+            );
+        }
+        text.extend(page.iter().map(|memory| row(kind, memory, page, &scale)));
+        text += "</tbody>\n";
+    }
+    text + "</table>\n"
+}
+
+fn columns(kind: &Kind, scale: &Scale) -> String {
+    let column = |class: &str, name: &str| format!("<th scope=\"col\" class=\"{class}\">{name}</th>");
+    let mut text = format!("<thead><tr>{}", column("name", kind.one));
+    if kind.timed {
+        text += &(column("time", "up") + &column("time", "down"));
+    }
+    if kind.linked {
+        text += &column("time", "follow-on");
+    }
+    if kind.timed {
+        text += &column("drawn", &format!("<span class=\"unseen\">times drawn</span>{}", scale.axis(kind.id)));
+    }
+    if kind.linked {
+        text += &column("link", "link");
+    }
+    text + &column("levels", "levels") + "</tr></thead>\n"
+}
+
+fn row(kind: &Kind, memory: &Memory, page: &[Memory], scale: &Scale) -> String {
+    let name = anchor(kind, memory.page, memory.number);
+    let mut text = format!("<tr class=\"memory\" id=\"{name}\"><th scope=\"row\" class=\"name\">{}</th>", memory.number);
+    if kind.timed {
+        text += &(fade(memory.up) + &fade(memory.down));
+    }
+    if kind.linked {
+        text += &format!("<td class=\"time\">{}</td>", time(memory.followon));
+    }
+    if kind.timed {
+        text += &format!("<td class=\"drawn\">{}</td>", scale.drawn(kind.id, memory));
+    }
+    if kind.linked {
+        text += &format!("<td class=\"link\">{}</td>", link(kind, memory, page));
+    }
+    text + &format!("<td class=\"levels\"><div>{}</div></td></tr>\n", levels(memory.levels))
+}
+
+/// Where a memory's row is on the page.
+fn anchor(kind: &Kind, page: u32, number: Number) -> String {
+    format!("{}-{page}-{number}", kind.one)
+}
+
+fn time(tenths: Option<u32>) -> String {
+    tenths.map_or("\u{2013}".into(), |t| time_text(t).to_string())
+}
+
+fn fade(fade: Option<Fade>) -> String {
+    let delay = fade.map_or(0, |f| f.delay);
+    let waits = if delay == 0 { String::new() } else { format!(" <small>delay {}</small>", time_text(delay)) };
+    format!("<td class=\"time\">{}{waits}</td>", time(fade.map(|f| f.fade)))
+}
+
+/// A link leads to the cue of that number on the cue's own page, and a load does not look whether there is one.
+fn link(kind: &Kind, memory: &Memory, page: &[Memory]) -> String {
+    match memory.link {
+        None => "\u{2013}".into(),
+        Some(target) if page.iter().any(|m| m.number == target) => {
+            format!("<a href=\"#{}\">{} {target}</a>", anchor(kind, memory.page, target), kind.one)
+        }
+        Some(target) => format!("{} {target} <small class=\"lost\">is not kept</small>", kind.one),
+    }
+}
+
+/// The channels that are lit, in runs of one level: the percentage, and the level itself in hexadecimal, of which the page shows one.
+fn levels(levels: &[u8]) -> String {
+    let mut runs = Vec::new();
+    let mut channel = 1;
+    for run in levels.chunk_by(|a, b| a == b) {
+        if run[0] != 0 {
+            let channels = range(channel, channel + run.len() - 1);
+            runs.push(format!("{channels}@<b>{}</b><i>H{:02X}</i>", percent(run[0]), run[0]));
+        }
+        channel += run.len();
+    }
+    if runs.is_empty() {
+        return "<em>blackout</em>".into();
+    }
+    runs.join(" ")
+}
+
+#[cfg(test)]
+mod tests {
+    use super::*;
+
+    fn cue(whole: u32, link: Option<u32>) -> Memory<'static> {
+        let number = |whole| Number { whole, tenths: 0 };
+        let up = Some(Fade { fade: 900, delay: 100 });
+        Memory { page: 1, number: number(whole), link: link.map(number), up, down: None, followon: Some(5), levels: &[0xff, 0] }
+    }
+
+    #[test]
+    fn levels_in_runs() {
+        let lit = levels(&[0xff, 0xff, 0, 0x80, 0x80, 0x80, 0x99]);
+        assert_eq!(lit, "1-2@<b>100</b><i>HFF</i> 4-6@<b>50</b><i>H80</i> 7@<b>60</b><i>H99</i>");
+        assert_eq!(levels(&[0, 0, 0]), "<em>blackout</em>");
+    }
+
+    #[test]
+    fn links_lead_to_what_is_kept() {
+        let page = [cue(1, Some(2)), cue(2, Some(7)), cue(3, None)];
+        assert_eq!(link(&CUES, &page[0], &page), "<a href=\"#cue-1-2\">cue 2</a>");
+        assert_eq!(link(&CUES, &page[1], &page), "cue 7 <small class=\"lost\">is not kept</small>");
+        assert_eq!(link(&CUES, &page[2], &page), "–");
+    }
+
+    #[test]
+    fn a_row_a_memory_and_a_body_a_page() {
+        let mut cues = [cue(1, None), cue(2, None), cue(1, None)];
+        assert_eq!(section(&CUES, &cues).matches("<tbody>").count(), 1);
+        cues[2].page = 2;
+        let text = section(&CUES, &cues);
+        assert_eq!((text.matches("class=\"memory\"").count(), text.matches("<tbody>").count()), (3, 2));
+        assert!(text.contains("id=\"cue-2-1\"") && text.contains("Page 2 <small>1 cue</small>"));
+        assert!(text.contains("<td class=\"time\">1:30 <small>delay 10</small></td><td class=\"time\">–</td><td class=\"time\">0.5</td>"));
+        assert!(section(&GROUPS, &[]).contains("No group is kept."));
+    }
+}

@@ -1,0 +1,140 @@
+//! The page as a whole, of the sample shows and of hostile ones.
+use super::*;
+use std::fs;
+
+const LARGEST: [u32; 9] = [512, 512, 600, 200, 96, 63, 63, 8, 4];
+
+fn sample(name: &str, desk: Desk) -> Show {
+    let path = format!("{}/../examples/{name}.asc", env!("CARGO_MANIFEST_DIR"));
+    let stream = fs::read(&path).unwrap_or_else(|e| panic!("{path}: {e}"));
+    Show::load(format!("{name}.asc"), desk, stream).unwrap()
+}
+
+fn of(stream: &[u8]) -> String {
+    page(&Show::load("a.asc".into(), Desk::HOUSE, stream.to_vec()).unwrap())
+}
+
+fn samples() -> Vec<Show> {
+    let small = Desk::of([12, 12, 3, 1, 6, 1, 1, 1, 1]);
+    let bare = Desk::of([6, 6, 10, 0, 0, 1, 1, 1, 1]);
+    let mut shows: Vec<Show> =
+        ["worked", "house", "foreign", "faults", "noise", "long_record", "other_version"].map(|name| sample(name, Desk::HOUSE)).into();
+    shows.extend([sample("small_desk", small), sample("bare_desk", bare), sample("house", Desk::of(LARGEST))]);
+    shows
+}
+
+/// Between an element's beginning and the end of its section.
+fn part<'a>(text: &'a str, id: &str) -> &'a str {
+    let from = text.find(&format!("<section id=\"{id}\"")).expect("the section is there");
+    &text[from..from + text[from..].find("</section>").unwrap()]
+}
+
+#[test]
+fn every_report_is_shown_twice() {
+    for show in samples() {
+        let text = page(&show);
+        let rows = part(&text, "reports").matches("<tr class=").count();
+        assert_eq!(rows, show.reports.len(), "{}", show.name);
+        assert_eq!(part(&text, "stream").matches("class=\"number\"").count(), show.reports.len(), "{}", show.name);
+        let marks = show.reports.iter().filter(|r| r.column > 0).count();
+        assert_eq!(part(&text, "reports").matches("<mark>").count(), marks, "{}", show.name);
+        assert_eq!(part(&text, "stream").matches("<mark>").count(), marks, "{}", show.name);
+        for report in &show.reports {
+            assert!(text.contains(&condition(report.condition)), "{} lacks {report:?}", show.name);
+        }
+    }
+}
+
+#[test]
+fn every_memory_record_and_dimmer_is_shown() {
+    for show in samples() {
+        let text = page(&show);
+        for (id, count) in [("cues", show.cues().len()), ("groups", show.groups().len()), ("submasters", show.submasters().len())] {
+            assert_eq!(part(&text, id).matches("<tr class=\"memory\"").count(), count, "{id} of {}", show.name);
+        }
+        assert_eq!(part(&text, "patch").matches("<span>").count(), show.patch().len(), "{}", show.name);
+        let lines = part(&text, "stream").matches("<tr id=\"record-").count();
+        assert_eq!(lines, show.totals.records() as usize, "{}", show.name);
+        for cue in show.cues() {
+            assert!(text.contains(&format!("id=\"cue-{}-{}\"", cue.page, cue.number)), "{}", show.name);
+        }
+    }
+}
+
+#[test]
+fn counts_at_a_glance() {
+    let text = page(&sample("house", Desk::HOUSE));
+    for figure in ["<dt>cues</dt><dd>10 <small>of 200", "<dt>groups</dt><dd>2 <small>of 40", "<dt>submasters</dt><dd>4 <small>of 48"] {
+        assert!(text.contains(figure), "{figure}");
+    }
+    assert!(text.contains("<dt>patched dimmers</dt><dd>21 <small>of 192"));
+    let text = page(&sample("worked", Desk::HOUSE));
+    for figure in ["records read</dt><dd>9<", "obeyed</dt><dd>6<", "blank</dt><dd>1<", "passed over</dt><dd>1<", "dropped</dt><dd>1<"] {
+        assert!(text.contains(figure), "{figure}");
+    }
+}
+
+#[test]
+fn the_outcome_in_words() {
+    let words = |show: &Show| outcome(show).1;
+    let shows = samples();
+    assert_eq!(words(&shows[0]), "Loaded with 2 reports.");
+    assert_eq!(words(&shows[1]), "Loaded with no report.");
+    assert_eq!(words(&shows[3]), "Loaded, but the stream breaks off.");
+    assert_eq!(words(&shows[5]), format!("The load stopped at record {}.", shows[5].totals.records()));
+    assert!(page(&shows[0]).contains("closing number <span class=\"number\">0043-W</span> Page out of range"));
+}
+
+#[test]
+fn cue_names_are_said_to_be_lost() {
+    assert!(page(&sample("foreign", Desk::HOUSE)).contains("Cue names are among it"));
+    assert!(!page(&sample("house", Desk::HOUSE)).contains("Cue names are among it"));
+}
+
+#[test]
+fn links_lead_somewhere() {
+    for show in samples() {
+        let text = page(&show);
+        for rest in text.split("href=\"#").skip(1) {
+            let target = &rest[..rest.find('"').unwrap()];
+            assert_eq!(text.matches(&format!("id=\"{target}\"")).count(), 1, "{target} of {}", show.name);
+        }
+    }
+}
+
+/// However hostile the stream and its name are, the page has the elements that it makes itself and no others.
+#[test]
+fn a_stream_of_scripts_does_no_harm() {
+    let script = "<script>alert(1)</script><img src=x onerror=alert(2)>";
+    let stream = format!("{script}\nCUE 1 ! {script}\nCHAN {script} ' onload=\"x\"\n${script}\nTEXT </code></table></main>{script}\n");
+    let show = Show::load(format!("{script}\"'.asc"), Desk::HOUSE, stream.into()).unwrap();
+    let text = page(&show);
+    assert_eq!((text.matches("<script").count(), text.matches("<img").count(), text.matches("</main>").count()), (1, 0, 1));
+    assert!(text.contains("&lt;script&gt;alert(1)&lt;/script&gt;"));
+    let mut every = Vec::from(*b"CUE 1\n");
+    for c in 0..=255 {
+        every.extend([c, b'\n']);
+    }
+    let text = of(&every);
+    assert!(!text.contains(['\0', '\r', '\u{7f}']) && text.contains("<u>\\x00</u>") && text.contains("<u>\\xFF</u>"));
+}
+
+#[test]
+fn nothing_is_fetched() {
+    for show in samples() {
+        let text = page(&show);
+        assert!(text.contains("content=\"default-src 'none'; style-src 'sha256-"));
+        for word in ["http:", "https:", " src=", "@import", "url(", " style=\"", "<link"] {
+            assert!(!text.contains(word), "{word} in the page of {}", show.name);
+        }
+    }
+}
+
+#[test]
+fn shows_of_nothing() {
+    let text = of(b"");
+    assert!(text.contains("The stream has no record.") && text.contains("No cue is kept.") && text.contains("No dimmer is patched"));
+    assert!(part(&text, "reports").contains("0100-E"));
+    let text = of(&[b'\n'; 5000]);
+    assert!(part(&text, "stream").contains("<th scope=\"row\">1-5000</th><td>5,000 empty records</td>"));
+}

@@ -1,0 +1,79 @@
+//! Times as drawings, all of a table on one scale: an up fade as a slope that rises, a down fade as one that falls below it, a line for the
+//! delay ahead of it, an upright stroke where the follow-on comes.
+use sphairune::{time_text, Fade, Memory};
+
+const WIDTH: f64 = 230.0;
+const HEIGHT: u32 = 24;
+
+/// Ticks that may stand on a scale, in seconds.
+const TICKS: [u32; 13] = [1, 2, 5, 10, 20, 60, 120, 300, 900, 3_600, 18_000, 86_400, 864_000];
+
+/// Room that a tick's text needs.
+const TICK_ROOM: f64 = 30.0;
+
+/// Half a second is to be seen beside ten minutes, so that a place grows as the logarithm of its time.
+pub struct Scale {
+    longest: u32,
+}
+
+impl Scale {
+    pub fn of(memories: &[Memory]) -> Scale {
+        let end = |fade: Option<Fade>| fade.map_or(0, |f| f.delay + f.fade);
+        let ends = memories.iter().map(|m| end(m.up).max(end(m.down)).max(m.followon.unwrap_or(0)));
+        Scale { longest: ends.max().unwrap_or(0).max(50) }
+    }
+
+    fn place(&self, tenths: u32) -> f64 {
+        let grown = |t: u32| (1.0 + f64::from(t) / 10.0).ln();
+        (grown(tenths) / grown(self.longest) * (WIDTH - 4.0) * 10.0).round() / 10.0
+    }
+
+    /// The scale itself, and the lines that every row shows behind its times.
+    pub fn axis(&self, id: &str) -> String {
+        let (mut lines, mut texts, mut free) = (String::from("M.5 0V24"), String::from("<text x=\"0\" y=\"14\">0</text>"), TICK_ROOM);
+        for tenths in TICKS.map(|seconds| seconds * 10) {
+            let place = self.place(tenths);
+            if free <= place && place <= WIDTH - TICK_ROOM / 2.0 {
+                lines += &format!("M{place} 0V24");
+                texts += &format!("<text class=\"tick\" x=\"{place}\" y=\"14\">{}</text>", time_text(tenths));
+                free = place + TICK_ROOM;
+            }
+        }
+        let lines = format!("<defs><path id=\"scale-{id}\" class=\"scale\" d=\"{lines}\"/></defs>");
+        drawing(&format!("{lines}{texts}"))
+    }
+
+    /// A memory's times; nothing where it has none.
+    pub fn drawn(&self, id: &str, memory: &Memory) -> String {
+        if memory.up.is_none() && memory.down.is_none() && memory.followon.is_none() {
+            return String::new();
+        }
+        let up = memory.up.map_or(String::new(), |f| self.slope(f, "up", 1));
+        let down = memory.down.map_or(String::new(), |f| self.slope(f, "down", 13));
+        let follows = memory.followon.map_or(String::new(), |t| {
+            let place = self.place(t);
+            format!("<path class=\"follow\" d=\"M{place} 0V24\"/><path class=\"flag\" d=\"M{place} 0h5l-5 5z\"/>")
+        });
+        drawing(&format!("<use href=\"#scale-{id}\"/>{up}{down}{follows}"))
+    }
+
+    /// In a lane of ten, `top` its upper edge.
+    fn slope(&self, fade: Fade, class: &str, top: u32) -> String {
+        let (from, to) = (self.place(fade.delay), self.place(fade.delay + fade.fade));
+        let (middle, bottom) = (top + 9, top + 10);
+        let wait = if fade.delay == 0 { String::new() } else { format!("<path class=\"wait\" d=\"M0 {middle}H{from}\"/>") };
+        let shape = match class {
+            _ if fade.fade == 0 => format!("M{from} {top}h2.5V{bottom}h-2.5z"),
+            "up" => format!("M{from} {bottom}H{to}V{top}z"),
+            _ => format!("M{from} {top}V{bottom}H{to}z"),
+        };
+        format!("{wait}<path class=\"{class}\" d=\"{shape}\"/>")
+    }
+}
+
+/// The same is beside it as text, so that a drawing is for the eye alone.
+fn drawing(inside: &str) -> String {
+    format!(
+        "<svg class=\"times\" width=\"{WIDTH}\" height=\"{HEIGHT}\" viewBox=\"0 0 {WIDTH} {HEIGHT}\" aria-hidden=\"true\">{inside}</svg>"
+    )
+}
