@@ -10,26 +10,34 @@ mod times;
 
 use crate::show::Show;
 use memories::{CUES, GROUPS, SUBMASTERS};
-use sphairune::{Desk, Totals};
+use sphairune::{Desk, Memory, Patched, Totals};
 use text::{condition, counted, escaped, grouped};
 
 const STYLE: &str = include_str!("page/style.css");
 const SCRIPT: &str = include_str!("page/script.js");
 
+/// What the desk keeps of a show.
+struct Kept<'a> {
+    cues: Vec<Memory<'a>>,
+    groups: Vec<Memory<'a>>,
+    submasters: Vec<Memory<'a>>,
+    patch: Vec<Patched>,
+}
+
 pub fn page(show: &Show) -> String {
-    let cues = show.cues();
+    let kept = Kept { cues: show.cues(), groups: show.groups(), submasters: show.submasters(), patch: show.patch() };
     [
         beginning(show),
-        head(show),
-        contents(show),
+        head(show, &kept),
+        contents(show, &kept),
         "<main>\n".into(),
         stream::reports(show),
         stream::passed(show),
-        memories::section(&CUES, &cues),
-        plot::section(&cues),
-        memories::section(&GROUPS, &show.groups()),
-        memories::section(&SUBMASTERS, &show.submasters()),
-        patch::section(show),
+        memories::section(&CUES, &kept.cues),
+        plot::section(&kept.cues),
+        memories::section(&GROUPS, &kept.groups),
+        memories::section(&SUBMASTERS, &kept.submasters),
+        patch::section(show.desk, &kept),
         stream::stream(show),
         "</main>\n".into(),
         ending(show),
@@ -58,32 +66,37 @@ fn ending(show: &Show) -> String {
     format!("<footer><p>{made}</p></footer>\n<script>{SCRIPT}</script>\n</body>\n</html>\n")
 }
 
-fn head(show: &Show) -> String {
+fn head(show: &Show, kept: &Kept) -> String {
     let (class, outcome, meaning) = outcome(show);
     let closing = format!("closing number {}", condition(show.totals.closing));
-    format!("<header>\n<h1>{}</h1>\n<p class=\"desk\">{}</p>\n", escaped(&show.name), desk(show.desk))
-        + &format!("<div class=\"outcome {class}\" id=\"outcome\"><p><strong>{outcome}</strong> {meaning}</p><p class=\"closing\">{closing}</p></div>\n")
+    format!("<header>\n<h1>{}</h1>\n<p class=\"desk\">{}</p>\n", name(&show.name), desk(show.desk))
+        + &format!("<div class=\"outcome {class}\"><p><strong>{outcome}</strong> {meaning}</p><p class=\"closing\">{closing}</p></div>\n")
         + "<div class=\"glance\">\n"
-        + &kept(show)
+        + &room(show.desk, kept)
         + &records(show.totals)
         + "</div>\n</header>\n"
 }
 
+/// The folder, if any, set apart.
+fn name(name: &str) -> String {
+    match name.rfind('/') {
+        Some(at) => format!("<small>{}</small>{}", escaped(&name[..=at]), escaped(&name[at + 1..])),
+        None => escaped(name),
+    }
+}
+
 /// The closing number in plain words: how it looks, what came of the load, and what that means.
-fn outcome(show: &Show) -> (&'static str, String, String) {
+fn outcome(show: &Show) -> (&'static str, String, &'static str) {
     let reports = counted(show.reports.len(), "report");
     match show.totals.closing {
-        0 => ("clean", "Loaded with no report.".into(), "All that this desk reads of the stream is kept.".into()),
+        0 if show.totals.passed == 0 => ("clean", "Loaded with no report.".into(), "All of the stream is kept."),
+        0 => ("clean", "Loaded with no report.".into(), "All that a desk reads is kept; see what was passed over."),
         91 | 99 => {
-            let record = show.totals.records();
-            let meaning = "What was read before is kept; the rest of the stream was not read.";
-            ("error", format!("The load stopped at record {record}."), meaning.into())
+            let stopped = format!("The load stopped at record {}.", show.totals.records());
+            ("error", stopped, "What was read before it is kept; the rest of the stream was not read.")
         }
-        100 => {
-            let meaning = format!("It has no ENDDATA: the end of the show may be missing. There are {reports} in all.");
-            ("error", "Loaded, but the stream breaks off.".into(), meaning)
-        }
-        _ => ("warning", format!("Loaded with {reports}."), "What they blame was dropped or ignored; the rest is kept.".into()),
+        100 => ("error", format!("Loaded with {reports}."), "The stream has no ENDDATA: the end of the show may be missing."),
+        _ => ("warning", format!("Loaded with {reports}."), "What they blame was dropped or ignored; the rest is kept."),
     }
 }
 
@@ -99,13 +112,12 @@ fn desk(desk: Desk) -> String {
 }
 
 /// What the desk keeps, and how much it has room for.
-fn kept(show: &Show) -> String {
-    let desk = show.desk;
+fn room(desk: Desk, kept: &Kept) -> String {
     let figures = [
-        figure("cues", show.cues().len(), Some(desk.cues)),
-        figure("groups", show.groups().len(), Some(desk.groups)),
-        figure("submasters", show.submasters().len(), Some(desk.submasters * desk.submaster_pages)),
-        figure("patched dimmers", show.patch().len(), Some(desk.dimmers * desk.patch_pages)),
+        figure("cues", kept.cues.len(), Some(desk.cues)),
+        figure("groups", kept.groups.len(), Some(desk.groups)),
+        figure("submasters", kept.submasters.len(), Some(desk.submasters * desk.submaster_pages)),
+        figure("patched dimmers", kept.patch.len(), Some(desk.dimmers * desk.patch_pages)),
     ];
     format!("<dl class=\"figures\" id=\"kept\" aria-label=\"Kept\">\n{}</dl>\n", figures.concat())
 }
@@ -128,15 +140,15 @@ fn figure(name: &str, count: usize, room: Option<u32>) -> String {
 }
 
 /// The ways to the sections, and the search box, which the script shows.
-fn contents(show: &Show) -> String {
+fn contents(show: &Show, kept: &Kept) -> String {
     let sections = [
         ("reports", "Dropped", show.reports.len()),
         ("passed", "Passed over", show.totals.passed as usize),
-        ("cues", "Cues", show.cues().len()),
+        ("cues", "Cues", kept.cues.len()),
         ("plot", "Levels", 0),
-        ("groups", "Groups", show.groups().len()),
-        ("submasters", "Submasters", show.submasters().len()),
-        ("patch", "Patch", show.patch().len()),
+        ("groups", "Groups", kept.groups.len()),
+        ("submasters", "Submasters", kept.submasters.len()),
+        ("patch", "Patch", kept.patch.len()),
         ("stream", "Stream", show.totals.records() as usize),
     ];
     let mut text = String::from("<nav aria-label=\"Sections\">\n<ul>\n");
@@ -144,9 +156,9 @@ fn contents(show: &Show) -> String {
         let count = if count == 0 { String::new() } else { format!(" <small>{}</small>", grouped(count)) };
         text += &format!("<li><a href=\"#{id}\">{name}{count}</a></li>\n");
     }
-    text += "</ul>\n<label class=\"hexadecimal\"><input type=\"checkbox\" id=\"hexadecimal\"> levels in hexadecimal</label>\n";
+    text += "</ul>\n<label class=\"hexadecimal\"><input type=\"checkbox\" id=\"hexadecimal\"> hexadecimal levels</label>\n";
     text += "<div role=\"search\" id=\"finder\" hidden><label for=\"search\" class=\"unseen\">Search</label>";
-    text += "<input type=\"search\" id=\"search\" placeholder=\"Search: channel 33, cue 4.5, dimmer 41, any text\" autocomplete=\"off\" spellcheck=\"false\">";
+    text += "<input type=\"search\" id=\"search\" placeholder=\"channel 33, cue 4.5, any text\" autocomplete=\"off\" spellcheck=\"false\">";
     text + "</div>\n</nav>\n<p id=\"found\" role=\"status\"></p>\n"
 }
 

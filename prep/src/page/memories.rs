@@ -1,6 +1,6 @@
 //! Cues, groups and submasters as tables: a row a memory, its times as text and drawn, its link, its levels.
 use super::text::{counted, range};
-use super::times::Scale;
+use super::times::{self, Scale};
 use sphairune::{percent, time_text, Fade, Memory, Number};
 
 /// What a table is of, and what goes with it.
@@ -18,6 +18,9 @@ pub const CUES: Kind = Kind { one: "cue", title: "Cues", id: "cues", timed: true
 pub const GROUPS: Kind = Kind { one: "group", title: "Groups", id: "groups", timed: false, linked: false };
 pub const SUBMASTERS: Kind = Kind { one: "submaster", title: "Submasters", id: "submasters", timed: true, linked: false };
 
+/// The levels of a longer table are laid out only as they come into sight.
+const LONG: usize = 100;
+
 /// A section with the memories of a kind, by page and number.
 pub fn section(kind: &Kind, memories: &[Memory]) -> String {
     let Kind { title, id, .. } = kind;
@@ -30,19 +33,20 @@ pub fn section(kind: &Kind, memories: &[Memory]) -> String {
 }
 
 fn legend(kind: &Kind) -> String {
-    let times =
-        if kind.timed { "Times are seconds, minutes:seconds or hours:minutes:seconds; a dash is a time that was not given. " } else { "" };
-    let drawn = if kind.timed {
-        "<span class=\"key\"><svg class=\"times\" width=\"34\" height=\"24\" viewBox=\"0 0 34 24\" aria-hidden=\"true\"><path class=\"wait\" d=\"M0 10H12\"/><path class=\"up\" d=\"M12 11H34V1Z\"/><path class=\"wait\" d=\"M0 22H8\"/><path class=\"down\" d=\"M8 13V23H30Z\"/></svg> up above, down below, a line for the delay</span>"
-    } else {
-        ""
+    let times = match kind.timed {
+        true => "Times are seconds, minutes:seconds or hours:minutes:seconds; a dash is a time that was not given. ",
+        false => "",
     };
-    format!("<p class=\"legend\">{times}Levels are channel@percent. {drawn}</p>\n")
+    format!(
+        "<p class=\"legend\">{times}Levels are channel@percent.{}</p>\n",
+        if kind.timed { times::key(kind.linked) } else { String::new() }
+    )
 }
 
 fn table(kind: &Kind, memories: &[Memory]) -> String {
     let scale = Scale::of(memories);
-    let mut text = format!("<table class=\"memories {}\">\n{}", kind.id, columns(kind, &scale));
+    let long = if LONG < memories.len() { " long" } else { "" };
+    let mut text = format!("<table class=\"memories {}{long}\">\n{}", kind.id, columns(kind, &scale));
     for page in memories.chunk_by(|a, b| a.page == b.page) {
         text += "<tbody>\n";
         if memories[0].page != 1 || memories[0].page != memories[memories.len() - 1].page {
@@ -120,14 +124,14 @@ fn link(kind: &Kind, memory: &Memory, page: &[Memory]) -> String {
     }
 }
 
-/// The channels that are lit, in runs of one level: the percentage, and the level itself in hexadecimal, of which the page shows one.
+/// The channels that are lit, in runs of one level: the percentage, and as its title the level itself, which the page shows when asked.
 fn levels(levels: &[u8]) -> String {
     let mut runs = Vec::new();
     let mut channel = 1;
     for run in levels.chunk_by(|a, b| a == b) {
         if run[0] != 0 {
             let channels = range(channel, channel + run.len() - 1);
-            runs.push(format!("{channels}@<b>{}</b><i>H{:02X}</i>", percent(run[0]), run[0]));
+            runs.push(format!("{channels}@<b title=\"H{:02X}\">{}</b>", run[0], percent(run[0])));
         }
         channel += run.len();
     }
@@ -150,7 +154,7 @@ mod tests {
     #[test]
     fn levels_in_runs() {
         let lit = levels(&[0xff, 0xff, 0, 0x80, 0x80, 0x80, 0x99]);
-        assert_eq!(lit, "1-2@<b>100</b><i>HFF</i> 4-6@<b>50</b><i>H80</i> 7@<b>60</b><i>H99</i>");
+        assert_eq!(lit, "1–\u{2060}2@<b title=\"HFF\">100</b> 4–\u{2060}6@<b title=\"H80\">50</b> 7@<b title=\"H99\">60</b>");
         assert_eq!(levels(&[0, 0, 0]), "<em>blackout</em>");
     }
 

@@ -57,7 +57,7 @@ fn figure(cues: &[Memory]) -> String {
     let of = format!("{} by {}", counted(rows, "cue"), counted(columns, "channel"));
     let label = format!("Plot of levels, {of}; the table of cues has the same as text");
     format!("<p class=\"legend\">{of}, up to the highest that is lit. {}</p>\n<figure class=\"plot\">\n", ramp())
-        + "<div class=\"scroll\">\n"
+        + "<output id=\"readout\" for=\"levels\"></output>\n<div class=\"scroll\">\n"
         + &format!(
             "<svg id=\"levels\" width=\"{wide}\" height=\"{high}\" viewBox=\"0 0 {wide} {high}\" role=\"img\" aria-label=\"{label}\" "
         )
@@ -67,7 +67,7 @@ fn figure(cues: &[Memory]) -> String {
         + &cue_names(&grid, cues)
         + &cells(&grid, cues)
         + &percentages(&grid, cues)
-        + "</svg>\n</div>\n<output id=\"readout\" for=\"levels\"></output>\n</figure>\n"
+        + "</svg>\n</div>\n</figure>\n"
 }
 
 /// What the shades mean.

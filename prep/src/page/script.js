@@ -6,21 +6,24 @@
   const byId = id => document.getElementById(id);
   const all = (where, within = document) => [...within.querySelectorAll(where)];
 
-  // The lit channels of a memory's row: first, last, percentage, hexadecimal.
+  // The lit channels of a memory's row: first, last, level.
   const known = new Map();
   const lit = row => {
     if (!known.has(row)) {
-      const runs = row.querySelector('.levels').textContent.matchAll(/(\d+)(?:-(\d+))?@(\d+)(H[0-9A-F]{2})/g);
-      known.set(row, Array.from(runs, ([, first, last, percent, hex]) => ({ first: +first, last: +(last || first), percent, hex })));
+      known.set(row, all('.levels b', row).map(level => ({ ...ends(level.previousSibling.data), level })));
     }
     return known.get(row);
   };
+  function ends(numbers) {
+    const [first, last = first] = (numbers.match(/\d+(\.\d)?/g) || [0]).map(Number);
+    return { first, last };
+  }
   const levelOf = (row, channel) => lit(row).find(run => run.first <= channel && channel <= run.last);
 
-  // What can be found: each thing has its element, its kind and number, and says whether it is about a channel, or has a number in its text.
+  // What can be found: each thing has its element, its kind, its number or numbers (`9–20`), and says whether it is about a channel.
   const things = () => {
     const memory = kind => row => ({ row, kind, number: row.id.split('-')[2], about: channel => Boolean(levelOf(row, channel)) });
-    const dimmer = row => ({ row, kind: 'dimmer', number: row.id.split('-')[2], text: row.getAttribute('aria-label'),
+    const dimmer = row => ({ row, kind: 'dimmer', number: row.querySelector('b').textContent, text: row.getAttribute('aria-label'),
       about: channel => row.querySelector('span')?.textContent === String(channel) });
     const line = kind => row => ({ row, kind, number: row.firstElementChild.textContent, about: () => false, worded: true });
     return [
@@ -29,20 +32,25 @@
       ...all('#reports tbody tr').map(line('report')), ...all('#stream tbody tr').map(line('record')),
     ];
   };
+  const covers = (numbers, number) => {
+    const { first, last } = ends(numbers);
+    return first <= number && number <= last;
+  };
 
   // `channel 33`, `cue 4.5`, `33`: a number, of a kind or of any. All else is looked for as text.
-  const kinds = { cue: 'cue', group: 'group', sub: 'submaster', ch: 'channel', dim: 'dimmer', rec: 'record' };
+  const kinds = { cue: ['cue'], group: ['group'], sub: ['submaster'], ch: [], dim: ['dimmer'], rec: ['record', 'report'] };
   const asked = query => {
-    const [, word, number] = /^(?:(cue|group|sub|ch|dim|rec)[a-z]*\s*)?(\d+(?:\.\d)?)$/i.exec(query) || [];
+    const [, word = '', number] = /^(?:(cue|group|sub|ch|dim|rec)[a-z]*\s*)?(\d+(?:\.\d)?)$/i.exec(query) || [];
     if (!number) {
       const text = query.toLowerCase();
       return thing => (thing.text || thing.row.textContent).toLowerCase().includes(text);
     }
-    const kind = word && kinds[word.toLowerCase()];
+    const kind = word.toLowerCase();
+    const named = kind ? kinds[kind] : Object.values(kinds).flat();
     const among = new RegExp(`(^|[^\\w.])${number.replace('.', '\\.')}(?![\\w.])`);
-    return thing => thing.number === number && (!kind || kind === thing.kind || (kind === 'record' && thing.kind === 'report'))
-      || (!kind || kind === 'channel') && thing.about(+number)
-      || kind !== 'record' && Boolean(thing.worded) && among.test(thing.row.querySelector('code')?.textContent || '');
+    return thing => named.includes(thing.kind) && covers(thing.number, +number)
+      || (!kind || kind === 'ch') && thing.about(+number)
+      || kind !== 'rec' && Boolean(thing.worded) && among.test(thing.row.querySelector('.received')?.textContent || '');
   };
 
   const plural = (count, kind) => `${count} ${kind}${count === 1 ? '' : 's'}`;
@@ -107,7 +115,7 @@
     at.channel = Math.max(1, Math.min(grid.columns, channel));
     const [, page, number] = rows[at.row].id.split('-');
     const run = levelOf(rows[at.row], at.channel);
-    byId('readout').textContent = `cue ${number}, page ${page} \u00b7 channel ${at.channel} \u00b7 ${run ? `${run.percent}%  ${run.hex}` : 'out'}`;
+    byId('readout').textContent = `cue ${number}, page ${page} \u00b7 channel ${at.channel} \u00b7 ${run ? `${run.level.textContent}%  ${run.level.title}` : 'out'}`;
     drawn('cursor', grid.left + (at.channel - 1) * grid.width, grid.top + at.row * grid.height, grid.width, grid.height);
   };
   plot.addEventListener('pointermove', event => {

@@ -7,7 +7,10 @@ use std::collections::BTreeMap;
 /// The stream ends with no ENDDATA: a report of no record.
 const NO_ENDDATA: u32 = 100;
 
-/// From this many reports on, they are first told by condition.
+/// The most channels that a desk can have.
+const MOST_CHANNELS: u32 = 512;
+
+/// From this many reports on, they may first be told by condition.
 const MANY_REPORTS: usize = 8;
 
 /// A stream of more records is folded up at first.
@@ -32,22 +35,25 @@ pub fn reports(show: &Show) -> String {
 
 /// Where a larger desk would help.
 fn channels(show: &Show) -> String {
-    match show.channels_asked() {
-        None => String::new(),
-        Some(asked) => {
-            let has = counted(show.desk.channels as usize, "channel");
-            format!("<p class=\"advice\">The show asks for channel {asked}, and this desk has {has}. Try it on a larger one with <code>--desk</code>.</p>\n")
+    let Some(asked) = show.channels_asked() else { return String::new() };
+    let has = counted(show.desk.channels as usize, "channel");
+    let advice = match asked {
+        ..=MOST_CHANNELS => {
+            format!("The show asks for channel {asked}, and this desk has {has}: try a larger one with <code>--desk</code>.")
         }
-    }
+        _ => format!("The show asks for channels above {MOST_CHANNELS}, which no desk has; this one has {has}."),
+    };
+    format!("<p class=\"advice\">{advice}</p>\n")
 }
 
+/// Where conditions come again and again.
 fn by_condition(show: &Show) -> String {
-    if show.reports.len() < MANY_REPORTS {
-        return String::new();
-    }
     let mut counts: BTreeMap<u32, usize> = BTreeMap::new();
     for report in &show.reports {
         *counts.entry(report.condition).or_default() += 1;
+    }
+    if show.reports.len() < MANY_REPORTS.max(2 * counts.len()) {
+        return String::new();
     }
     let items = counts.into_iter().map(|(number, count)| format!("<li><b>{}</b> {}</li>\n", grouped(count), condition(number)));
     format!("<ul class=\"counts\" aria-label=\"Reports by condition\">\n{}</ul>\n", items.collect::<String>())
@@ -62,7 +68,7 @@ fn row(report: &Report, records: &[&[u8]]) -> String {
     let (n, column) = (report.record, if report.column == 0 { String::new() } else { report.column.to_string() });
     let text = received(record, &[report.column]);
     format!("<tr class=\"{class}\"><th scope=\"row\"><a href=\"#record-{n}\">{n}</a></th><td>{column}</td><td>{condition}</td>")
-        + &format!("<td><code>{text}</code></td></tr>\n")
+        + &format!("<td class=\"received\">{text}</td></tr>\n")
 }
 
 /// The record that a report is of.
@@ -141,7 +147,10 @@ fn line(n: usize, record: &[u8], own: &[Report]) -> String {
         Some(kind) => format!(" class=\"{kind}\""),
     };
     let beside = if own.is_empty() { String::new() } else { beside(own) };
-    format!("<tr id=\"record-{n}\"{class}><th scope=\"row\">{n}</th><td><code>{}</code></td>{beside}</tr>\n", received(record, &columns))
+    format!(
+        "<tr id=\"record-{n}\"{class}><th scope=\"row\">{n}</th><td class=\"received\">{}</td>{beside}</tr>\n",
+        received(record, &columns)
+    )
 }
 
 fn beside(own: &[Report]) -> String {

@@ -80,7 +80,7 @@ fn the_outcome_in_words() {
     let shows = samples();
     assert_eq!(words(&shows[0]), "Loaded with 2 reports.");
     assert_eq!(words(&shows[1]), "Loaded with no report.");
-    assert_eq!(words(&shows[3]), "Loaded, but the stream breaks off.");
+    assert_eq!(words(&shows[3]), "Loaded with 16 reports.");
     assert_eq!(words(&shows[5]), format!("The load stopped at record {}.", shows[5].totals.records()));
     assert!(page(&shows[0]).contains("closing number <span class=\"number\">0043-W</span> Page out of range"));
 }
@@ -136,5 +136,5 @@ fn shows_of_nothing() {
     assert!(text.contains("The stream has no record.") && text.contains("No cue is kept.") && text.contains("No dimmer is patched"));
     assert!(part(&text, "reports").contains("0100-E"));
     let text = of(&[b'\n'; 5000]);
-    assert!(part(&text, "stream").contains("<th scope=\"row\">1-5000</th><td>5,000 empty records</td>"));
+    assert!(part(&text, "stream").contains("<th scope=\"row\">1–\u{2060}5000</th><td>5,000 empty records</td>"));
 }

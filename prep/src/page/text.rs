@@ -91,12 +91,12 @@ pub fn grouped(count: usize) -> String {
     text
 }
 
-/// `4`, or `4-6`.
+/// `4`, or `4–6` with a joiner that keeps it in one line.
 pub fn range(from: usize, to: usize) -> String {
     if from == to {
         from.to_string()
     } else {
-        format!("{from}-{to}")
+        format!("{from}\u{2013}\u{2060}{to}")
     }
 }
 
@@ -132,6 +132,6 @@ mod tests {
             (counted(1, "cue"), counted(0, "cue"), counted(262_143, "byte")),
             ("1 cue".into(), "0 cues".into(), "262,143 bytes".into())
         );
-        assert_eq!((range(4, 4), range(4, 6)), ("4".into(), "4-6".into()));
+        assert_eq!((range(4, 4), range(4, 6)), ("4".into(), "4–\u{2060}6".into()));
     }
 }

@@ -71,6 +71,19 @@ impl Scale {
     }
 }
 
+/// What the shapes mean.
+pub fn key(follows: bool) -> String {
+    let shapes = "<path class=\"wait\" d=\"M0 10H10\"/><path class=\"up\" d=\"M10 11H30V1z\"/><path class=\"wait\" d=\"M0 22H6\"/>\
+                  <path class=\"down\" d=\"M6 13V23H26z\"/>";
+    let (flag, words) = match follows {
+        true => ("<path class=\"follow\" d=\"M36 0V24\"/><path class=\"flag\" d=\"M36 0h5l-5 5z\"/>", ", a flag for the follow-on"),
+        false => ("", ""),
+    };
+    let drawing =
+        format!("<svg class=\"times\" width=\"42\" height=\"24\" viewBox=\"0 0 42 24\" aria-hidden=\"true\">{shapes}{flag}</svg>");
+    format!(" <span class=\"key drawing\">{drawing} up above, down below, dots for a delay{words}</span>")
+}
+
 /// The same is beside it as text, so that a drawing is for the eye alone.
 fn drawing(inside: &str) -> String {
     format!(
