@@ -87,23 +87,24 @@ fn name(name: &str) -> String {
 
 /// The closing number in plain words: how it looks, what came of the load, and what that means.
 fn outcome(show: &Show) -> (&'static str, String, &'static str) {
-    let reports = counted(show.reports.len(), "report");
-    match show.totals.closing {
-        0 if show.totals.passed == 0 => ("clean", "Loaded with no report.".into(), "All of the stream is kept."),
-        0 => ("clean", "Loaded with no report.".into(), "All that a desk reads is kept; see what was passed over."),
+    let Totals { passed, closing, .. } = show.totals;
+    let with_reports = format!("Loaded with {}.", counted(show.reports.len(), "report"));
+    match closing {
+        0 if passed == 0 => ("clean", "Loaded with no report.".into(), "Nothing was dropped or passed over."),
+        0 => ("clean", "Loaded with no report.".into(), "Nothing was dropped; see below what was passed over."),
         91 | 99 => {
             let stopped = format!("The load stopped at record {}.", show.totals.records());
             ("error", stopped, "What was read before it is kept; the rest of the stream was not read.")
         }
-        100 => ("error", format!("Loaded with {reports}."), "The stream has no ENDDATA: the end of the show may be missing."),
-        _ => ("warning", format!("Loaded with {reports}."), "What they blame was dropped or ignored; the rest is kept."),
+        100 => ("error", with_reports, "The stream has no ENDDATA: the end of the show may be missing."),
+        _ => ("warning", with_reports, "What they blame was dropped or ignored; the rest is kept."),
     }
 }
 
 fn desk(desk: Desk) -> String {
     let pages = |count: u32| counted(count as usize, "page");
     let of = |count: u32, thing: &str| counted(count as usize, thing);
-    let named = if desk == Desk::HOUSE { "The house small desk: " } else { "A desk of " };
+    let named = if desk == Desk::HOUSE { "The house small desk: " } else { "A desk with " };
     let mut has = vec![of(desk.channels, "channel"), of(desk.dimmers, "dimmer"), of(desk.cues, "cue") + " on " + &pages(desk.cue_pages)];
     has.push(if desk.groups == 0 { "no groups".into() } else { of(desk.groups, "group") + " on " + &pages(desk.group_pages) });
     let submasters = || of(desk.submasters, "submaster") + " on " + &pages(desk.submaster_pages);

@@ -33,33 +33,34 @@ pub fn section(kind: &Kind, memories: &[Memory]) -> String {
 }
 
 fn legend(kind: &Kind) -> String {
-    let times = match kind.timed {
-        true => "Times are seconds, minutes:seconds or hours:minutes:seconds; a dash is a time that was not given. ",
-        false => "",
-    };
-    format!(
-        "<p class=\"legend\">{times}Levels are channel@percent.{}</p>\n",
-        if kind.timed { times::key(kind.linked) } else { String::new() }
-    )
+    let levels = "Levels as channel@percent.";
+    let times = "Times as seconds, m:s or h:m:s; a dash is a time that was not given.";
+    match kind.timed {
+        true => format!("<p class=\"legend\">{times} {levels} {}</p>\n", times::key(kind.linked)),
+        false => format!("<p class=\"legend\">{levels}</p>\n"),
+    }
 }
 
 fn table(kind: &Kind, memories: &[Memory]) -> String {
     let scale = Scale::of(memories);
     let long = if LONG < memories.len() { " long" } else { "" };
     let mut text = format!("<table class=\"memories {}{long}\">\n{}", kind.id, columns(kind, &scale));
+    let on_page_1_alone = memories.iter().all(|m| m.page == 1);
     for page in memories.chunk_by(|a, b| a.page == b.page) {
         text += "<tbody>\n";
-        if memories[0].page != 1 || memories[0].page != memories[memories.len() - 1].page {
-            let count = counted(page.len(), kind.one);
-            text += &format!(
-                "<tr class=\"page\"><th scope=\"rowgroup\" colspan=\"7\">Page {} <small>{count}</small></th></tr>\n",
-                page[0].page
-            );
+        if !on_page_1_alone {
+            text += &page_row(kind, page);
         }
         text.extend(page.iter().map(|memory| row(kind, memory, page, &scale)));
         text += "</tbody>\n";
     }
     text + "</table>\n"
+}
+
+fn page_row(kind: &Kind, page: &[Memory]) -> String {
+    let columns = 2 + if kind.timed { 3 } else { 0 } + if kind.linked { 2 } else { 0 };
+    let name = format!("Page {} <small>{}</small>", page[0].page, counted(page.len(), kind.one));
+    format!("<tr class=\"page\"><th scope=\"rowgroup\" colspan=\"{columns}\">{name}</th></tr>\n")
 }
 
 fn columns(kind: &Kind, scale: &Scale) -> String {

@@ -21,11 +21,11 @@ const MANY_EMPTY: usize = 3;
 
 /// What was dropped, and why.
 pub fn reports(show: &Show) -> String {
-    let heading = "<section id=\"reports\" aria-labelledby=\"reports-title\">\n<h2 id=\"reports-title\">What was dropped, and why</h2>\n";
+    let heading = "aria-labelledby=\"reports-title\">\n<h2 id=\"reports-title\">What was dropped, and why</h2>\n";
     if show.reports.is_empty() {
-        return format!("{heading}<p>Nothing: there is no report.</p>\n</section>\n");
+        return format!("<section id=\"reports\" class=\"none\" {heading}<p>Nothing: there is no report.</p>\n</section>\n");
     }
-    let mut text = format!("{heading}{}{}", channels(show), by_condition(show));
+    let mut text = format!("<section id=\"reports\" {heading}{}{}", channels(show), by_condition(show));
     text += "<table class=\"reports\">\n<thead><tr><th scope=\"col\">record</th><th scope=\"col\">column</th>";
     text += "<th scope=\"col\">condition</th><th scope=\"col\">the record as received</th></tr></thead>\n<tbody>\n";
     let records = show.records();

@@ -81,7 +81,7 @@ pub fn key(follows: bool) -> String {
     };
     let drawing =
         format!("<svg class=\"times\" width=\"42\" height=\"24\" viewBox=\"0 0 42 24\" aria-hidden=\"true\">{shapes}{flag}</svg>");
-    format!(" <span class=\"key drawing\">{drawing} up above, down below, dots for a delay{words}</span>")
+    format!("<span class=\"key drawing\">{drawing} up above, down below, dots for a delay{words}</span>")
 }
 
 /// The same is beside it as text, so that a drawing is for the eye alone.
