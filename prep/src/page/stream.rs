@@ -13,8 +13,14 @@ const MOST_CHANNELS: u32 = 512;
 /// From this many reports on, they may first be told by condition.
 const MANY_REPORTS: usize = 8;
 
+/// The most records with reports that are listed ahead of the show; the others stand in the stream.
+const MOST_REPORTED: usize = 500;
+
 /// A stream of more records is folded up at first.
 const MANY_RECORDS: usize = 400;
+
+/// The most lines of a stream that are listed: a browser has to open the page.
+const MOST_LINES: usize = 20_000;
 
 /// Empty records that follow one another, from this many on, are one line.
 const MANY_EMPTY: usize = 3;
@@ -25,12 +31,23 @@ pub fn reports(show: &Show) -> String {
     if show.reports.is_empty() {
         return format!("<section id=\"reports\" class=\"none\" {heading}<p>Nothing: there is no report.</p>\n</section>\n");
     }
+    let (records, reported) = (show.records(), by_record(&show.reports));
     let mut text = format!("<section id=\"reports\" {heading}{}{}", channels(show), by_condition(show));
-    text += "<table class=\"reports\">\n<thead><tr><th scope=\"col\">record</th><th scope=\"col\">column</th>";
-    text += "<th scope=\"col\">condition</th><th scope=\"col\">the record as received</th></tr></thead>\n<tbody>\n";
-    let records = show.records();
-    text.extend(show.reports.iter().map(|report| row(report, &records)));
-    text + "</tbody>\n</table>\n</section>\n"
+    text += "<table class=\"lines\">\n<thead><tr><th scope=\"col\">record</th><th scope=\"col\">as received</th>";
+    text += "<th scope=\"col\">condition</th></tr></thead>\n<tbody>\n";
+    text.extend(reported.iter().take(MOST_REPORTED).map(|own| report_row(own, &records)));
+    text += "</tbody>\n</table>\n";
+    if MOST_REPORTED < reported.len() {
+        let more = counted(reported.len() - MOST_REPORTED, "more record");
+        text += &format!("<p class=\"more\">There are reports of {more}: see them beside the <a href=\"#stream\">stream</a>.</p>\n");
+    }
+    text + "</section>\n"
+}
+
+/// The reports of each record together; that of the stream's end is by itself.
+fn by_record(reports: &[Report]) -> Vec<&[Report]> {
+    let of = |r: &Report| (r.record, r.condition == NO_ENDDATA);
+    reports.chunk_by(|a, b| of(a) == of(b)).collect()
 }
 
 /// Where a larger desk would help.
@@ -59,16 +76,17 @@ fn by_condition(show: &Show) -> String {
     format!("<ul class=\"counts\" aria-label=\"Reports by condition\">\n{}</ul>\n", items.collect::<String>())
 }
 
-fn row(report: &Report, records: &[&[u8]]) -> String {
-    let class = kind(report.condition);
-    let condition = condition(report.condition);
-    let Some(record) = record_of(report, records) else {
-        return format!("<tr class=\"{class}\"><th scope=\"row\">end</th><td></td><td>{condition}</td><td></td></tr>\n");
-    };
-    let (n, column) = (report.record, if report.column == 0 { String::new() } else { report.column.to_string() });
-    let text = received(record, &[report.column]);
-    format!("<tr class=\"{class}\"><th scope=\"row\"><a href=\"#record-{n}\">{n}</a></th><td>{column}</td><td>{condition}</td>")
-        + &format!("<td class=\"received\">{text}</td></tr>\n")
+fn report_row(own: &[Report], records: &[&[u8]]) -> String {
+    let (n, class, told) = (own[0].record, worst(own), told(own));
+    match record_of(&own[0], records) {
+        None => format!("<tr class=\"{class}\"><th scope=\"row\">end</th><td></td><td>{told}</td></tr>\n"),
+        Some(record) => {
+            let listed = n as usize <= MOST_LINES;
+            let name = if listed { format!("<a href=\"#record-{n}\">{n}</a>") } else { n.to_string() };
+            let text = received(record, &columns(own));
+            format!("<tr class=\"{class}\"><th scope=\"row\">{name}</th><td class=\"received\">{text}</td><td>{told}</td></tr>\n")
+        }
+    }
 }
 
 /// The record that a report is of.
@@ -77,10 +95,37 @@ fn record_of<'a>(report: &Report, records: &[&'a [u8]]) -> Option<&'a [u8]> {
     records.get(place).copied().filter(|_| report.condition != NO_ENDDATA)
 }
 
-fn kind(condition: u32) -> &'static str {
-    match severity(condition) {
-        'E' => "error",
-        _ => "warning",
+fn columns(own: &[Report]) -> Vec<u32> {
+    own.iter().map(|r| r.column).collect()
+}
+
+/// `error` where one of the reports is one.
+fn worst(own: &[Report]) -> &'static str {
+    match own.iter().any(|r| severity(r.condition) == 'E') {
+        true => "error",
+        false => "warning",
+    }
+}
+
+/// The conditions of a record, each with its columns. Column 0 is none: what is blamed is missing, or is no field.
+fn told(own: &[Report]) -> String {
+    let mut conditions: Vec<(u32, Vec<u32>)> = Vec::new();
+    for r in own {
+        let place = conditions.iter().position(|(condition, columns)| *condition == r.condition && columns[0] != 0 && r.column != 0);
+        match place {
+            Some(place) => conditions[place].1.push(r.column),
+            None => conditions.push((r.condition, vec![r.column])),
+        }
+    }
+    conditions.iter().map(|(number, columns)| format!("<div class=\"report\">{}{}</div>", condition(*number), at(columns))).collect()
+}
+
+fn at(columns: &[u32]) -> String {
+    let list: Vec<String> = columns.iter().map(u32::to_string).collect();
+    match columns {
+        [0] => String::new(),
+        [_] => format!(" <small>column {}</small>", list[0]),
+        _ => format!(" <small>columns {}</small>", list.join(", ")),
     }
 }
 
@@ -91,10 +136,10 @@ pub fn passed(show: &Show) -> String {
     if passed.is_empty() {
         return format!("{heading}<p>Nothing: every record was of a kind that is read.</p>\n</section>\n");
     }
-    let names = passed.iter().any(|p| p.keyword.eq_ignore_ascii_case("TEXT"));
     let mut text = heading.to_string();
-    if names {
-        text += "<p class=\"advice\">Cue names are among it: TEXT is passed over, and <strong>no name of a cue, group or submaster is kept</strong>.</p>\n";
+    if passed.iter().any(|p| p.keyword == "TEXT") {
+        text += "<p class=\"advice\">Cue names are among it: TEXT is passed over, and <strong>no name of a cue, group or submaster ";
+        text += "is kept</strong>.</p>\n";
     }
     text += "<table class=\"passed\">\n<thead><tr><th scope=\"col\">keyword</th><th scope=\"col\">records</th></tr></thead>\n<tbody>\n";
     for p in passed {
@@ -112,55 +157,64 @@ pub fn stream(show: &Show) -> String {
     }
     let open = if records.len() <= MANY_RECORDS { " open" } else { "" };
     let count = format!("{}, {}", counted(records.len(), "record"), counted(show.stream.len(), "byte"));
-    let mut text = format!("{heading}<details{open}>\n<summary>{count}</summary>\n<table class=\"records\">\n<thead><tr>");
+    let mut text = format!("{heading}<details{open}>\n<summary>{count}</summary>\n<table class=\"lines\">\n<thead><tr>");
     text += "<th scope=\"col\">record</th><th scope=\"col\">as received</th><th scope=\"col\">reports</th></tr></thead>\n<tbody>\n";
     text += &lines(show, &records);
-    text + "</tbody>\n</table>\n</details>\n</section>\n"
+    text + "</tbody>\n</table>\n</details>\n" + &unread(show, &records) + "</section>\n"
 }
 
 fn lines(show: &Show, records: &[&[u8]]) -> String {
-    let (mut text, mut reports, mut at) = (String::new(), &show.reports[..], 0);
-    while at < records.len() {
+    let reported = by_record(&show.reports);
+    let (mut text, mut next, mut at, mut room) = (String::new(), reported.iter().peekable(), 0, MOST_LINES);
+    while at < records.len() && 0 < room {
         let n = at + 1;
         let empty = records[at..].iter().take_while(|record| record.is_empty()).count();
         if MANY_EMPTY <= empty {
-            text += &format!("<tr class=\"empty\" id=\"record-{n}\"><th scope=\"row\">{}</th><td>", range(n, at + empty));
-            text += &format!("{}</td></tr>\n", counted(empty, "empty record"));
+            let numbers = range(n, at + empty);
+            text += &format!("<tr class=\"empty\"><th scope=\"row\">{numbers}</th><td>{}</td></tr>\n", counted(empty, "empty record"));
             at += empty;
-            continue;
+        } else {
+            text += &match next.next_if(|own| own[0].record as usize == n && own[0].condition != NO_ENDDATA) {
+                Some(own) => reported_line(n, records[at], own),
+                None => line(n, records[at]),
+            };
+            at = n;
         }
-        let count = reports.iter().take_while(|r| r.record as usize == n && r.condition != NO_ENDDATA).count();
-        let (own, rest) = reports.split_at(count);
-        text += &line(n, records[at], own);
-        (reports, at) = (rest, n);
+        room -= 1;
     }
-    text.extend(
-        reports.iter().map(|r| format!("<tr class=\"{}\"><th scope=\"row\">end</th><td></td>{}</tr>\n", kind(r.condition), beside(&[*r]))),
-    );
+    if at < records.len() {
+        let (more, listed) = (grouped(records.len() - at), "<code>prep sheet</code> lists their reports");
+        return text
+            + &format!("<tr class=\"empty\"><th scope=\"row\">\u{2026}</th><td>{more} more are in the file itself; {listed}.</td></tr>\n");
+    }
+    text.extend(next.map(|own| format!("<tr class=\"{}\"><th scope=\"row\">end</th><td></td><td>{}</td></tr>\n", worst(own), told(own))));
     text
 }
 
-fn line(n: usize, record: &[u8], own: &[Report]) -> String {
-    let columns: Vec<u32> = own.iter().map(|r| r.column).collect();
-    let class = match own.iter().map(|r| kind(r.condition)).min() {
-        None => String::new(),
-        Some(kind) => format!(" class=\"{kind}\""),
-    };
-    let beside = if own.is_empty() { String::new() } else { beside(own) };
+fn line(n: usize, record: &[u8]) -> String {
+    format!("<tr id=\"record-{n}\"><th scope=\"row\">{n}</th><td class=\"received\">{}</td></tr>\n", received(record, &[]))
+}
+
+fn reported_line(n: usize, record: &[u8], own: &[Report]) -> String {
+    let (class, text) = (worst(own), received(record, &columns(own)));
     format!(
-        "<tr id=\"record-{n}\"{class}><th scope=\"row\">{n}</th><td class=\"received\">{}</td>{beside}</tr>\n",
-        received(record, &columns)
+        "<tr id=\"record-{n}\" class=\"{class}\"><th scope=\"row\">{n}</th><td class=\"received\">{text}</td><td>{}</td></tr>\n",
+        told(own)
     )
 }
 
-fn beside(own: &[Report]) -> String {
-    let texts: Vec<String> = own.iter().map(|r| condition(r.condition) + &at_column(r.column)).collect();
-    format!("<td>{}</td>", texts.join("<br>"))
-}
-
-fn at_column(column: u32) -> String {
-    match column {
+/// What stands behind the record that ended the load.
+fn unread(show: &Show, records: &[&[u8]]) -> String {
+    let Some(last) = records.last() else { return String::new() };
+    let end = last.as_ptr() as usize - show.stream.as_ptr() as usize + last.len();
+    let rest = match &show.stream[end..] {
+        [b'\r', b'\n', rest @ ..] | [b'\n', b'\r', rest @ ..] | [_, rest @ ..] | rest => rest,
+    };
+    match rest.len() {
         0 => String::new(),
-        column => format!(" <small>column {column}</small>"),
+        behind => {
+            let bytes = counted(behind, "byte");
+            format!("<p class=\"more\">{bytes} behind record {}, where the load ended, were not read.</p>\n", records.len())
+        }
     }
 }

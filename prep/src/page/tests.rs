@@ -29,19 +29,57 @@ fn part<'a>(text: &'a str, id: &str) -> &'a str {
     &text[from..from + text[from..].find("</section>").unwrap()]
 }
 
+/// The row of a table, from what begins it.
+fn row<'a>(text: &'a str, begins: &str) -> &'a str {
+    let from = text.find(begins).unwrap_or_else(|| panic!("no {begins}"));
+    &text[from..from + text[from..].find("</tr>").unwrap()]
+}
+
+/// Beside its record in the stream, and ahead of the show; with its column, where it has one.
 #[test]
 fn every_report_is_shown_twice() {
     for show in samples() {
         let text = page(&show);
-        let rows = part(&text, "reports").matches("<tr class=").count();
-        assert_eq!(rows, show.reports.len(), "{}", show.name);
-        assert_eq!(part(&text, "stream").matches("class=\"number\"").count(), show.reports.len(), "{}", show.name);
+        for report in &show.reports {
+            let (listed, beside) = match report.condition {
+                100 => (">end<".to_string(), ">end<".to_string()),
+                _ => (format!("#record-{}\"", report.record), format!("id=\"record-{}\"", report.record)),
+            };
+            for row in [row(part(&text, "reports"), &listed), row(part(&text, "stream"), &beside)] {
+                let told = &row[row.find(&condition(report.condition)).expect("the condition is in its row")..];
+                let columns = &told[..told.find("</div>").unwrap()];
+                let listed = columns.split(|c: char| !c.is_ascii_digit()).any(|n| n == report.column.to_string());
+                assert!(report.column == 0 || listed, "{report:?} of {} is in {row}", show.name);
+            }
+        }
         let marks = show.reports.iter().filter(|r| r.column > 0).count();
         assert_eq!(part(&text, "reports").matches("<mark>").count(), marks, "{}", show.name);
         assert_eq!(part(&text, "stream").matches("<mark>").count(), marks, "{}", show.name);
-        for report in &show.reports {
-            assert!(text.contains(&condition(report.condition)), "{} lacks {report:?}", show.name);
-        }
+    }
+}
+
+/// A show for a larger desk: thousands of channels out of range still make a page that opens.
+#[test]
+fn reports_by_the_thousand() {
+    let mut stream = String::from("CUE 1\n");
+    for _ in 0..3000 {
+        stream += "CHAN 101@50 102@50 103@50 104@50\n";
+    }
+    let text = of(stream.as_bytes());
+    assert!(text.contains("<b>12,000</b> <span class=\"number\">0201-W</span>") && text.contains("asks for channel 104"));
+    assert_eq!(part(&text, "reports").matches("<tr class=\"warning\">").count() + 1, 501);
+    assert!(text.contains("There are reports of 2,501 more records"));
+    assert_eq!(part(&text, "stream").matches("<small>columns 6, 13, 20, 27</small>").count(), 3000);
+    let text = of("X\n".repeat(131_000).as_bytes());
+    assert!(text.len() < 6_000_000 && text.contains("111,000 more are in the file itself"), "{} bytes", text.len());
+}
+
+#[test]
+fn what_is_not_read_is_told() {
+    assert!(of(b"CUE 1\r\nENDDATA\r\nCUE 2\r\n").contains("7 bytes behind record 2, where the load ended, were not read."));
+    assert!(of(b"IDENT 2:0\nCUE 1\nENDDATA\n").contains("14 bytes behind record 1, "));
+    for whole in [&b"CUE 1\nENDDATA\n"[..], b"CUE 1\r\nENDDATA\r\n", b"CUE 1\nENDDATA", b"CUE 1\n"] {
+        assert!(!of(whole).contains("were not read"));
     }
 }
 
