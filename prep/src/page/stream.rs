@@ -69,7 +69,7 @@ fn by_condition(show: &Show) -> String {
     for report in &show.reports {
         *counts.entry(report.condition).or_default() += 1;
     }
-    if show.reports.len() < MANY_REPORTS.max(2 * counts.len()) {
+    if show.reports.len() < MANY_REPORTS.max(3 * counts.len()) {
         return String::new();
     }
     let items = counts.into_iter().map(|(number, count)| format!("<li><b>{}</b> {}</li>\n", grouped(count), condition(number)));
