@@ -88,8 +88,10 @@ fn name(name: &str) -> String {
 /// The closing number in plain words: how it looks, what came of the load, and what that means.
 fn outcome(show: &Show) -> (&'static str, String, &'static str) {
     let Totals { passed, closing, .. } = show.totals;
+    let unread = stream::unread(show) != 0;
     let with_reports = format!("Loaded with {}.", counted(show.reports.len(), "report"));
     match closing {
+        0 if unread => ("clean", "Loaded with no report.".into(), "What stands behind ENDDATA was not read."),
         0 if passed == 0 => ("clean", "Loaded with no report.".into(), "Nothing was dropped or passed over."),
         0 => ("clean", "Loaded with no report.".into(), "Nothing was dropped; see below what was passed over."),
         91 | 99 => {

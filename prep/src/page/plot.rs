@@ -1,5 +1,5 @@
-//! The plot of levels, cues downwards and channels across, as one drawing: a path for each level, so that a show of 600 cues is a few hundred
-//! elements. The script adds a readout to it; without scripts it is all there.
+//! The plot of levels, cues downwards and channels across, as one drawing: a path for each level, so that a show of 600 cues is a few
+//! hundred elements. The script adds a readout to it; without scripts it is all there.
 use super::text::counted;
 use sphairune::{percent, Memory};
 use std::collections::BTreeMap;

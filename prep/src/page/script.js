@@ -122,7 +122,8 @@
     at.channel = Math.max(1, Math.min(grid.columns, channel));
     const [, page, number] = rows[at.row].id.split('-');
     const level = levelOf(rows[at.row], at.channel);
-    readout.textContent = `cue ${number}, page ${page} \u00b7 channel ${at.channel} \u00b7 ${level ? `${level.textContent}% ${level.title}` : 'out'}`;
+    const shown = level ? `${level.textContent}% ${level.title}` : 'out';
+    readout.textContent = `cue ${number}, page ${page} \u00b7 channel ${at.channel} \u00b7 ${shown}`;
     drawn('cursor', grid.left + (at.channel - 1) * grid.width, grid.top + at.row * grid.height, grid.width, grid.height);
   };
   plot.addEventListener('pointermove', event => {

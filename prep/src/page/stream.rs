@@ -160,7 +160,7 @@ pub fn stream(show: &Show) -> String {
     let mut text = format!("{heading}<details{open}>\n<summary>{count}</summary>\n<table class=\"lines\">\n<thead><tr>");
     text += "<th scope=\"col\">record</th><th scope=\"col\">as received</th><th scope=\"col\">reports</th></tr></thead>\n<tbody>\n";
     text += &lines(show, &records);
-    text + "</tbody>\n</table>\n</details>\n" + &unread(show, &records) + "</section>\n"
+    text + "</tbody>\n</table>\n</details>\n" + &unread_line(show) + "</section>\n"
 }
 
 fn lines(show: &Show, records: &[&[u8]]) -> String {
@@ -203,18 +203,21 @@ fn reported_line(n: usize, record: &[u8], own: &[Report]) -> String {
     )
 }
 
-/// What stands behind the record that ended the load.
-fn unread(show: &Show, records: &[&[u8]]) -> String {
-    let Some(last) = records.last() else { return String::new() };
+/// How many bytes stand behind the record that ended the load.
+pub fn unread(show: &Show) -> usize {
+    let Some(last) = show.records().pop() else { return 0 };
     let end = last.as_ptr() as usize - show.stream.as_ptr() as usize + last.len();
-    let rest = match &show.stream[end..] {
-        [b'\r', b'\n', rest @ ..] | [b'\n', b'\r', rest @ ..] | [_, rest @ ..] | rest => rest,
-    };
-    match rest.len() {
+    match &show.stream[end..] {
+        [b'\r', b'\n', rest @ ..] | [b'\n', b'\r', rest @ ..] | [_, rest @ ..] | rest => rest.len(),
+    }
+}
+
+fn unread_line(show: &Show) -> String {
+    match unread(show) {
         0 => String::new(),
         behind => {
-            let bytes = counted(behind, "byte");
-            format!("<p class=\"more\">{bytes} behind record {}, where the load ended, were not read.</p>\n", records.len())
+            let (bytes, last) = (counted(behind, "byte"), grouped(show.totals.records() as usize));
+            format!("<p class=\"more\">Not read: {bytes} behind record {last}, where the load ended.</p>\n")
         }
     }
 }
