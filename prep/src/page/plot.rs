@@ -94,7 +94,7 @@ fn step(size: usize, least: usize) -> usize {
 
 fn channel_names(grid: &Grid) -> String {
     let step = step(grid.width, 24);
-    let channels = (1..=grid.columns).filter(|&channel| channel % step == 0 || channel == 1);
+    let channels = (1..=grid.columns).filter(|&channel| channel % step == 0 || channel == 1 && step != 2);
     let name = |channel| {
         let middle = LEFT * 2 + (2 * channel - 1) * grid.width;
         format!("<text class=\"channel\" x=\"{}\" y=\"{}\">{channel}</text>\n", middle as f64 / 2.0, TOP - 7)

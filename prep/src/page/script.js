@@ -100,9 +100,20 @@
       event.preventDefault();
       box.focus();
     } else if (event.key === 'Escape' && box.value) {
-      box.value = '';
-      search('');
+      clear();
     }
+  });
+  // A link leads to what the search has hidden, too.
+  const clear = () => {
+    box.value = '';
+    search('');
+  };
+  const reveal = id => {
+    if (byId(id)?.closest('[hidden]')) clear();
+  };
+  addEventListener('click', event => {
+    const link = event.target.closest('a[href^="#"]');
+    if (link) reveal(link.hash.slice(1));
   });
   byId('finder').hidden = false;
 
@@ -132,7 +143,10 @@
     const channel = Math.floor((event.clientX - left - grid.left) / grid.width) + 1;
     if (within({ first: 0, last: grid.rows - 1 }, row) && within({ first: 1, last: grid.columns }, channel)) point(row, channel);
   });
-  const lead = () => { location.hash = rows[at.row].id; };
+  const lead = () => {
+    reveal(rows[at.row].id);
+    location.hash = rows[at.row].id;
+  };
   plot.addEventListener('click', lead);
   plot.addEventListener('keydown', event => {
     const [down, across] = { ArrowUp: [-1, 0], ArrowDown: [1, 0], ArrowLeft: [0, -1], ArrowRight: [0, 1] }[event.key] || [];
