@@ -90,3 +90,36 @@ fn drawing(inside: &str) -> String {
         "<svg class=\"times\" width=\"{WIDTH}\" height=\"{HEIGHT}\" viewBox=\"0 0 {WIDTH} {HEIGHT}\" aria-hidden=\"true\">{inside}</svg>"
     )
 }
+
+#[cfg(test)]
+mod tests {
+    use super::*;
+    use sphairune::Number;
+
+    fn cue(up: Option<Fade>, down: Option<Fade>, followon: Option<u32>) -> Memory<'static> {
+        Memory { page: 1, number: Number { whole: 1, tenths: 0 }, link: None, up, down, followon, levels: &[] }
+    }
+
+    #[test]
+    fn shapes_end_where_their_times_do() {
+        let cues = [cue(Some(Fade { fade: 900, delay: 100 }), Some(Fade { fade: 0, delay: 0 }), Some(1000))];
+        let scale = Scale::of(&cues);
+        let (from, to) = (scale.place(100), scale.place(1000));
+        assert!(0.0 < from && from < to && to == WIDTH - 4.0);
+        let text = scale.drawn("cues", &cues[0]);
+        assert!(text.contains(&format!("<path class=\"wait\" d=\"M0 10H{from}\"/><path class=\"up\" d=\"M{from} 11H{to}V1z\"/>")));
+        assert!(text.contains("<path class=\"down\" d=\"M0 13h2.5V23h-2.5z\"/>"));
+        assert!(text.contains(&format!("<path class=\"follow\" d=\"M{to} 0V24\"/>")));
+        assert_eq!(scale.drawn("cues", &cue(None, None, None)), "");
+    }
+
+    #[test]
+    fn ticks_have_room_at_every_length() {
+        for longest in [0, 1, 50, 1_000, 36_000, 35_999_999, 71_999_998] {
+            let scale = Scale::of(&[cue(None, Some(Fade { fade: longest / 2, delay: longest - longest / 2 }), None)]);
+            let axis = scale.axis("cues");
+            let places: Vec<f64> = axis.split("class=\"tick\" x=\"").skip(1).map(|t| t[..t.find('"').unwrap()].parse().unwrap()).collect();
+            assert!(!places.is_empty() && places.windows(2).all(|two| TICK_ROOM <= two[1] - two[0]), "{longest}: {places:?}");
+        }
+    }
+}
