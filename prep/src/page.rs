@@ -145,7 +145,7 @@ fn figure(name: &str, count: usize, room: Option<u32>) -> String {
 /// The ways to the sections, and the search box, which the script shows.
 fn contents(show: &Show, kept: &Kept) -> String {
     let sections = [
-        ("reports", "Dropped", show.reports.len()),
+        ("reports", "Reports", show.reports.len()),
         ("passed", "Passed over", show.totals.passed as usize),
         ("cues", "Cues", kept.cues.len()),
         ("plot", "Levels", 0),
