@@ -12,10 +12,13 @@ use Rattle.store_desk.specs.Refusal.{Reply, replyWord}
 use Rattle.store_desk.proofs.Reply.{needed-mute}
 use Rattle.save.specs.Lines.{streamOf}
 use Rattle.show.specs.Calls.{writeCall}
-use Rattle.show.proofs.OneAnswer.{load-kept, write-kept, empty-kept, find-mute}
-use Rattle.show.proofs.Refusals.{Said, needed-said, empty-said, load-said, write-said, find-said, word-number, number-word}
-use Rattle.sphairune.specs.Calls.{deskOf, Exported, repliedIn, emptiedIn, loadedIn, writtenIn}
+use Rattle.show.proofs.OneAnswer.{load-kept, put-kept, write-kept, empty-kept, find-mute}
+use Rattle.show.proofs.Refusals.{Said, needed-said, empty-said, load-said, put-said, write-said, find-said, word-number, number-word}
+use Rattle.show_read.proofs.OneAnswer.{memories-kept, head-mute, levels-mute, patch-mute}
+use Rattle.show_read.proofs.Refusals.{memories-said, head-said, levels-said, patch-said}
+use Rattle.sphairune.specs.Calls.{deskOf, Exported, repliedIn, emptiedIn, loadedIn, writtenIn, listedIn}
 use Rattle.sphairune.specs.Calls.{NeededExport, EmptyExport, LoadExport, WriteExport, FindExport}
+use Rattle.sphairune.specs.Calls.{MemoriesExport, HeadExport, LevelsExport, PatchExport, TextExport}
 use Rattle.sphairune.proofs.Laws.{mute-list}
 
 -- the word and the list at a place
@@ -44,6 +47,26 @@ one-write limits s out l e f = (word-is (e ∙ sym f), list-is 0 (e ∙ sym f), 
 pub one-find : (limits s : List ℕ) (page whole tenths : ℕ) (l : List ℕ) {n p : ℕ} {m q : List ℕ}
     → FindExport limits s page whole tenths l n m → FindExport limits s page whole tenths l p q → (n ≡ p) × (m ≡ q)
 one-find limits s page whole tenths l e f = (word-is (e ∙ sym f), list-is 0 (e ∙ sym f))
+
+pub one-memories : (limits s : List ℕ) (kind : ℕ) (slots l : List ℕ) {n p : ℕ} {t u m k : List ℕ}
+    → MemoriesExport limits s kind slots l n t m → MemoriesExport limits s kind slots l p u k → (n ≡ p) × (t ≡ u) × (m ≡ k)
+one-memories limits s kind slots l e f = (word-is (e ∙ sym f), list-is 0 (e ∙ sym f), list-is 1 (e ∙ sym f))
+
+pub one-head : (limits s : List ℕ) (slot : ℕ) (l : List ℕ) {n p : ℕ} {m q : List ℕ} → HeadExport limits s slot l n m → HeadExport limits s slot l p q
+    → (n ≡ p) × (m ≡ q)
+one-head limits s slot l e f = (word-is (e ∙ sym f), list-is 0 (e ∙ sym f))
+
+pub one-levels : (limits s : List ℕ) (slot : ℕ) (l : List ℕ) {n p : ℕ} {m q : List ℕ} → LevelsExport limits s slot l n m
+    → LevelsExport limits s slot l p q → (n ≡ p) × (m ≡ q)
+one-levels limits s slot l e f = (word-is (e ∙ sym f), list-is 0 (e ∙ sym f))
+
+pub one-patch : (limits s : List ℕ) (page dimmer : ℕ) (l : List ℕ) {n p : ℕ} {m q : List ℕ} → PatchExport limits s page dimmer l n m
+    → PatchExport limits s page dimmer l p q → (n ≡ p) × (m ≡ q)
+one-patch limits s page dimmer l e f = (word-is (e ∙ sym f), list-is 0 (e ∙ sym f))
+
+pub one-text : (text out l : List ℕ) {n p : ℕ} {o u m k : List ℕ} → TextExport text out l n o m → TextExport text out l p u k
+    → (n ≡ p) × (o ≡ u) × (m ≡ k)
+one-text text out l e f = (word-is (e ∙ sym f), list-is 0 (e ∙ sym f), list-is 1 (e ∙ sym f))
 
 -- ---- refused, untouched: an answer whose number is 0 is the word 0
 
@@ -97,3 +120,33 @@ unfolding repliedIn
 untouched-find limits s page whole tenths l e h =
     list-is 0 e
     ∙ sym (mute-list l (find-mute (deskOf limits) s page whole tenths (none-is (find-said (deskOf limits) s page whole tenths) (word-is e) h)))
+
+pub untouched-memories : (limits s : List ℕ) (kind : ℕ) (slots l : List ℕ) {n : ℕ} {t m : List ℕ}
+    → MemoriesExport limits s kind slots l n t m → (n ≡ 0 → ⊥) → (t ≡ slots) × (m ≡ l)
+unfolding listedIn
+untouched-memories limits s kind slots l e h =
+    let k = memories-kept (deskOf limits) s kind slots (none-is (memories-said (deskOf limits) s kind slots) (word-is e) h) in
+    (list-is 0 e ∙ k .0, list-is 1 e ∙ sym (mute-list l (k .1)))
+
+pub untouched-head : (limits s : List ℕ) (slot : ℕ) (l : List ℕ) {n : ℕ} {m : List ℕ} → HeadExport limits s slot l n m → (n ≡ 0 → ⊥) → m ≡ l
+unfolding repliedIn
+untouched-head limits s slot l e h =
+    list-is 0 e ∙ sym (mute-list l (head-mute (deskOf limits) s slot (none-is (head-said (deskOf limits) s slot) (word-is e) h)))
+
+pub untouched-levels : (limits s : List ℕ) (slot : ℕ) (l : List ℕ) {n : ℕ} {m : List ℕ} → LevelsExport limits s slot l n m → (n ≡ 0 → ⊥) → m ≡ l
+unfolding repliedIn
+untouched-levels limits s slot l e h =
+    list-is 0 e ∙ sym (mute-list l (levels-mute (deskOf limits) s slot (none-is (levels-said (deskOf limits) s slot) (word-is e) h)))
+
+pub untouched-patch : (limits s : List ℕ) (page dimmer : ℕ) (l : List ℕ) {n : ℕ} {m : List ℕ} → PatchExport limits s page dimmer l n m
+    → (n ≡ 0 → ⊥) → m ≡ l
+unfolding repliedIn
+untouched-patch limits s page dimmer l e h =
+    list-is 0 e
+    ∙ sym (mute-list l (patch-mute (deskOf limits) s page dimmer (none-is (patch-said (deskOf limits) s page dimmer) (word-is e) h)))
+
+-- a text that is refused leaves the output
+pub untouched-text : (text out l : List ℕ) {n : ℕ} {o m : List ℕ} → TextExport text out l n o m → (n ≡ 0 → ⊥) → o ≡ out
+unfolding writtenIn
+untouched-text text out l e h =
+    list-is 0 e ∙ put-kept text out .same (none-is (put-said (deskOf []) [] text out) (word-is e) h)

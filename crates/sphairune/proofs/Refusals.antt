@@ -9,8 +9,11 @@ use Rattle.store_desk.specs.Refusal.{Reply, placeUnit, replyWord}
 use Rattle.show.specs.Refusals.{PlaceTold, LoadRefused, WriteRefused, EmptyRefused, NeededRefused, FindRefused}
 use Rattle.show.proofs.Refusals.{load-lines, write-lines, empty-lines, needed-lines, find-lines}
 use Rattle.show.proofs.Refusals.{Said, load-said, write-said, empty-said, needed-said, find-said, word-told}
-use Rattle.sphairune.specs.Calls.{deskOf, repliedIn, emptiedIn, loadedIn, writtenIn}
+use Rattle.show_read.specs.Refusals.{MemoriesRefused, SlotRefused, PatchRefused}
+use Rattle.show_read.proofs.Refusals.{memories-lines, head-lines, levels-lines, patch-lines, memories-said, head-said, levels-said, patch-said}
+use Rattle.sphairune.specs.Calls.{deskOf, repliedIn, emptiedIn, loadedIn, writtenIn, listedIn}
 use Rattle.sphairune.specs.Calls.{NeededExport, EmptyExport, LoadExport, WriteExport, FindExport}
+use Rattle.sphairune.specs.Calls.{MemoriesExport, HeadExport, LevelsExport, PatchExport}
 use Rattle.sphairune.proofs.OneAnswer.{word-is}
 
 -- ---- number and place of a word
@@ -57,6 +60,32 @@ find-refused limits s page whole tenths l e =
     subst (FindRefused (deskOf limits) s page whole tenths) (number-of (find-said (deskOf limits) s page whole tenths) (word-is e))
     (find-lines (deskOf limits) s page whole tenths)
 
+pub memories-refused : (limits s : List ℕ) (kind : ℕ) (slots l : List ℕ) {n : ℕ} {t m : List ℕ} → MemoriesExport limits s kind slots l n t m
+    → MemoriesRefused (deskOf limits) s kind (n % placeUnit)
+unfolding listedIn
+memories-refused limits s kind slots l e =
+    subst (MemoriesRefused (deskOf limits) s kind) (number-of (memories-said (deskOf limits) s kind slots) (word-is e))
+    (memories-lines (deskOf limits) s kind slots)
+
+pub head-refused : (limits s : List ℕ) (slot : ℕ) (l : List ℕ) {n : ℕ} {m : List ℕ} → HeadExport limits s slot l n m
+    → SlotRefused (deskOf limits) s slot (n % placeUnit)
+unfolding repliedIn
+head-refused limits s slot l e =
+    subst (SlotRefused (deskOf limits) s slot) (number-of (head-said (deskOf limits) s slot) (word-is e)) (head-lines (deskOf limits) s slot)
+
+pub levels-refused : (limits s : List ℕ) (slot : ℕ) (l : List ℕ) {n : ℕ} {m : List ℕ} → LevelsExport limits s slot l n m
+    → SlotRefused (deskOf limits) s slot (n % placeUnit)
+unfolding repliedIn
+levels-refused limits s slot l e =
+    subst (SlotRefused (deskOf limits) s slot) (number-of (levels-said (deskOf limits) s slot) (word-is e)) (levels-lines (deskOf limits) s slot)
+
+pub patch-refused : (limits s : List ℕ) (page dimmer : ℕ) (l : List ℕ) {n : ℕ} {m : List ℕ} → PatchExport limits s page dimmer l n m
+    → PatchRefused (deskOf limits) s page dimmer (n % placeUnit)
+unfolding repliedIn
+patch-refused limits s page dimmer l e =
+    subst (PatchRefused (deskOf limits) s page dimmer) (number-of (patch-said (deskOf limits) s page dimmer) (word-is e))
+    (patch-lines (deskOf limits) s page dimmer)
+
 -- ---- and the place
 
 pub load-place : (limits s stream reps l : List ℕ) {n : ℕ} {t q m : List ℕ} → LoadExport limits s stream reps l n t q m
@@ -73,3 +102,8 @@ pub find-place : (limits s : List ℕ) (page whole tenths : ℕ) (l : List ℕ) 
     → PlaceTold (deskOf limits) s (n % placeUnit) (n / placeUnit)
 unfolding repliedIn
 find-place limits s page whole tenths l e = placed (find-said (deskOf limits) s page whole tenths) (word-is e)
+
+pub memories-place : (limits s : List ℕ) (kind : ℕ) (slots l : List ℕ) {n : ℕ} {t m : List ℕ} → MemoriesExport limits s kind slots l n t m
+    → PlaceTold (deskOf limits) s (n % placeUnit) (n / placeUnit)
+unfolding listedIn
+memories-place limits s kind slots l e = placed (memories-said (deskOf limits) s kind slots) (word-is e)
