@@ -22,9 +22,9 @@ use Rattle.show.specs.declared.Written.the-variants.{Away as WriteAway, Done as
 use Rattle.show.specs.declared.Emptied.{Emptied}
 use Rattle.show.specs.declared.Emptied.the-variants.{Away as EmptyAway}
 use Rattle.show.specs.declared.Placed.{Placed}
-use Rattle.show.specs.declared.Placed.the-variants.{Away as FindAway}
+use Rattle.show.specs.declared.Placed.the-variants.{Away as FindAway, NotKept as PlacedNone, At as PlacedAt}
 use Rattle.show.specs.Calls.{LoadCall, loadReply, loadCall, LoadPromise, WriteCall, writeReply, writtenAs, writeCall, WritePromise}
-use Rattle.show.specs.Calls.{EmptyCall, emptyReply, emptyCall, EmptyPromise, findReply, findCall, FindPromise}
+use Rattle.show.specs.Calls.{EmptyCall, emptyReply, emptyCall, EmptyPromise, notKeptWord, findReply, findCall, FindPromise}
 use Rattle.show.proofs.OneAnswer.{load-kept, find-mute}
 use Rattle.show.proofs.Refusals.{Said, load-said, put-said, write-said, empty-said, needed-said, find-said}
 use Rattle.show_read.specs.declared.Listed.{Listed}
@@ -38,7 +38,7 @@ use Rattle.show_read.specs.Calls.{patchReply, patchCall, PatchPromise}
 use Rattle.show_read.proofs.OneAnswer.{memories-kept, head-mute, levels-mute, patch-mute}
 use Rattle.show_read.proofs.Refusals.{memories-said, head-said, levels-said, patch-said}
 use Rattle.show_words.specs.Words.{TextPromise}
-use Rattle.sphairune.specs.Calls.{deskOf, Exported, exported, repliedIn, emptiedIn, loadedIn, writtenIn, listedIn}
+use Rattle.sphairune.specs.Calls.{deskOf, Exported, exported, Telling, repliedIn, emptiedIn, loadedIn, writtenIn, listedIn}
 
 -- ---- a desk, limit by limit
 
@@ -134,9 +134,13 @@ pub text-most : (text out : List ℕ) (a : Written) {o : List ℕ} → TextPromi
 text-most text out a f =
     subst (λ (x : WriteCall). x .reply .place ≤ mostPlaces) (sym f) (put-said (deskOf []) [] text out .place .most)
 
-pub find-within : (d : Desk) (s : List ℕ) (page whole tenths : ℕ) {a : Placed} {r : Refusal} → FindPromise d s page whole tenths a
-    → a ≡ FindAway r → refusalPlace r ≤ mostPlaces
-find-within d s page whole tenths {a} {r} f g = within r (sym (ap findReply g) ∙ f) (find-said d s page whole tenths)
+-- of a place
+pub find-telling : (d : Desk) (s : List ℕ) (page whole tenths : ℕ) (a : Placed) → FindPromise d s page whole tenths a → Telling (findReply a)
+find-telling d s page whole tenths a f =
+    subst Telling (sym f) (record { place = find-said d s page whole tenths .place .most; mute = find-mute d s page whole tenths })
+
+pub levels-telling : (d : Desk) (s : List ℕ) (n : ℕ) (a : Placed) → LevelsPromise d s n a → Telling (findReply a)
+levels-telling d s n a f = subst Telling (sym f) (record { place = levels-said d s n .place .most; mute = levels-mute d s n })
 
 pub memories-within : (d : Desk) (s : List ℕ) (n : ℕ) (l : List ℕ) {a : Listed} {t : List ℕ} {r : Refusal} → MemoriesPromise d s n l a t
     → a ≡ ListAway r → refusalPlace r ≤ mostPlaces
@@ -145,12 +149,32 @@ memories-within d s n l {a} {t} {r} f g = within r (sym (ap listReply g) ∙ ap 
 pub head-within : (d : Desk) (s : List ℕ) (n : ℕ) {a : Headed} {r : Refusal} → HeadPromise d s n a → a ≡ HeadAway r → refusalPlace r ≤ mostPlaces
 head-within d s n {a} {r} f g = within r (sym (ap headReply g) ∙ f) (head-said d s n)
 
-pub levels-within : (d : Desk) (s : List ℕ) (n : ℕ) {a : Placed} {r : Refusal} → LevelsPromise d s n a → a ≡ FindAway r → refusalPlace r ≤ mostPlaces
-levels-within d s n {a} {r} f g = within r (sym (ap findReply g) ∙ f) (levels-said d s n)
-
 pub patch-within : (d : Desk) (s : List ℕ) (page dimmer : ℕ) {a : Patched} {r : Refusal} → PatchPromise d s page dimmer a → a ≡ PatchAway r
     → refusalPlace r ≤ mostPlaces
 patch-within d s page dimmer {a} {r} f g = within r (sym (ap patchReply g) ∙ f) (patch-said d s page dimmer)
+
+-- what `find` and `levels` answer, noted
+pub place-most : {a : Placed} {r : Refusal} → Telling (findReply a) → a ≡ FindAway r → refusalPlace r ≤ mostPlaces
+place-most h e = subst (λ (x : Placed). findReply x .place ≤ mostPlaces) e (h .place)
+
+pub place-away : (l : List ℕ) {a : Placed} {r : Refusal} {n : ℕ} → Telling (findReply a) → a ≡ FindAway r → n ≡ refusalWord r
+    → exported n (l ∷ []) ≡ repliedIn (findReply a) l
+unfolding repliedIn
+place-away l {a} {r} h e f =
+    let m = subst (λ (x : Placed). Telling (findReply x)) e h .mute (some r refl) in
+    ap (λ (k : ℕ). exported k (l ∷ [])) f
+    ∙ ap (λ (k : List ℕ). exported (refusalWord r) (k ∷ [])) (mute-list l m)
+    ∙ sym (ap (λ (x : Placed). repliedIn (findReply x) l) e)
+
+pub place-none : (l : List ℕ) {a : Placed} → a ≡ PlacedNone → exported notKeptWord (l ∷ []) ≡ repliedIn (findReply a) l
+unfolding repliedIn
+place-none l e =
+    ap (λ (k : List ℕ). exported notKeptWord (k ∷ [])) (mute-list l refl) ∙ sym (ap (λ (x : Placed). repliedIn (findReply x) l) e)
+
+pub place-at : (l : List ℕ) {a : Placed} {n : ℕ} {k : List ℕ} → a ≡ PlacedAt n → k ≡ notedFrom 0 l (n ∷ [])
+    → exported 0 (k ∷ []) ≡ repliedIn (findReply a) l
+unfolding repliedIn
+place-at l e g = ap (λ (m : List ℕ). exported 0 (m ∷ [])) g ∙ sym (ap (λ (x : Placed). repliedIn (findReply x) l) e)
 
 -- what a write or a text answers, noted
 pub note-away : (l : List ℕ) {a : Written} {r : Refusal} {n : ℕ} {k : List ℕ} → a ≡ WriteAway r → n ≡ refusalWord r
@@ -221,15 +245,14 @@ module _ (limits : List ℕ) {d : Desk} (e : d ≡ deskOf limits) where
       → exported n (k ∷ []) ≡ repliedIn (writeReply a) l → exported n (o ∷ k ∷ []) ≡ writtenIn (writeCall (deskOf limits) s out) l
   write-by s out l a f g = written-by l a f g ∙ ap (λ (x : Desk). writtenIn (writeCall x s out) l) e
 
-  pub find-by : (s : List ℕ) (page whole tenths : ℕ) (l : List ℕ) {a : Placed} {k : List ℕ} → FindPromise d s page whole tenths a
-      → (b : Placed) → a ≡ b → k ≡ notedFrom 0 l (findReply b .told)
-      → exported (replyWord (findReply b)) (k ∷ []) ≡ repliedIn (findCall (deskOf limits) s page whole tenths) l
-  find-by s page whole tenths l f b g h = replied-by l (λ x. findCall x s page whole tenths) (sym (ap findReply g) ∙ f) h
+  -- a place by its own reply
+  placed-by : (l : List ℕ) (call : Desk → Reply) (a : Placed) {x : Exported} → findReply a ≡ call d → x ≡ repliedIn (findReply a) l
+      → x ≡ repliedIn (call (deskOf limits)) l
+  placed-by l call a f g = g ∙ ap (λ (y : Reply). repliedIn y l) f ∙ ap (λ (y : Desk). repliedIn (call y) l) e
 
-  pub find-away : (s : List ℕ) (page whole tenths : ℕ) (l : List ℕ) {a : Placed} {r : Refusal} → FindPromise d s page whole tenths a
-      → a ≡ FindAway r → exported (refusalWord r) (l ∷ []) ≡ repliedIn (findCall (deskOf limits) s page whole tenths) l
-  find-away s page whole tenths l {r = r} f g =
-      replied-away l (λ x. findCall x s page whole tenths) r (sym (ap findReply g) ∙ f) (find-mute d s page whole tenths)
+  pub find-by : (s : List ℕ) (page whole tenths : ℕ) (l : List ℕ) (a : Placed) {x : Exported} → FindPromise d s page whole tenths a
+      → x ≡ repliedIn (findReply a) l → x ≡ repliedIn (findCall (deskOf limits) s page whole tenths) l
+  find-by s page whole tenths l a f g = placed-by l (λ y. findCall y s page whole tenths) a f g
 
   pub memories-by : (s : List ℕ) (n : ℕ) (slots l : List ℕ) {a : Listed} {t k : List ℕ} → MemoriesPromise d s n slots a t → (b : Listed) → a ≡ b
       → k ≡ notedFrom 0 l (listReply b .told)
@@ -255,13 +278,9 @@ module _ (limits : List ℕ) {d : Desk} (e : d ≡ deskOf limits) where
       → exported (refusalWord r) (l ∷ []) ≡ repliedIn (headCall (deskOf limits) s n) l
   head-away s n l {r = r} f g = replied-away l (λ x. headCall x s n) r (sym (ap headReply g) ∙ f) (head-mute d s n)
 
-  pub levels-by : (s : List ℕ) (n : ℕ) (l : List ℕ) {a : Placed} {k : List ℕ} → LevelsPromise d s n a → (b : Placed) → a ≡ b
-      → k ≡ notedFrom 0 l (findReply b .told) → exported (replyWord (findReply b)) (k ∷ []) ≡ repliedIn (levelsCall (deskOf limits) s n) l
-  levels-by s n l f b g h = replied-by l (λ x. levelsCall x s n) (sym (ap findReply g) ∙ f) h
-
-  pub levels-away : (s : List ℕ) (n : ℕ) (l : List ℕ) {a : Placed} {r : Refusal} → LevelsPromise d s n a → a ≡ FindAway r
-      → exported (refusalWord r) (l ∷ []) ≡ repliedIn (levelsCall (deskOf limits) s n) l
-  levels-away s n l {r = r} f g = replied-away l (λ x. levelsCall x s n) r (sym (ap findReply g) ∙ f) (levels-mute d s n)
+  pub levels-by : (s : List ℕ) (n : ℕ) (l : List ℕ) (a : Placed) {x : Exported} → LevelsPromise d s n a → x ≡ repliedIn (findReply a) l
+      → x ≡ repliedIn (levelsCall (deskOf limits) s n) l
+  levels-by s n l a f g = placed-by l (λ y. levelsCall y s n) a f g
 
   pub patch-by : (s : List ℕ) (page dimmer : ℕ) (l : List ℕ) {a : Patched} {k : List ℕ} → PatchPromise d s page dimmer a → (b : Patched) → a ≡ b
       → k ≡ notedFrom 0 l (patchReply b .told) → exported (replyWord (patchReply b)) (k ∷ []) ≡ repliedIn (patchCall (deskOf limits) s page dimmer) l

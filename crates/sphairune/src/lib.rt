@@ -19,12 +19,12 @@ ghost use mathlib.Core.List.{[], _∷_};
 ghost use Prim.Native.Nat.{_≤_};
 ghost use lib.ListN.{getD};
 ghost use Rattle.cells.specs.Note.{notedFrom};
-ghost use Rattle.sphairune.specs.Calls.{deskOf, exported, repliedIn, NeededExport, EmptyExport, LoadExport, WriteExport, FindExport};
+ghost use Rattle.sphairune.specs.Calls.{deskOf, exported, Telling, repliedIn, NeededExport, EmptyExport, LoadExport, WriteExport, FindExport};
 ghost use Rattle.sphairune.specs.Calls.{MemoriesExport, HeadExport, LevelsExport, PatchExport, TextExport};
 ghost use Rattle.store_desk.specs.Refusal.{refusalTold, mostPlaces};
 ghost use Rattle.value_level.specs.Level.{bytePercent};
 ghost use Rattle.value_written.specs.Text.{timeText};
-ghost use Rattle.show.specs.Calls.{totalsTold, writeReply};
+ghost use Rattle.show.specs.Calls.{totalsTold, writeReply, findReply};
 ghost use Rattle.show_words.specs.Words.{severityOf, conditionText};
 
 fn number_at(list: &[u32], i: usize) -> u32
@@ -87,6 +87,21 @@ fn note_written(list: &mut [usize], written: Written) -> u32
         Written::Done(n) => {
             note_length(list, n);
             0
+        }
+    }
+}
+
+// A place, and the word.
+fn note_placed(list: &mut [usize], placed: Placed) -> u32
+    requires { ⌜ Telling (findReply placed) ⌝ }
+    ensures { λ r. ⌜ exported r (now (list .exit) ∷ []) ≡ repliedIn (findReply placed) (now (list .entry)) ⌝ }
+{
+    match placed {
+        Placed::Away(refusal) => refusal.word(),
+        Placed::NotKept => show::NOT_KEPT,
+        Placed::At(at) => {
+            note_length(list, at);
+            show::KEPT
         }
     }
 }
@@ -172,14 +187,8 @@ pub extern "C" fn sphairune_find(
 ) -> u32
     ensures { λ r. ⌜ FindExport (now (limits .entry)) (now (store .entry)) page whole tenths (now (place .entry)) r (now (place .exit)) ⌝ }
 {
-    match show::find(desk_of(limits), store, page, whole, tenths) {
-        Placed::Away(refusal) => refusal.word(),
-        Placed::NotKept => show::NOT_KEPT,
-        Placed::At(at) => {
-            note_length(place, at);
-            show::KEPT
-        }
-    }
+    let placed = show::find(desk_of(limits), store, page, whole, tenths);
+    note_placed(place, placed)
 }
 
 // ---- reading a store
@@ -224,17 +233,16 @@ pub extern "C" fn sphairune_head(limits: &[u32], store: &[u8], slot: u32, values
 
 // Where in the store a slot's levels begin, in `place`; or 255 where the desk has no such slot; or 2, 3.
 #[no_mangle]
-pub extern "C" fn sphairune_levels(limits: &[u32], store: &[u8], slot: u32, place: &mut [usize]) -> u32
+pub extern "C" fn sphairune_levels(
+    limits: &[u32],
+    store: &[u8],
+    slot: u32,
+    place: &mut [usize],
+) -> u32
     ensures { λ r. ⌜ LevelsExport (now (limits .entry)) (now (store .entry)) slot (now (place .entry)) r (now (place .exit)) ⌝ }
 {
-    match show_read::levels(desk_of(limits), store, slot) {
-        Placed::Away(refusal) => refusal.word(),
-        Placed::NotKept => show::NOT_KEPT,
-        Placed::At(at) => {
-            note_length(place, at);
-            show::KEPT
-        }
-    }
+    let placed = show_read::levels(desk_of(limits), store, slot);
+    note_placed(place, placed)
 }
 
 // What a dimmer is patched to, in `values`: channel, level, zero bits; or 255 where the desk has no such dimmer; or 2, 3.

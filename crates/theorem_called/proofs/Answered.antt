@@ -6,18 +6,17 @@ use mathlib.Core.Bool.{false}
 use mathlib.Core.List.{List}
 use Prim.Native.Nat.{ℕ, _≤_}
 use native.Mathlib.Omega.{arith}
-use lib.Dec.{ltb, leb}
+use lib.Dec.{ltb}
 use lib.ListN.{length, take}
-use borrow.Author.Tests.{le-ltb, leb-true, leb-false}
+use borrow.Author.Tests.{le-ltb}
 use Rattle.cells.specs.Put.{put}
 use Rattle.cells.proofs.Put.{part-same}
-use Rattle.cells.proofs.Split.{by-bool, by-le, not-of-false}
+use Rattle.cells.proofs.Split.{by-le}
 use Rattle.store_desk.specs.declared.Desk.{Desk}
 use Rattle.store_desk.specs.declared.Refusal.{Refusal}
 use Rattle.store_desk.specs.declared.Refusal.the-variants.{R1, R2, R3, R5, R6}
 use Rattle.store_desk.specs.Refusal.{refusalNumber}
-use Rattle.store_desk.specs.Size.{InRange, inRangeOf, storeLength}
-use Rattle.store_desk.proofs.Size.{in-range}
+use Rattle.store_desk.specs.Size.{InRange, storeLength}
 use Rattle.store_desk.proofs.Reply.{refusal-some}
 use Rattle.store.specs.Change.{emptied}
 use Rattle.store.specs.Good.{Ready}
@@ -30,9 +29,9 @@ use Rattle.show.specs.declared.Admission.the-variants.{Admitted, Away}
 use Rattle.show.specs.declared.Loaded.the-variants.{Done as LoadDone}
 use Rattle.show.specs.declared.Written.the-variants.{Done as WriteDone}
 use Rattle.show.specs.declared.Emptied.the-variants.{Done as EmptyDone}
-use Rattle.show.specs.Calls.{mostBytes, admissionOf, LoadCall, loadDone, loadBy, loadCall, LoadPromise}
-use Rattle.show.specs.Calls.{WriteCall, writeReply, writtenAs, putCall, writeBy, writeCall, WritePromise, EmptyCall, emptyCall, EmptyPromise}
-use Rattle.show.proofs.Laws.{let-in, admitted, load-long, load-by, put-long, put-short, write-by, empty-range, empty-short, empty-done}
+use Rattle.show.specs.Calls.{mostBytes, lentAdmission, admissionOf, LoadCall, loadDone, loadBy, loadCall, LoadPromise}
+use Rattle.show.specs.Calls.{WriteCall, writeReply, writtenAs, putCall, writeBy, writeCall, WritePromise, EmptyCall, emptyBy, emptyCall, EmptyPromise}
+use Rattle.show.proofs.Laws.{let-in, admitted, load-long, load-by, put-long, put-short, write-by, by-lent, empty-by, empty-done}
 use Rattle.show.proofs.OneAnswer.{one-load, one-write, one-empty}
 
 -- ---- let in
@@ -149,13 +148,13 @@ pub record EmptyAnswered (d : Desk) (v s : List ℕ) : Type 0 where
 
 module _ (d : Desk) (v : List ℕ) where
   pub empty-answered : {s : List ℕ} → EmptyPromise d v EmptyDone s → EmptyAnswered d v s
+  unfolding emptyBy
   empty-answered {s} e =
-      by-bool (inRangeOf d)
-      (λ a.
-      by-bool (leb (storeLength d) (length v))
-      (λ b. done (in-range d a) (leb-true _ _ b))
-      (λ b. none-refused R3 (ap (λ (y : EmptyCall). y .reply .number) (empty-short d v (in-range d a) refl (leb-false _ _ b))) none))
-      (λ a. none-refused R2 (ap (λ (y : EmptyCall). y .reply .number) (empty-range d v refl (not-of-false _ a))) none)
+      by-lent d v (λ (a : Admission). a ≡ lentAdmission d v → EmptyAnswered d v s)
+      (λ h q. none-refused R2 (ap (λ (y : EmptyCall). y .reply .number) (empty-by d v (Away R2) q)) none)
+      (λ h l q. none-refused R3 (ap (λ (y : EmptyCall). y .reply .number) (empty-by d v (Away R3) q)) none)
+      (λ h q. done (h .range) (h .long))
+      refl
     where
       none : emptyCall d v .reply .number ≡ 0
       none = ap (λ (y : EmptyCall). y .reply .number) (sym e)

@@ -1,3 +1,4 @@
 pub mod Answered
 pub mod Called
 pub mod Edges
+pub mod Walked

@@ -23,7 +23,7 @@ part-result-end : tie.Need-part-result-end
 part-result-end c = slot-ends _ _ _ refl (c .slot-end .ensures) (c .before .before .before .pre .0) (c .before .before .before .pre .1) .1
 
 returns : tie.Need-returns
-returns c = record { bytes = levels-is _ _ _ (c .before .before .levels-start .ensures) (c .before .slot-end .ensures); block = search needs; offset = omega (arith, c .before .before .levels-start .ensures); }
+returns c = record { bytes = levels-is _ _ _ (c .before .before .levels-start .ensures) (c .before .slot-end .ensures); block = search needs; offset = omega (arith, c .before .before .levels-start .ensures) }
 
 pub levels-spec : {M : Type 1} → statement M
 levels-spec =
