@@ -38,7 +38,8 @@ use Rattle.show_read.specs.Calls.{patchReply, patchCall, PatchPromise}
 use Rattle.show_read.proofs.OneAnswer.{memories-kept, head-mute, levels-mute, patch-mute}
 use Rattle.show_read.proofs.Refusals.{memories-said, head-said, levels-said, patch-said}
 use Rattle.show_words.specs.Words.{TextPromise}
-use Rattle.sphairune.specs.Calls.{deskOf, Exported, exported, Telling, repliedIn, emptiedIn, loadedIn, writtenIn, listedIn}
+use Rattle.sphairune.specs.Fits.{Telling}
+use Rattle.sphairune.specs.Calls.{deskOf, Exported, exported, repliedIn, emptiedIn, loadedIn, writtenIn, listedIn}
 
 -- ---- a desk, limit by limit
 

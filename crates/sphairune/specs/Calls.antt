@@ -3,11 +3,11 @@
 -- Assumes nothing.
 use mathlib.Core.List.{List, [], _∷_}
 use mathlib.Core.Path.{_≡_}
-use Prim.Native.Nat.{ℕ, _≤_}
+use Prim.Native.Nat.{ℕ}
 use lib.ListN.{getD}
 use Rattle.cells.specs.Note.{notedFrom}
 use Rattle.store_desk.specs.declared.Desk.{Desk}
-use Rattle.store_desk.specs.Refusal.{Reply, replyWord, mostPlaces, neededCall}
+use Rattle.store_desk.specs.Refusal.{Reply, replyWord, neededCall}
 use Rattle.show.specs.Calls.{LoadCall, loadCall, WriteCall, putCall, writeCall, EmptyCall, emptyCall, findCall}
 use Rattle.show_read.specs.Calls.{ListCall, memoriesCall, headCall, levelsCall, patchCall}
 
@@ -33,11 +33,6 @@ pub record Exported : Type 0 where
 
 abbrev pub exported : ℕ → List (List ℕ) → Exported
 exported n ls = record { word = n; lent = ls }
-
--- a place that a word can tell, and nothing told beside a number that is not 0
-pub record Telling (a : Reply) : Type 0 where
-  pub place : a .place ≤ mostPlaces
-  pub mute : (a .number ≡ 0 → ⊥) → a .told ≡ []
 
 -- ---- the calls: the answer's number and place as one word, the lent lists as the public call leaves them, and last the list for what it tells
 

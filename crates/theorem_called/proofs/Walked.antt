@@ -22,7 +22,7 @@ use Rattle.store.specs.Slots.{headAt, keyOf, find}
 use Rattle.store.specs.View.{Memory, kept, memoryAt, memoryOf}
 use Rattle.store.specs.Order.{inOrder}
 use Rattle.store.specs.Good.{Ready}
-use Rattle.store.proofs.Find.{kept-absent}
+use Rattle.store.proofs.Find.{kept-inj, kept-absent}
 use Rattle.store.proofs.Start.{absent-at, kept-memory}
 use Rattle.store.proofs.Ordered.{word-less, Among, Rising, key-fits}
 use Rattle.store_code.proofs.Laws.{levels-is}
@@ -104,11 +104,8 @@ module _ (d : Desk) (s : List ℕ) (r : Ready d s) where
     all key m e =
         let f = kept-at (named k key) m e in
         let h = found-in-order d s r k (named k key) refl (f .0) (f .1) in
-        let q : memoryAt d s (f .0) ≡ m = same (sym (kept-memory d s (named k key) (f .0) (f .1)) ∙ e) in
+        let q : memoryAt d s (f .0) ≡ m = kept-inj (sym (kept-memory d s (named k key) (f .0) (f .1)) ∙ e) in
         (suc (f .0), number-in (inOrder d s k) (f .0) h, subst (Told d s k (suc (f .0))) q (told (f .0) h))
-      where
-        same : {a b : Memory} → kept a ≡ kept b → a ≡ b
-        same q = cc
 
     fits : (x : ℕ) → Here d s k x → KeyFits (keyOf (headAt d s x))
     fits x h = key-fits d s r x (here-slot h) (h .used)
