@@ -151,7 +151,7 @@ mod tests {
         for folder in ["../examples", "../tests/fuzz/corpus"] {
             for entry in std::fs::read_dir(folder).unwrap() {
                 let stream = std::fs::read(entry.unwrap().path()).unwrap();
-                for desk in [Desk::HOUSE, Desk::of([1, 1, 1, 0, 0, 1, 1, 1, 1]), Desk::of([512, 512, 600, 200, 96, 63, 63, 8, 4])] {
+                for desk in [Desk::HOUSE, Desk::of([1, 1, 1, 0, 0, 1, 1, 1, 1]), Desk::LARGEST] {
                     let show = Show::load("test".into(), desk, stream.clone()).unwrap();
                     let passed = show.passed();
                     assert!(passed.iter().all(|p| p.keyword != "other"), "{passed:?}");

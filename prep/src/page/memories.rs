@@ -149,7 +149,7 @@ mod tests {
     fn cue(whole: u32, link: Option<u32>) -> Memory<'static> {
         let number = |whole| Number { whole, tenths: 0 };
         let up = Some(Fade { fade: 900, delay: 100 });
-        Memory { page: 1, number: number(whole), link: link.map(number), up, down: None, followon: Some(5), levels: &[0xff, 0] }
+        Memory { slot: 1, page: 1, number: number(whole), link: link.map(number), up, down: None, followon: Some(5), levels: &[0xff, 0] }
     }
 
     #[test]

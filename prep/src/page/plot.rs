@@ -176,7 +176,8 @@ mod tests {
 
     fn cues(levels: &[Vec<u8>]) -> Vec<Memory<'_>> {
         let number = |whole| Number { whole, tenths: 0 };
-        let cue = |(whole, levels)| Memory { page: 1, number: number(whole), link: None, up: None, down: None, followon: None, levels };
+        let cue =
+            |(whole, levels)| Memory { slot: 1, page: 1, number: number(whole), link: None, up: None, down: None, followon: None, levels };
         (1..).zip(levels.iter().map(|l| &l[..])).map(cue).collect()
     }
 

@@ -2,8 +2,6 @@
 use super::*;
 use std::fs;
 
-const LARGEST: [u32; 9] = [512, 512, 600, 200, 96, 63, 63, 8, 4];
-
 fn sample(name: &str, desk: Desk) -> Show {
     let path = format!("{}/../examples/{name}.asc", env!("CARGO_MANIFEST_DIR"));
     let stream = fs::read(&path).unwrap_or_else(|e| panic!("{path}: {e}"));
@@ -19,7 +17,7 @@ fn samples() -> Vec<Show> {
     let bare = Desk::of([6, 6, 10, 0, 0, 1, 1, 1, 1]);
     let mut shows: Vec<Show> =
         ["worked", "house", "foreign", "faults", "noise", "long_record", "other_version"].map(|name| sample(name, Desk::HOUSE)).into();
-    shows.extend([sample("small_desk", small), sample("bare_desk", bare), sample("house", Desk::of(LARGEST))]);
+    shows.extend([sample("small_desk", small), sample("bare_desk", bare), sample("house", Desk::LARGEST)]);
     shows
 }
 

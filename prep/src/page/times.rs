@@ -97,7 +97,7 @@ mod tests {
     use sphairune::Number;
 
     fn cue(up: Option<Fade>, down: Option<Fade>, followon: Option<u32>) -> Memory<'static> {
-        Memory { page: 1, number: Number { whole: 1, tenths: 0 }, link: None, up, down, followon, levels: &[] }
+        Memory { slot: 1, page: 1, number: Number { whole: 1, tenths: 0 }, link: None, up, down, followon, levels: &[] }
     }
 
     #[test]
