@@ -20,11 +20,6 @@ pub noted-cons : (i : ℕ) (l : List ℕ) (v : ℕ) (vs : List ℕ) → notedFro
 unfolding notedFrom
 noted-cons i l v vs = ap (λ (j : ℕ). notedFrom j (set l i v) vs) (let e : suc i ≡ i + 1 = omega arith in e)
 
-pub noted-length : (i : ℕ) (l vs : List ℕ) → length (notedFrom i l vs) ≡ length l
-unfolding notedFrom
-noted-length i l [] = refl
-noted-length i l (v ∷ vs) = noted-length (suc i) (set l i v) vs ∙ length-set l i v
-
 -- what is left to note goes in from place i on
 pub record Noting (l vs t : List ℕ) (i : ℕ) : Type 0 where
   pub left : List ℕ
