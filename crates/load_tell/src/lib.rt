@@ -144,7 +144,7 @@ fn column_of(received: &[u8], marred: bool, place: usize) -> usize
     place
 }
 
-// ENDDATA stops a load without a report.
+// ENDDATA stops a load without a report. For a dropped record, of which a bad stream has many, what `column_of` tests is tested here.
 fn report_outcome(
     reports: &mut [u64],
     count: Count,
@@ -160,8 +160,11 @@ fn report_outcome(
         Outcome::Blank => count,
         Outcome::Passed => count,
         Outcome::Dropped(f) => {
-            let column = column_of(received, marred, f.place);
-            report(reports, count, f.condition, column)
+            if marred {
+                let column = text_records::column(received, f.place);
+                return report(reports, count, f.condition, column);
+            }
+            report(reports, count, f.condition, f.place)
         }
         Outcome::Obeyed => count,
         Outcome::Stopped(f) => {
