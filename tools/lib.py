@@ -1,6 +1,6 @@
 """What the Python tools share. The help of each is the text at its head. Their statuses are those of lib.sh: 0 all is as it should be, 1
 something differs or is not proved, 2 it could not be tried, 64 wrong use."""
-import os, shutil, subprocess, sys
+import os, shutil, signal, subprocess, sys
 
 ROOT = os.path.dirname(os.path.dirname(os.path.realpath(__file__)))
 TOOL = os.path.basename(sys.argv[0])
@@ -18,6 +18,7 @@ def fail(text):
 # The words that a tool was given, where they do not ask for its help.
 def words(doc):
     if sys.argv[1:2] in (["-h"], ["--help"]):
+        signal.signal(signal.SIGPIPE, signal.SIG_DFL)  # who reads the beginning alone is no fault
         print(doc.strip())
         sys.exit(0)
     return sys.argv[1:]
