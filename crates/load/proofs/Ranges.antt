@@ -1,4 +1,4 @@
--- What is read lies in its range: a number is one that a cue or group can have, 0.1 to 999.9, and a time is at most 999:59:59.9. By the bounds
+-- What is read lies in its range: a number is one that a cue or group can have, 0.1 to 999.9, and a time is at most 999:999:999.9. By the bounds
 -- on runs of digits; what stands behind a point is one digit.
 -- Assumes nothing.
 use mathlib.Core.Path.{_≡_, refl, sym, _∙_, subst}
@@ -21,7 +21,7 @@ use Rattle.value.specs.declared.Timed.the-variants.{Malformed as BadTime, Value
 use Rattle.value.specs.Integer.{integerOf, AtMost}
 use Rattle.value.specs.Parts.{point, cutAt, before, after, decimalsOf}
 use Rattle.value.specs.Number.{wholeMax, fractionDigits, number, numberedOf, numberOf}
-use Rattle.value.specs.Time.{timeMax, tenthsDigits, joinOf, clockOf, timedOf, timeOf}
+use Rattle.value.specs.Time.{clockMax, timeMax, tenthsDigits, joinOf, clockOf, timedOf, timeOf}
 use Rattle.value.proofs.Digits.{run-below}
 use Rattle.value.proofs.Cuts.{decimals-none, decimals-many, decimals-few}
 use Rattle.value.proofs.Times.{join-most, clock-most}
@@ -68,7 +68,7 @@ pub number-ok : (s : List ℕ) → NumberOk (numberOf s)
 unfolding numberOf
 number-ok s = numbered-ok (integerOf (before (cutAt point s) s)) _ (decimals-nine s (cutAt point s))
 
--- ---- a time is at most 999:59:59.9
+-- ---- a time is at most 999:999:999.9
 abbrev pub TimeOk : Timed → Type 0
 TimeOk BadTime = Unit {0}
 TimeOk (IsTime t) = t ≤ timeMax
@@ -83,4 +83,4 @@ unfolding timeOf
 time-ok s =
     let n : ℕ = cutAt point s in
     timed-ok (joinOf (clockOf (before n s)) 10 (decimalsOf tenthsDigits s n))
-    (join-most 3599999 9 10 (clockOf (before n s)) (decimalsOf tenthsDigits s n) (clock-most (before n s)) (decimals-nine s n))
+    (join-most clockMax 9 10 (clockOf (before n s)) (decimalsOf tenthsDigits s n) (clock-most (before n s)) (decimals-nine s n))

@@ -1,4 +1,4 @@
--- The house small desk's stream has at most 251,647 characters, whatever bytes the store holds, and so is never too long for a call: so many
+-- The house small desk's stream has at most 258,847 characters, whatever bytes the store holds, and so is never too long for a call: so many
 -- slots and dimmers, each with the most bytes that its lines can take. The bound is stated for every desk in range, by the digits of its
 -- highest channel.
 -- Assumes nothing.
@@ -63,9 +63,9 @@ levels-most d s i =
     let m = length-take (d .channels * 1) (drop (i * slotLength d + headLength) s) in
     omega arith
 
--- the most bytes of one memory: 17 of the primary and 98 of the times and the link, then its channels, of at most k + 1 digits
+-- the most bytes of one memory: 17 of the primary and 123 of the times and the link, then its channels, of at most k + 1 digits
 abbrev pub memoryMost : Desk → ℕ → ℕ
-memoryMost d k = 115 + d .channels * (k + 6) + 6 * ((d .channels + 7) / 8)
+memoryMost d k = 140 + d .channels * (k + 6) + 6 * ((d .channels + 7) / 8)
 
 module _ (d : Desk) (s : List ℕ) (r : InRange d) (k : ℕ) (h : d .channels < 10 ^ suc k) where
   memory-most : (kind : Kind) (i : ℕ) → length (joined (memoryLines kind (memoryAt d s i))) ≤ memoryMost d k
@@ -107,8 +107,8 @@ module _ (d : Desk) (s : List ℕ) (r : InRange d) (k : ℕ) (h : d .channels < 
       let e = length-is d s {p = length (joined (patchLines d s))} refl refl refl refl in
       omega arith
 
--- ---- the house small desk: 31, 22 for each of 192 dimmers, 859 for each of 288 slots
-pub house-most : (s : List ℕ) → length (streamOf house s) ≤ 251647
+-- ---- the house small desk: 31, 22 for each of 192 dimmers, 884 for each of 288 slots
+pub house-most : (s : List ℕ) → length (streamOf house s) ≤ 258847
 unfolding entriesOf slotsOf subSlots
 house-most s = let a = stream-most house s (in-range house house-in-range) 1 (omega arith) in omega arith
 

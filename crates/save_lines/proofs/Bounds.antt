@@ -20,7 +20,7 @@ use Rattle.value_written.proofs.Texts.{integer-short}
 use Rattle.save_lines.specs.Line.{crlf, joined, patchLine, kindText, primaryText, delayText, timeLine, linkLine, headLines, Lit, litFrom, pairText, pairsText, mostPairs, chanLinesIn, chanLines}
 use Rattle.save_lines.proofs.Parts.{joined-nil, joined-more}
 use Rattle.save_lines.proofs.Lengths.{kind-long, patch-length-none, patch-length-some, primary-length-is, delay-length-none, time-length-none, time-length-some, link-length-none, link-length-some, head-length-is, pair-length}
-use Rattle.save_lines.proofs.Rules.{number-six, time-twelve, delay-short, lits-count}
+use Rattle.save_lines.proofs.Rules.{number-six, time-held, delay-short, lits-count}
 
 -- ---- PATCH
 pub patch-most : (page dimmer : ℕ) (p : Patch) → page < 10 → dimmer < 1000 → PatchFits p → length (joined (patchLine page dimmer p)) ≤ 22
@@ -43,9 +43,9 @@ primary-most k key hp hw =
 
 -- ---- times and LINK
 time-most : (word : List ℕ) (present fade delay n : ℕ) → fade < timeSpan → length (delayText delay) ≤ n
-    → length (joined (timeLine word present fade delay)) ≤ length word + 14 + n
+    → length (joined (timeLine word present fade delay)) ≤ length word + 19 + n
 time-most word present fade delay n hf hd =
-    let a = time-twelve fade hf in
+    let a = time-held fade hf in
     by-eq present 0
     (λ e. let l = time-length-none word present fade delay e in omega arith)
     (λ e. let l = time-length-some word present fade delay {a = length (timeText fade)} refl refl e in omega arith)
@@ -57,11 +57,11 @@ link-most h hw =
     (λ e. let l = link-length-none h e in omega arith)
     (λ e. let l = link-length-some h {a = length (numberText (h .«link_whole») (h .«link_fraction»))} refl e in omega arith)
 
-pub head-most : (h : Head) → HeadFits h → length (joined (headLines h)) ≤ 98
+pub head-most : (h : Head) → HeadFits h → length (joined (headLines h)) ≤ 123
 head-most h f =
     let none = delay-length-none 0 refl in
-    let a = time-most (bytes "UP ") (h .up) (h .«up_fade») (h .«up_delay») 13 (f .upFade) (delay-short (h .«up_delay») (f .upDelay)) in
-    let b = time-most (bytes "DOWN ") (h .down) (h .«down_fade») (h .«down_delay») 13 (f .downFade) (delay-short (h .«down_delay») (f .downDelay)) in
+    let a = time-most (bytes "UP ") (h .up) (h .«up_fade») (h .«up_delay») 18 (f .upFade) (delay-short (h .«up_delay») (f .upDelay)) in
+    let b = time-most (bytes "DOWN ") (h .down) (h .«down_fade») (h .«down_delay») 18 (f .downFade) (delay-short (h .«down_delay») (f .downDelay)) in
     let c = time-most (bytes "FOLLOWON ") (h .followon) (h .«followon_time») 0 0 (f .followonTime) (omega arith) in
     let l = link-most h (f .linkWhole) in
     let e =

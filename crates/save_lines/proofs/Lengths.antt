@@ -13,9 +13,8 @@ use Rattle.store_desk.specs.declared.Kind.the-variants.{Cue, Group, Sub}
 use Rattle.store_head.specs.declared.Head.{Head}
 use Rattle.store_head.specs.declared.Patch.{Patch}
 use Rattle.value.specs.Number.{fractionDigits}
-use Rattle.value.specs.Time.{tenthsDigits}
 use Rattle.value_written.specs.Text.{integerText, fractionText, numberText, levelText, timeText, markedText}
-use Rattle.value_written.proofs.Texts.{integer-ten, number-length, fraction-short, level-length, time-length, clock-long}
+use Rattle.value_written.proofs.Texts.{integer-ten, number-length, fraction-short, level-length, time-long}
 use Rattle.save_lines.specs.Line.{crlf, joined, patchText, patchLine, kindText, primaryText, delayText, timeLine, linkLine, headLines, Lit, pairText}
 use Rattle.save_lines.proofs.Parts.{patch-none, patch-some, primary-parts, delay-none, delay-some, time-none, time-some, link-none, link-some, head-parts}
 
@@ -25,14 +24,6 @@ number-long w f h =
     let a = integer-ten w h in
     let b : length (fractionText fractionDigits f) ≤ fractionDigits + 1 = fraction-short fractionDigits f in
     let c = number-length w f in
-    omega arith
-
-pub time-long : (t : ℕ) → t < 4294967296 → length (timeText t) ≤ 18
-time-long t h =
-    let g : t / 10 < 4294967296 = omega arith in
-    let a = clock-long (t / 10) g in
-    let b : length (fractionText tenthsDigits (t % 10)) ≤ tenthsDigits + 1 = fraction-short tenthsDigits (t % 10) in
-    let c = time-length t in
     omega arith
 
 pub kind-long : (k : Kind) → length (kindText k) ≤ 6
@@ -87,7 +78,7 @@ delay-length-none delay e = sym (ap length (delay-none delay e))
 pub delay-length-some : (delay : ℕ) {a : ℕ} → a ≡ length (timeText delay) → (delay ≡ 0 → ⊥) → 1 + a ≡ length (delayText delay)
 delay-length-some delay ea e = let l : suc (length (timeText delay)) ≡ length (delayText delay) = ap length (delay-some delay e) in omega arith
 
-pub delay-long : (delay : ℕ) → delay < 4294967296 → length (delayText delay) ≤ 19
+pub delay-long : (delay : ℕ) → delay < 4294967296 → length (delayText delay) ≤ 20
 delay-long delay h =
     by-eq delay 0
     (λ e. let l = delay-length-none delay e in omega arith)
@@ -112,7 +103,7 @@ module _ (word : List ℕ) (present fade delay : ℕ) where
       in
       omega arith
 
-  pub time-line-long : length word ≤ 9 → fade < 4294967296 → delay < 4294967296 → length (joined (timeLine word present fade delay)) ≤ 48
+  pub time-line-long : length word ≤ 9 → fade < 4294967296 → delay < 4294967296 → length (joined (timeLine word present fade delay)) ≤ 50
   time-line-long h f g =
       by-eq present 0
       (λ e. let l = time-length-none e in omega arith)

@@ -20,9 +20,8 @@ use Rattle.store_head.specs.declared.Head.{Head}
 use Rattle.store_head.specs.declared.Patch.{Patch}
 use Rattle.store_head.specs.Fits.{wholeSpan, timeSpan, HeadFits, PatchFits}
 use Rattle.value.specs.Number.{fractionDigits}
-use Rattle.value.specs.Time.{tenthsDigits}
-use Rattle.value_written.specs.Text.{isPlain, integerText, fractionText, numberText, levelText, clockText, timeText}
-use Rattle.value_written.proofs.Texts.{integer-short, number-length, fraction-short, time-length, clock-seconds, clock-length-minutes, clock-length-hours, by-plain, plain-in, integer-plain, number-plain, level-plain, time-plain}
+use Rattle.value_written.specs.Text.{isPlain, integerText, fractionText, numberText, levelText, leftBy, timeText}
+use Rattle.value_written.proofs.Texts.{integer-short, number-length, fraction-short, time-by, left-few, by-plain, plain-in, integer-plain, number-plain, level-plain, time-plain}
 use Rattle.save_lines.specs.Line.{crlf, joined, patchText, patchLine, kindText, primaryText, delayText, timeLine, linkLine, headLines, Lit, litFrom, pairText, pairsText, mostPairs, chanLinesIn, chanLines}
 use Rattle.save_lines.specs.Ruled.{isSource, Ruled, AllRuled}
 use Rattle.save_lines.proofs.Parts.{delay-none, delay-some, joined-nil, joined-more}
@@ -89,31 +88,9 @@ number-six w f h =
     let c = number-length w f in
     omega arith
 
-clock-ten : (s : ℕ) → s < 6710887 → length (clockText s) ≤ 10
-clock-ten s h =
-    by-lt s 60
-    (λ l.
-    let a : length (integerText s) ≤ 4 = integer-four s (omega arith) in
-    let e : length (clockText s) ≡ length (integerText s) = ap length (clock-seconds s l) in
-    omega arith)
-    (λ l.
-    by-lt s 3600
-    (λ m.
-    let a : length (integerText (s / 60)) ≤ 4 = integer-four (s / 60) (omega arith) in
-    let e : length (clockText s) ≡ length (integerText (s / 60)) + 3 = clock-length-minutes s l m in
-    omega arith)
-    (λ m.
-    let a : length (integerText (s / 3600)) ≤ 4 = integer-four (s / 3600) (omega arith) in
-    let e : length (clockText s) ≡ length (integerText (s / 3600)) + 6 = clock-length-hours s m in
-    omega arith))
-
-pub time-twelve : (t : ℕ) → t < timeSpan → length (timeText t) ≤ 12
-time-twelve t h =
-    let g : t / 10 < 6710887 = omega arith in
-    let a = clock-ten (t / 10) g in
-    let b : length (fractionText tenthsDigits (t % 10)) ≤ tenthsDigits + 1 = fraction-short tenthsDigits (t % 10) in
-    let c = time-length t in
-    omega arith
+-- whatever 26 bits hold: hours and minutes up to 999, and the rest in seconds of seven digits
+pub time-held : (t : ℕ) → t < timeSpan → length (timeText t) ≤ 17
+time-held t h = time-by t 5 (let g : leftBy 60 (leftBy 3600 (t / 10)) < 10000000 = omega (arith, left-few t) in g)
 
 -- ---- PATCH
 patch-source : (page dimmer : ℕ) (p : Patch) → Source (patchText page dimmer p)
@@ -188,13 +165,13 @@ delay-source delay =
     (λ e. subst Source (sym (delay-none delay e)) refl)
     (λ e. subst Source (delay-some delay e) (all-append isSource (bytes " ") (timeText delay) refl (time-source delay)))
 
-pub delay-short : (delay : ℕ) → delay < timeSpan → length (delayText delay) ≤ 13
+pub delay-short : (delay : ℕ) → delay < timeSpan → length (delayText delay) ≤ 18
 delay-short delay h =
     by-eq delay 0
     (λ e. let l : length (delayText delay) ≡ 0 = ap length (delay-none delay e) in omega arith)
     (λ e.
     let l : suc (length (timeText delay)) ≡ length (delayText delay) = ap length (delay-some delay e) in
-    let m = time-twelve delay h in
+    let m = time-held delay h in
     omega arith)
 
 module _ (word : List ℕ) (present fade delay : ℕ) (s : Source word) (lw : length word ≤ 9) (lf : fade < timeSpan) (ld : delay < timeSpan) where
@@ -203,7 +180,7 @@ module _ (word : List ℕ) (present fade delay : ℕ) (s : Source word) (lw : le
 
   time-short : length time-text ≤ 80
   time-short =
-      let a = time-twelve fade lf in
+      let a = time-held fade lf in
       let b = delay-short delay ld in
       let l : length (timeText fade ++ delayText delay) ≡ length (timeText fade) + length (delayText delay) = length-append (timeText fade) (delayText delay) in
       let m : length time-text ≡ length word + length (timeText fade ++ delayText delay) = length-append word (timeText fade ++ delayText delay) in

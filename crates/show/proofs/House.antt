@@ -1,4 +1,4 @@
--- Writing the house small desk's show is never refused as too long (R5), whatever bytes the store holds: its stream has at most 251,647
+-- Writing the house small desk's show is never refused as too long (R5), whatever bytes the store holds: its stream has at most 258,847
 -- characters.
 -- Assumes nothing.
 use mathlib.Core.Path.{_≡_, sym, ap, _∙_}

@@ -3,14 +3,14 @@
 use mathlib.Core.Path.{_≡_, refl, sym, ap, _∙_}
 use mathlib.Core.Bool.{Bool, true, false, _&&_}
 use mathlib.Core.List.{List, [], _∷_}
-use Prim.Native.Nat.{ℕ, _/_, _%_, _≤_, _<_}
+use Prim.Native.Nat.{ℕ, _≤_, _<_}
 use native.Mathlib.Omega.{arith}
 use lib.Dec.{eqb, leb}
 use lib.ListN.{length}
 use borrow.Author.Tests.{eq-eqb, ne-eqb, le-leb, lt-leb}
 use Rattle.cells.proofs.Split.{cond-true, cond-false, and-true}
 use Rattle.value_written.specs.Text.{timeText}
-use Rattle.value_written.proofs.Texts.{clock-long, fraction-short, time-length}
+use Rattle.value_written.proofs.Texts.{time-long}
 use Rattle.load.specs.Condition.{isError}
 use Rattle.show.specs.Calls.{mostBytes, WriteCall, putCall}
 use Rattle.show_words.specs.Words.{severityOf, Row, textIn, warningRows, conditionRows, conditionText}
@@ -45,11 +45,7 @@ module _ {c : ℕ} (h : c ≡ 0 → ⊥) where
 -- ---- a time's text is short
 
 pub time-small : (t : ℕ) → t < 4294967296 → {n : ℕ} → n ≡ length (timeText t) → n ≤ mostBytes
-time-small t h e =
-    let a = clock-long (t / 10) (omega arith) in
-    let b = fraction-short 1 (t % 10) in
-    let c = time-length t in
-    omega arith
+time-small t h e = omega (arith, time-long t h)
 
 -- ---- a condition's text
 

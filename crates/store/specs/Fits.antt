@@ -23,7 +23,7 @@ EditFits (Followon time) = time < timeSpan
 EditFits (Link whole fraction) = (whole < wholeSpan) × (fraction < fractionSpan)
 EditFits (Level channel v) = Unit
 
--- the values of a change are in range: times at most 999:59:59.9, a link 0.1 to 999.9
+-- the values of a change are in range: times at most 999:999:999.9, a link 0.1 to 999.9
 abbrev pub InTime : Edit → Type 0
 InTime (Up fade delay) = (fade ≤ timeMax) × (delay ≤ timeMax)
 InTime (Down fade delay) = (fade ≤ timeMax) × (delay ≤ timeMax)

@@ -46,7 +46,7 @@ use Rattle.load.specs.Step.{openedBy}
 use Rattle.load.specs.Ask.{tablePages, askOf, fieldsAsk, familyOf, basicAsk, familyAsk, identOutcome, itemAsk, allAsk, tablesAsk, wipesAsk, allWipes, kindWipes, dimmerWipes, triplesAsk, primaryAsk, namedAsk, secondaryAsk, obeyedAsk, changeAsk}
 use Rattle.load.specs.Step.{settleBy, acted, wiped, recordStep, ignoredIn, outcomeFaults, reportedOf}
 use Rattle.load.specs.Run.{stops, runFrom, loadOf}
-use Rattle.value_written.specs.Text.{digitChar, digitsOn, digitCountFrom, digitCount, integerText, fractionText, numberText, levelText, partText, clockText, timeText}
+use Rattle.value_written.specs.Text.{digitChar, digitsOn, digitCountFrom, digitCount, integerText, fractionText, numberText, levelText, partText, wholeIn, leftBy, clockText, timeText}
 use Rattle.save_lines.specs.Line.{joined, patchText, patchLine, kindText, primaryText, delayText, timeLine, linkLine, headLines, litFrom, pairText, pairsText, chanLinesIn, chanLines}
 use Rattle.save.specs.Lines.{dimmerLines, pageLines, memoryLines, slotLines, linesOf, streamOf}
 use Rattle.theorem_same_show.specs.Show.{ReadBack}
@@ -58,9 +58,9 @@ group = record { kind = Group; key = record { page = 1; whole = 1; fraction = 0 
 abbrev sub : Name
 sub = record { kind = Sub; key = record { page = 1; whole = 1; fraction = 0 } }
 
--- the store's trial, with group 1 at channel 1 full, and submaster 1 with DOWN 1:30
+-- the store's trial, with group 1 at channel 1 full, and submaster 1 with DOWN 1:30 after the longest delay
 abbrev pub trial : List ℕ
-trial = edited small (started small (edited small (started small shown group) group (Level 1 255)) sub) sub (Down 900 0)
+trial = edited small (started small (edited small (started small shown group) group (Level 1 255)) sub) sub (Down 900 36_573_399)
 
 pub trial-lines : linesOf small trial
     ≡ bytes "IDENT 3:0"
@@ -74,10 +74,10 @@ pub trial-lines : linesOf small trial
     ∷ bytes "GROUP 1 1"
     ∷ bytes "CHAN 1@HFF"
     ∷ bytes "SUB 1 1"
-    ∷ bytes "DOWN 1:30"
+    ∷ bytes "DOWN 1:30 999:999:999.9"
     ∷ bytes "ENDDATA"
     ∷ []
-unfolding usedFrom insertSlot sortSlots inOrder lessKey levelsAt memoryAt patchedTo digitChar digitsOn digitCountFrom digitCount integerText fractionText numberText levelText partText clockText timeText patchText patchLine dimmerLines pageLines kindText primaryText delayText timeLine linkLine headLines litFrom pairText pairsText chanLinesIn chanLines memoryLines slotLines linesOf lowestUnused newSeat seat blankHead blankSlot started editHead withHead editSlot editAt edited patched slotAt putSlot entryAt putEntry headAt levelPlace holdsAt find onFound firstFrom put allOf eqKey levelWidth levelsLength slotLength subSlots slotsOf patchStart entryOf firstSlot slotCount subSlot total packed unpacked encodeHead decodeHead encodePatch decodePatch
+unfolding usedFrom insertSlot sortSlots inOrder lessKey levelsAt memoryAt patchedTo digitChar digitsOn digitCountFrom digitCount integerText fractionText numberText levelText partText wholeIn leftBy clockText timeText patchText patchLine dimmerLines pageLines kindText primaryText delayText timeLine linkLine headLines litFrom pairText pairsText chanLinesIn chanLines memoryLines slotLines linesOf lowestUnused newSeat seat blankHead blankSlot started editHead withHead editSlot editAt edited patched slotAt putSlot entryAt putEntry headAt levelPlace holdsAt find onFound firstFrom put allOf eqKey levelWidth levelsLength slotLength subSlots slotsOf patchStart entryOf firstSlot slotCount subSlot total packed unpacked encodeHead decodeHead encodePatch decodePatch
 trial-lines = refl
 
 trial-form : goodForm small trial ≡ true
@@ -115,5 +115,5 @@ trial-back = written-reads-back small trial trial trial-ready (all-bytes trial t
 
 -- the same show, and other bytes: cue 2.5 stood in the second slot, and comes first
 pub trial-moved : inOrder small trial Cue ++ inOrder small (loadOf small trial (streamOf small trial) .store) Cue ≡ 1 ∷ 0 ∷ 0 ∷ 1 ∷ []
-unfolding streamOf joined loadOf runFrom stops recordStep acted askOf fieldsAsk familyAsk familyOf basicAsk identOutcome itemAsk allAsk tablesAsk wipesAsk settleBy tablePages allWipes kindWipes dimmerWipes wiped triplesAsk primaryAsk namedAsk openedBy namedOf namedBy numeralOf numberedBy subBy pageAt secondaryAsk augments obeyedAsk changeAsk timesOf fadeOf onTime delayOf linkBy reportedOf ignoredIn outcomeFaults rangedOf onRanged onLevel pairOf tripleOf pairsOf triplesOf faultsOf done allDone recordsOf piecesOf piecesIn bare isEnd terminated keptOf isHigh isControl isMark has fieldsOf wordsOf wordsIn isDelimiter keywordOf meaningOf keywordRows itemOf itemRows sameWord sameText upper versionOf versionedOf pageOf pagedOf integerOf runOf digitsFrom digitOf numberOf numberedOf cutAt decimalsOf rangedTime partOf joinOf laterOf clockOf timedOf timeOf levelOf hexOf hexByteOf clearFrom cleared hitsAt clearedPatch patchPageLength entriesOf supported pagesOf hasTimes hasLink span usedFrom insertSlot sortSlots inOrder lessKey levelsAt memoryAt patchedTo digitChar digitsOn digitCountFrom digitCount integerText fractionText numberText levelText partText clockText timeText patchText patchLine dimmerLines pageLines kindText primaryText delayText timeLine linkLine headLines litFrom pairText pairsText chanLinesIn chanLines memoryLines slotLines linesOf lowestUnused newSeat seat blankHead blankSlot started editHead withHead editSlot editAt edited patched slotAt putSlot entryAt putEntry headAt levelPlace holdsAt find onFound firstFrom put allOf eqKey levelWidth levelsLength slotLength subSlots slotsOf patchStart entryOf firstSlot slotCount subSlot total packed unpacked encodeHead decodeHead encodePatch decodePatch
+unfolding streamOf joined loadOf runFrom stops recordStep acted askOf fieldsAsk familyAsk familyOf basicAsk identOutcome itemAsk allAsk tablesAsk wipesAsk settleBy tablePages allWipes kindWipes dimmerWipes wiped triplesAsk primaryAsk namedAsk openedBy namedOf namedBy numeralOf numberedBy subBy pageAt secondaryAsk augments obeyedAsk changeAsk timesOf fadeOf onTime delayOf linkBy reportedOf ignoredIn outcomeFaults rangedOf onRanged onLevel pairOf tripleOf pairsOf triplesOf faultsOf done allDone recordsOf piecesOf piecesIn bare isEnd terminated keptOf isHigh isControl isMark has fieldsOf wordsOf wordsIn isDelimiter keywordOf meaningOf keywordRows itemOf itemRows sameWord sameText upper versionOf versionedOf pageOf pagedOf integerOf runOf digitsFrom digitOf numberOf numberedOf cutAt decimalsOf rangedTime partOf joinOf laterOf clockOf timedOf timeOf levelOf hexOf hexByteOf clearFrom cleared hitsAt clearedPatch patchPageLength entriesOf supported pagesOf hasTimes hasLink span usedFrom insertSlot sortSlots inOrder lessKey levelsAt memoryAt patchedTo digitChar digitsOn digitCountFrom digitCount integerText fractionText numberText levelText partText wholeIn leftBy clockText timeText patchText patchLine dimmerLines pageLines kindText primaryText delayText timeLine linkLine headLines litFrom pairText pairsText chanLinesIn chanLines memoryLines slotLines linesOf lowestUnused newSeat seat blankHead blankSlot started editHead withHead editSlot editAt edited patched slotAt putSlot entryAt putEntry headAt levelPlace holdsAt find onFound firstFrom put allOf eqKey levelWidth levelsLength slotLength subSlots slotsOf patchStart entryOf firstSlot slotCount subSlot total packed unpacked encodeHead decodeHead encodePatch decodePatch
 trial-moved = refl

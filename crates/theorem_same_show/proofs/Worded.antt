@@ -4,14 +4,14 @@
 use mathlib.Core.Path.{_≡_, refl, sym, ap, subst}
 use mathlib.Core.Bool.{true, cond}
 use mathlib.Core.List.{List, [], _∷_, _++_, append-assoc}
-use Prim.Native.Nat.{ℕ, suc, _+_, _*_, _/_, _%_, _≤_, _<_}
+use Prim.Native.Nat.{ℕ, suc, _+_, _*_, _≤_, _<_}
 use native.Mathlib.Omega.{arith}
 use lib.Dec.{eqb}
 use lib.ListN.{length, length-append}
 use borrow.Author.Tests.{eq-eqb, ne-eqb}
 use Rattle.cells.specs.Text.{bytes}
 use Rattle.cells.specs.Scan.{span}
-use Rattle.cells.proofs.Split.{by-eq, by-lt}
+use Rattle.cells.proofs.Split.{by-eq}
 use Rattle.cells.proofs.Scan.{span-nil, all-cons, all-append}
 use Rattle.text_records.specs.Received.{longest}
 use Rattle.text_records.specs.Cleaning.{has}
@@ -23,9 +23,9 @@ use Rattle.store_desk.specs.declared.Kind.the-variants.{Cue, Group, Sub}
 use Rattle.store_desk.specs.Size.{Within}
 use Rattle.store_head.specs.declared.Patch.{Patch}
 use Rattle.value.specs.Number.{wholeMax, fractionDigits}
-use Rattle.value.specs.Time.{tenthsDigits, timeMax}
-use Rattle.value_written.specs.Text.{integerText, numberText, levelText, fractionText, clockText, timeText, isPlain}
-use Rattle.value_written.proofs.Texts.{integer-some, integer-short, number-length, number-short, level-length, time-length, time-short, clock-seconds, clock-length-minutes, clock-length-hours, integer-plain, number-plain, level-plain, time-plain}
+use Rattle.value.specs.Time.{timeMax}
+use Rattle.value_written.specs.Text.{integerText, numberText, levelText, fractionText, timeText, isPlain}
+use Rattle.value_written.proofs.Texts.{integer-some, integer-short, number-length, number-short, level-length, time-short, time-some, integer-plain, number-plain, level-plain, time-plain}
 use Rattle.save_lines.specs.Line.{patchText, kindText, primaryText, delayText, Lit, pairText, pairsText}
 use Rattle.theorem_same_show.proofs.Fair.{isFair, Fair, fair-plain}
 use Rattle.theorem_same_show.proofs.Spelled.{Spells, OneWord, Ends, ends-nil, ends-at, spells-nil, spells-first, spells-next, spells-last, plain-one, space-delimits, less-delimits, at-delimits}
@@ -97,21 +97,8 @@ level-valued l =
     let a : length (levelText l) ≡ 3 = level-length l in
     valued (levelText l) 3 (level-plain l) (omega arith) (omega arith)
 
-clock-some : (s : ℕ) → 1 ≤ length (clockText s)
-clock-some s =
-    by-lt s 60
-    (λ l. let a : length (clockText s) ≡ length (integerText s) = ap length (clock-seconds s l) in
-    let b : 1 ≤ length (integerText s) = integer-some s in omega arith)
-    (λ l.
-    by-lt s 3600
-    (λ m. let a : length (clockText s) ≡ length (integerText (s / 60)) + 3 = clock-length-minutes s l m in omega arith)
-    (λ m. let a : length (clockText s) ≡ length (integerText (s / 3600)) + 6 = clock-length-hours s m in omega arith))
-
-time-valued : (t : ℕ) → t ≤ timeMax → Valued (timeText t) 11
-time-valued t h =
-    let a : length (timeText t) ≡ length (clockText (t / 10)) + length (fractionText tenthsDigits (t % 10)) = time-length t in
-    let b : 1 ≤ length (clockText (t / 10)) = clock-some (t / 10) in
-    valued (timeText t) 11 (time-plain t) (omega arith) (time-short t h)
+time-valued : (t : ℕ) → t ≤ timeMax → Valued (timeText t) 13
+time-valued t h = valued (timeText t) 13 (time-plain t) (time-some t) (time-short t h)
 
 -- ---- the delimiters
 space-fair : isFair 32 ≡ true
@@ -192,7 +179,7 @@ primary-line Sub key hw hp = line-of (kind-valued Sub) (primary-tail key hw hp) 
 unfoldable pub delayWords : ℕ → List (List ℕ)
 delayWords delay = cond (eqb delay 0) [] (timeText delay ∷ [])
 
-delay-tail : (delay : ℕ) → delay ≤ timeMax → Tail (delayText delay) (delayWords delay) 12
+delay-tail : (delay : ℕ) → delay ≤ timeMax → Tail (delayText delay) (delayWords delay) 14
 unfolding delayText delayWords
 delay-tail delay h =
     by-eq delay 0
@@ -200,7 +187,7 @@ delay-tail delay h =
     (λ e. rw (ne-eqb delay 0 e) (tail-last space-delimits space-fair (time-valued delay h)))
 
 time-tail : (fade delay : ℕ) → fade ≤ timeMax → delay ≤ timeMax
-    → Tail (32 ∷ (timeText fade ++ delayText delay)) (timeText fade ∷ delayWords delay) (1 + 11 + 12)
+    → Tail (32 ∷ (timeText fade ++ delayText delay)) (timeText fade ∷ delayWords delay) (1 + 13 + 14)
 time-tail fade delay hf hd = tail-next space-delimits space-fair (time-valued fade hf) (delay-tail delay hd)
 
 module _ (fade delay : ℕ) (hf : fade ≤ timeMax) (hd : delay ≤ timeMax) where

@@ -1,4 +1,4 @@
--- The twelve proved edges hold, each by computation of the whole load.
+-- The proved edges hold, each by computation of the whole load.
 -- Assumes nothing.
 use mathlib.Core.Path.{_≡_, refl}
 use mathlib.Core.List.{map}

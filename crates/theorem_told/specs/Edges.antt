@@ -1,4 +1,4 @@
--- The proved edges (P) of paper 01, "Edges to hold": twelve streams, and what the load of each comes to.
+-- The proved edges (P) of paper 01, "Edges to hold", and of C-12: fourteen streams, and what the load of each comes to.
 -- Assumes nothing.
 use mathlib.Core.List.{List, [], _∷_, _++_, map}
 use Prim.Native.Nat.{ℕ}
@@ -108,12 +108,18 @@ edges =
     -- 0:03 is 3 seconds
     ∷ edge (bytes "CUE 1\rUP 0:03\rENDDATA\r") (cue 1 0)
     [] (0 ∷ 3 ∷ 0 ∷ 0 ∷ 0 ∷ []) (1 ∷ 30 ∷ 0 ∷ 0 ∷ [])
-    -- 1:60 is 0241
+    -- 1:60 is 1,200 tenths (C-12)
     ∷ edge (bytes "CUE 1\rUP 1:60\rENDDATA\r") (cue 1 0)
+    [] (0 ∷ 3 ∷ 0 ∷ 0 ∷ 0 ∷ []) (1 ∷ 1_200 ∷ 0 ∷ 0 ∷ [])
+    -- 1:1000 is 0241 (C-12)
+    ∷ edge (bytes "CUE 1\rUP 1:1000\rENDDATA\r") (cue 1 0)
     (word 2 241 4 ∷ []) (0 ∷ 2 ∷ 0 ∷ 1 ∷ 241 ∷ []) (0 ∷ 0 ∷ 0 ∷ 0 ∷ [])
     -- 999:59:59.9 is 35,999,999 tenths
     ∷ edge (bytes "CUE 1\rUP 999:59:59.9\rENDDATA\r") (cue 1 0)
     [] (0 ∷ 3 ∷ 0 ∷ 0 ∷ 0 ∷ []) (1 ∷ 35_999_999 ∷ 0 ∷ 0 ∷ [])
+    -- 999:999:999.9 is 36,573,399 tenths, the largest time (C-12)
+    ∷ edge (bytes "CUE 1\rUP 999:999:999.9\rENDDATA\r") (cue 1 0)
+    [] (0 ∷ 3 ∷ 0 ∷ 0 ∷ 0 ∷ []) (1 ∷ 36_573_399 ∷ 0 ∷ 0 ∷ [])
     -- cue 999.9 is kept
     ∷ edge (bytes "CUE 999.9\rENDDATA\r") (cue 999 9)
     [] (0 ∷ 2 ∷ 0 ∷ 0 ∷ 0 ∷ []) (0 ∷ 0 ∷ 0 ∷ 0 ∷ [])

@@ -18,7 +18,7 @@ use Rattle.value.specs.declared.Integer.the-variants.{Value}
 use Rattle.value.specs.Integer.{integerOf}
 use Rattle.value.specs.Parts.{point, colon, isOther, cutAt, decimalsOf}
 use Rattle.value.specs.Number.{fractionDigits, numberedOf, numberOf}
-use Rattle.value.specs.Time.{firstMax, laterMax, tenthsDigits, partOf, joinOf, laterOf, clockOf, timedOf, timeOf}
+use Rattle.value.specs.Time.{tenthsDigits, partOf, joinOf, laterOf, clockOf, timedOf, timeOf}
 use Rattle.value.proofs.Cuts.{decimals-none, decimals-few}
 use Rattle.value.proofs.Numbers.{number-is}
 use Rattle.value.proofs.Times.{later-one, later-two, clock-one, clock-more, time-is}
@@ -81,20 +81,20 @@ pub time-parts : (xs ys : List ℕ) → span (isOther point) xs ≡ length xs �
 time-parts xs ys h g =
     sym (time-is (xs ++ (point ∷ ys)) refl (ap clockOf (sym (parts-before point xs ys h))) (sym (parts-decimals point xs ys h tenthsDigits g)) refl)
 
-pub clock-whole : (s : List ℕ) → span (isOther colon) s ≡ length s → clockOf s ≡ partOf firstMax s
-clock-whole s h = clock-one s (whole-end colon s h) ∙ ap (partOf firstMax) (whole-before colon s h)
+pub clock-whole : (s : List ℕ) → span (isOther colon) s ≡ length s → clockOf s ≡ partOf s
+clock-whole s h = clock-one s (whole-end colon s h) ∙ ap partOf (whole-before colon s h)
 
-pub clock-parts : (xs ys : List ℕ) → span (isOther colon) xs ≡ length xs → clockOf (xs ++ (colon ∷ ys)) ≡ laterOf (partOf firstMax xs) ys
+pub clock-parts : (xs ys : List ℕ) → span (isOther colon) xs ≡ length xs → clockOf (xs ++ (colon ∷ ys)) ≡ laterOf (partOf xs) ys
 clock-parts xs ys h =
     let e : take (cutAt colon (xs ++ (colon ∷ ys))) (xs ++ (colon ∷ ys)) ≡ xs = parts-before colon xs ys h in
     let f : drop (cutAt colon (xs ++ (colon ∷ ys)) + 1) (xs ++ (colon ∷ ys)) ≡ ys = parts-after colon xs ys h in
     clock-more (xs ++ (colon ∷ ys)) (parts-within colon xs ys h) ∙ rw (e, f)
 
-pub later-whole : (first : Integer) (s : List ℕ) → span (isOther colon) s ≡ length s → laterOf first s ≡ joinOf first 60 (partOf laterMax s)
+pub later-whole : (first : Integer) (s : List ℕ) → span (isOther colon) s ≡ length s → laterOf first s ≡ joinOf first 60 (partOf s)
 later-whole first s h = later-one first s (whole-end colon s h)
 
 pub later-parts : (first : Integer) (xs ys : List ℕ) → span (isOther colon) xs ≡ length xs
-    → laterOf first (xs ++ (colon ∷ ys)) ≡ joinOf (joinOf first 60 (partOf laterMax xs)) 60 (partOf laterMax ys)
+    → laterOf first (xs ++ (colon ∷ ys)) ≡ joinOf (joinOf first 60 (partOf xs)) 60 (partOf ys)
 later-parts first xs ys h =
     let e : take (cutAt colon (xs ++ (colon ∷ ys))) (xs ++ (colon ∷ ys)) ≡ xs = parts-before colon xs ys h in
     let f : drop (cutAt colon (xs ++ (colon ∷ ys)) + 1) (xs ++ (colon ∷ ys)) ≡ ys = parts-after colon xs ys h in

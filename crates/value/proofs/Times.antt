@@ -15,7 +15,7 @@ use Rattle.value.specs.declared.Integer.the-variants.{Malformed, Value}
 use Rattle.value.specs.declared.Timed.the-variants.{Malformed as BadTime, Value as IsTime}
 use Rattle.value.specs.Integer.{cap, integerOf, AtMost}
 use Rattle.value.specs.Parts.{point, colon, cutAt, before, after, decimalsOf}
-use Rattle.value.specs.Time.{firstMax, laterMax, clockMax, tenthsDigits, boundedOf, partOf, joinOf, laterOf, clockOf, timedOf, timeOf}
+use Rattle.value.specs.Time.{partMax, clockMax, tenthsDigits, boundedOf, partOf, joinOf, laterOf, clockOf, timedOf, timeOf}
 use Rattle.value.proofs.Digits.{at-most-of}
 
 pub at-most-up : {n m : ℕ} (i : Integer) → AtMost n i → n ≤ m → AtMost m i
@@ -40,9 +40,9 @@ ranged-most most Malformed = at-most-of most (part-malformed most refl) tt
 ranged-most most (Value v) =
     by-le v most (λ h. at-most-of most (part-good most refl h) h) (λ h. at-most-of most (part-large most refl h) tt)
 
-pub part-most : (most : ℕ) (s : List ℕ) → AtMost most (partOf most s)
+pub part-most : (s : List ℕ) → AtMost partMax (partOf s)
 unfolding partOf
-part-most most s = ranged-most most (integerOf s)
+part-most s = ranged-most partMax (integerOf s)
 
 -- ---- two parts
 pub join-high : {i : Integer} (base : ℕ) (j : Integer) → i ≡ Malformed → joinOf i base j ≡ Malformed
@@ -68,49 +68,49 @@ pub joined-fits : {h k l : ℕ} → h ≤ 10000000 → k ≤ 100 → l ≤ cap �
 joined-fits {h} {k} {l} a b c = let m : h * k ≤ 10000000 * 100 = mul-le-mul a b in omega arith
 
 -- ---- the parts behind the first colon
-pub later-one : (first : Integer) (s : List ℕ) → length s ≤ cutAt colon s → laterOf first s ≡ joinOf first 60 (partOf laterMax s)
+pub later-one : (first : Integer) (s : List ℕ) → length s ≤ cutAt colon s → laterOf first s ≡ joinOf first 60 (partOf s)
 unfolding laterOf
 later-one first s h = rw (le-ltb (cutAt colon s) (length s) h)
 
 pub later-two : (first : Integer) (s : List ℕ) → cutAt colon s < length s
     → laterOf first s
-    ≡ joinOf (joinOf first 60 (partOf laterMax (before (cutAt colon s) s))) 60 (partOf laterMax (after (cutAt colon s) s))
+    ≡ joinOf (joinOf first 60 (partOf (before (cutAt colon s) s))) 60 (partOf (after (cutAt colon s) s))
 unfolding laterOf
 later-two first s h = rw (lt-ltb (cutAt colon s) (length s) h)
 
 -- ---- all parts
-pub clock-one : (s : List ℕ) → length s ≤ cutAt colon s → clockOf s ≡ partOf firstMax (before (cutAt colon s) s)
+pub clock-one : (s : List ℕ) → length s ≤ cutAt colon s → clockOf s ≡ partOf (before (cutAt colon s) s)
 unfolding clockOf
 clock-one s h = rw (le-ltb (cutAt colon s) (length s) h)
 
 pub clock-more : (s : List ℕ) → cutAt colon s < length s
-    → clockOf s ≡ laterOf (partOf firstMax (before (cutAt colon s) s)) (after (cutAt colon s) s)
+    → clockOf s ≡ laterOf (partOf (before (cutAt colon s) s)) (after (cutAt colon s) s)
 unfolding clockOf
 clock-more s h = rw (lt-ltb (cutAt colon s) (length s) h)
 
 -- ---- how large
-pub middle-most : (first : Integer) (s : List ℕ) → AtMost firstMax first → AtMost (firstMax * 60 + laterMax) (joinOf first 60 (partOf laterMax s))
-middle-most first s h = join-most firstMax laterMax 60 first (partOf laterMax s) h (part-most laterMax s)
+pub middle-most : (first : Integer) (s : List ℕ) → AtMost partMax first → AtMost (partMax * 60 + partMax) (joinOf first 60 (partOf s))
+middle-most first s h = join-most partMax partMax 60 first (partOf s) h (part-most s)
 
-later-most : (first : Integer) (s : List ℕ) → AtMost firstMax first → AtMost clockMax (laterOf first s)
+later-most : (first : Integer) (s : List ℕ) → AtMost partMax first → AtMost clockMax (laterOf first s)
 later-most first s h =
     by-lt (cutAt colon s) (length s)
     (λ l.
-    let m : Integer = joinOf first 60 (partOf laterMax (before (cutAt colon s) s)) in
+    let m : Integer = joinOf first 60 (partOf (before (cutAt colon s) s)) in
     let t : List ℕ = after (cutAt colon s) s in
     at-most-of clockMax (later-two first s l)
-    (join-most (firstMax * 60 + laterMax) laterMax 60 m (partOf laterMax t) (middle-most first (before (cutAt colon s) s) h)
-    (part-most laterMax t)))
+    (join-most (partMax * 60 + partMax) partMax 60 m (partOf t) (middle-most first (before (cutAt colon s) s) h)
+    (part-most t)))
     (λ l.
     at-most-of clockMax (later-one first s l)
-    (at-most-up (joinOf first 60 (partOf laterMax s)) (middle-most first s h) (omega arith)))
+    (at-most-up (joinOf first 60 (partOf s)) (middle-most first s h) (omega arith)))
 
 pub clock-most : (s : List ℕ) → AtMost clockMax (clockOf s)
 clock-most s =
     let f : List ℕ = before (cutAt colon s) s in
     by-lt (cutAt colon s) (length s)
-    (λ l. at-most-of clockMax (clock-more s l) (later-most (partOf firstMax f) (after (cutAt colon s) s) (part-most firstMax f)))
-    (λ l. at-most-of clockMax (clock-one s l) (at-most-up (partOf firstMax f) (part-most firstMax f) (omega arith)))
+    (λ l. at-most-of clockMax (clock-more s l) (later-most (partOf f) (after (cutAt colon s) s) (part-most f)))
+    (λ l. at-most-of clockMax (clock-one s l) (at-most-up (partOf f) (part-most f) (omega arith)))
 
 -- ---- the time
 pub time-malformed : {i : Integer} → i ≡ Malformed → timedOf i ≡ BadTime
@@ -122,48 +122,48 @@ unfolding timedOf
 time-good e = ap timedOf e
 
 -- ---- from the parts as the code has them
-pub part-is : (most : ℕ) (s : List ℕ) {i : Integer} → i ≡ integerOf s → boundedOf most i ≡ partOf most s
+pub part-is : (s : List ℕ) {i : Integer} → i ≡ integerOf s → boundedOf partMax i ≡ partOf s
 unfolding partOf
-part-is most s e = ap (λ (x : Integer). boundedOf most x) e
+part-is s e = ap (boundedOf partMax) e
 
-pub part-at-most : (n most : ℕ) (s : List ℕ) {i : Integer} → i ≡ partOf most s → most ≤ n → AtMost n i
-part-at-most n most s e h = at-most-of n e (at-most-up (partOf most s) (part-most most s) h)
+pub part-at-most : (n : ℕ) (s : List ℕ) {i : Integer} → i ≡ partOf s → partMax ≤ n → AtMost n i
+part-at-most n s e h = at-most-of n e (at-most-up (partOf s) (part-most s) h)
 
 pub middle-at-most : (first : Integer) (s : List ℕ) {i j : Integer}
-    → AtMost firstMax first → j ≡ partOf laterMax s → i ≡ joinOf first 60 j → AtMost 10000000 i
+    → AtMost partMax first → j ≡ partOf s → i ≡ joinOf first 60 j → AtMost 10000000 i
 middle-at-most first s {i} {j} h e f =
     at-most-of 10000000 (f ∙ ap (λ (x : Integer). joinOf first 60 x) e)
-    (at-most-up (joinOf first 60 (partOf laterMax s)) (middle-most first s h) (omega arith))
+    (at-most-up (joinOf first 60 (partOf s)) (middle-most first s h) (omega arith))
 
 pub clock-at-most : (s : List ℕ) {i : Integer} → i ≡ clockOf s → AtMost 10000000 i
 clock-at-most s e = at-most-of 10000000 e (at-most-up (clockOf s) (clock-most s) (omega arith))
 
 pub later-one-is : (first : Integer) (s : List ℕ) {n : ℕ} {i : Integer}
-    → n ≡ cutAt colon s → length s ≤ n → i ≡ partOf laterMax s → joinOf first 60 i ≡ laterOf first s
+    → n ≡ cutAt colon s → length s ≤ n → i ≡ partOf s → joinOf first 60 i ≡ laterOf first s
 later-one-is first s e h f =
     ap (λ (x : Integer). joinOf first 60 x) f ∙ sym (later-one first s (subst (λ (k : ℕ). length s ≤ k) e h))
 
 pub later-two-is : (first : Integer) (s : List ℕ) {n : ℕ} {i j k : Integer}
-    → n ≡ cutAt colon s → n < length s → i ≡ partOf laterMax (take n s) → j ≡ joinOf first 60 i
-    → k ≡ partOf laterMax (take (length s - (n + 1)) (drop (n + 1) s)) → joinOf j 60 k ≡ laterOf first s
+    → n ≡ cutAt colon s → n < length s → i ≡ partOf (take n s) → j ≡ joinOf first 60 i
+    → k ≡ partOf (take (length s - (n + 1)) (drop (n + 1) s)) → joinOf j 60 k ≡ laterOf first s
 later-two-is first s {n} {i} {j} {k} e h f g l =
-    let t : k ≡ partOf laterMax (drop (n + 1) s) = l ∙ ap (partOf laterMax) (tail-is s (n + 1)) in
+    let t : k ≡ partOf (drop (n + 1) s) = l ∙ ap partOf (tail-is s (n + 1)) in
     let v : laterOf first s
-    ≡ joinOf (joinOf first 60 (partOf laterMax (take (cutAt colon s) s))) 60 (partOf laterMax (drop (cutAt colon s + 1) s)) =
+    ≡ joinOf (joinOf first 60 (partOf (take (cutAt colon s) s))) 60 (partOf (drop (cutAt colon s + 1) s)) =
     later-two first s (subst (λ (x : ℕ). x < length s) e h) in
     cc
 
-pub clock-one-is : (s : List ℕ) {n : ℕ} {i : Integer} → n ≡ cutAt colon s → length s ≤ n → i ≡ partOf firstMax (take n s) → i ≡ clockOf s
+pub clock-one-is : (s : List ℕ) {n : ℕ} {i : Integer} → n ≡ cutAt colon s → length s ≤ n → i ≡ partOf (take n s) → i ≡ clockOf s
 clock-one-is s {n} {i} e h f =
-    let v : clockOf s ≡ partOf firstMax (take (cutAt colon s) s) = clock-one s (subst (λ (x : ℕ). length s ≤ x) e h) in
+    let v : clockOf s ≡ partOf (take (cutAt colon s) s) = clock-one s (subst (λ (x : ℕ). length s ≤ x) e h) in
     cc
 
 pub clock-more-is : (s : List ℕ) {n : ℕ} {i j : Integer}
-    → n ≡ cutAt colon s → n < length s → i ≡ partOf firstMax (take n s)
+    → n ≡ cutAt colon s → n < length s → i ≡ partOf (take n s)
     → j ≡ laterOf i (take (length s - (n + 1)) (drop (n + 1) s)) → j ≡ clockOf s
 clock-more-is s {n} {i} {j} e h f g =
     let t : j ≡ laterOf i (drop (n + 1) s) = g ∙ ap (laterOf i) (tail-is s (n + 1)) in
-    let v : clockOf s ≡ laterOf (partOf firstMax (take (cutAt colon s) s)) (drop (cutAt colon s + 1) s) =
+    let v : clockOf s ≡ laterOf (partOf (take (cutAt colon s) s)) (drop (cutAt colon s + 1) s) =
     clock-more s (subst (λ (x : ℕ). x < length s) e h) in
     cc
 

@@ -1,4 +1,4 @@
--- Times in tenths of a second (§7.7; paper 01, "Times": `[[h:]m:]s[.t]`). The first part is 0 to 999, and each after a colon 0 to 59.
+-- Times in tenths of a second (§7.7; paper 01, "Times": `[[h:]m:]s[.t]`; C-12). Hours, minutes and seconds are each 0 to 999, wherever they stand.
 -- Assumes nothing.
 use mathlib.Core.Bool.{cond}
 use mathlib.Core.List.{List}
@@ -11,18 +11,15 @@ use Rattle.value.specs.declared.Timed.the-variants.{Malformed as BadTime
 use Rattle.value.specs.Integer.{integerOf}
 use Rattle.value.specs.Parts.{point, colon, cutAt, before, after, within, decimalsOf}
 
-abbrev pub firstMax : ℕ
-firstMax = 999
-
-abbrev pub laterMax : ℕ
-laterMax = 59
+abbrev pub partMax : ℕ
+partMax = 999
 
 abbrev pub tenthsDigits : ℕ
 tenthsDigits = 1
 
--- the largest clock in seconds, 999:59:59, and the largest time in tenths, 999:59:59.9
+-- the largest clock in seconds, 999:999:999, and the largest time in tenths, 999:999:999.9
 abbrev pub clockMax : ℕ
-clockMax = (firstMax * 60 + laterMax) * 60 + laterMax
+clockMax = (partMax * 60 + partMax) * 60 + partMax
 
 abbrev pub timeMax : ℕ
 timeMax = clockMax * 10 + 9
@@ -32,8 +29,8 @@ unfoldable pub boundedOf : ℕ → Integer → Integer
 boundedOf most Malformed = Malformed
 boundedOf most (Value v) = cond (ltb most v) Malformed (Value v)
 
-unfoldable pub partOf : ℕ → List ℕ → Integer
-partOf most s = boundedOf most (integerOf s)
+unfoldable pub partOf : List ℕ → Integer
+partOf s = boundedOf partMax (integerOf s)
 
 -- two parts, of which the first counts `base` units of the second
 unfoldable pub joinOf : Integer → ℕ → Integer → Integer
@@ -45,14 +42,14 @@ joinOf (Value h) base (Value l) = Value (h * base + l)
 unfoldable pub laterOf : Integer → List ℕ → Integer
 laterOf first s =
     let n = cutAt colon s in
-    cond (within n s) (joinOf (joinOf first 60 (partOf laterMax (before n s))) 60 (partOf laterMax (after n s)))
-    (joinOf first 60 (partOf laterMax s))
+    cond (within n s) (joinOf (joinOf first 60 (partOf (before n s))) 60 (partOf (after n s)))
+    (joinOf first 60 (partOf s))
 
 -- hours, minutes and seconds, in seconds
 unfoldable pub clockOf : List ℕ → Integer
 clockOf s =
     let n = cutAt colon s in
-    let first = partOf firstMax (before n s) in
+    let first = partOf (before n s) in
     cond (within n s) (laterOf first (after n s)) first
 
 unfoldable pub timedOf : Integer → Timed

@@ -8,7 +8,7 @@ ghost use Rattle.value.specs.Integer.{cap, digitOf, runOf, integerOf, At
 ghost use Rattle.value.specs.Digits.{isDigit, digitsAt};
 ghost use Rattle.value.specs.Parts.{cutAt, decimalsOf};
 ghost use Rattle.value.specs.Number.{numberedOf, numberOf};
-ghost use Rattle.value.specs.Time.{firstMax, partOf, joinOf, laterOf, clockOf, timeOf};
+ghost use Rattle.value.specs.Time.{partMax, partOf, joinOf, laterOf, clockOf, timeOf};
 ghost use Rattle.value.specs.Field.{versionedOf, versionOf, pageOf};
 
 // What a digit run is cut at: above every limit and far below what wraps, so that a long one is too large and nothing else.
@@ -25,15 +25,13 @@ pub const FRACTION_DIGITS: usize = 1;
 
 pub const FRACTION_MAX: u32 = 9;
 
-// A time: the largest first part, the largest part after a colon, and how many digits may follow the point.
-const FIRST_MAX: u32 = 999;
-
-const LATER_MAX: u32 = 59;
+// A time: the largest part, and how many digits may follow the point.
+pub const PART_MAX: u32 = 999;
 
 pub const TENTHS_DIGITS: usize = 1;
 
-// The largest time in tenths, 999:59:59.9.
-pub const TIME_MAX: u32 = ((FIRST_MAX * 60 + LATER_MAX) * 60 + LATER_MAX) * 10 + 9;
+// The largest time in tenths, 999:999:999.9.
+pub const TIME_MAX: u32 = ((PART_MAX * 60 + PART_MAX) * 60 + PART_MAX) * 10 + 9;
 
 // A digit run: one or more digits, its value cut at CAP.
 pub enum Integer {
@@ -254,14 +252,14 @@ pub fn read_number(s: &[u8]) -> Numbered
     sized(whole, decimals(s, point, FRACTION_DIGITS))
 }
 
-// One part of a time, at most `most`.
-fn part(s: &[u8], most: u32) -> Integer
-    ensures { λ r. ⌜ r ≡ partOf most (now (s .entry)) ⌝ }
+// One part of a time: hours, minutes or seconds.
+fn part(s: &[u8]) -> Integer
+    ensures { λ r. ⌜ r ≡ partOf (now (s .entry)) ⌝ }
 {
     let Integer::Value(v) = read_integer(s) else {
         return Integer::Malformed;
     };
-    if most < v {
+    if PART_MAX < v {
         return Integer::Malformed;
     }
     Integer::Value(v)
@@ -285,15 +283,15 @@ fn joined(high: Integer, base: u32, low: Integer) -> Integer
 
 // The parts after the first colon, one or two of them, behind what stood before it.
 fn later(first: Integer, s: &[u8]) -> Integer
-    requires { ⌜ AtMost firstMax first ⌝ }
+    requires { ⌜ AtMost partMax first ⌝ }
     ensures { λ r. ⌜ r ≡ laterOf first (now (s .entry)) ⌝ }
 {
     let colon = cut(s, b':');
     if s.len() <= colon {
-        return joined(first, 60, part(s, LATER_MAX));
+        return joined(first, 60, part(s));
     }
-    let middle = joined(first, 60, part(&s[..colon], LATER_MAX));
-    joined(middle, 60, part(&s[colon + 1..], LATER_MAX))
+    let middle = joined(first, 60, part(&s[..colon]));
+    joined(middle, 60, part(&s[colon + 1..]))
 }
 
 // Hours, minutes and seconds as seconds.
@@ -301,7 +299,7 @@ fn clock(s: &[u8]) -> Integer
     ensures { λ r. ⌜ r ≡ clockOf (now (s .entry)) ⌝ }
 {
     let colon = cut(s, b':');
-    let first = part(&s[..colon], FIRST_MAX);
+    let first = part(&s[..colon]);
     if s.len() <= colon {
         return first;
     }

@@ -3,8 +3,8 @@
 use mathlib.Core.Path.{_≡_, refl, sym, ap, _∙_, subst}
 use mathlib.Core.Bool.{Bool, true, _&&_, _||_}
 use mathlib.Core.List.{List, [], _∷_, _++_}
-use Prim.Native.Nat.{ℕ, zero, suc, _+_, _-_, _/_, _%_, _^_, _<_, _≤_}
-use native.Mathlib.Nat.{mod-lt, pow-suc, div-lt-iff-lt-mul}
+use Prim.Native.Nat.{ℕ, zero, suc, _+_, _-_, _*_, _/_, _%_, _^_, _<_, _≤_, max}
+use native.Mathlib.Nat.{mod-lt, pow-suc, div-lt-iff-lt-mul, div-mul-le-self, mul-le-mul-right, le-trans}
 use native.Mathlib.Omega.{arith}
 use lib.Dec.{eqb, ltb, leb}
 use lib.ListN.{length, getD, set, length-append}
@@ -16,8 +16,8 @@ use Rattle.cells.proofs.Scan.{span-nil, span-all, all-below, all-append, all-co
 use Rattle.cells.proofs.Put.{put-nil, put-comm, put-next, set-is-put}
 use Rattle.value.specs.Parts.{point, colon}
 use Rattle.value.specs.Number.{wholeMax, fractionDigits}
-use Rattle.value.specs.Time.{tenthsDigits, clockMax, timeMax}
-use Rattle.value_written.specs.Text.{digitChar, digitsOn, digitsText, digitCountFrom, digitCount, integerText, fractionText, numberText, levelText, partText, clockText, timeText, markedText, isPlain}
+use Rattle.value.specs.Time.{partMax, tenthsDigits, clockMax, timeMax}
+use Rattle.value_written.specs.Text.{digitChar, digitsOn, digitsText, digitCountFrom, digitCount, integerText, fractionText, numberText, levelText, partText, wholeIn, leftBy, clockText, timeText, markedText, isPlain}
 
 -- ---- a digit's character
 pub char-decimal : (d : ℕ) → d < 10 → digitChar d ≡ 48 + d
@@ -225,81 +225,210 @@ pub level-length : (l : ℕ) → length (levelText l) ≡ 3
 unfolding levelText
 level-length l = ap suc (text-length 16 2 l)
 
-pub part-length : (v : ℕ) → length (partText v) ≡ 3
+-- ---- a part after a colon
+pub part-length : (v : ℕ) → length (partText v) ≡ 1 + max 2 (digitCount v)
 unfolding partText
-part-length v = ap suc (text-length 10 2 v)
+part-length v = ap suc (text-length 10 (max 2 (digitCount v)) v) ∙ (let e : suc (max 2 (digitCount v)) ≡ 1 + max 2 (digitCount v) = omega arith in e)
+
+pub part-short : (v k : ℕ) → v < 10 ^ suc (suc k) → length (partText v) ≤ 3 + k
+part-short v k h =
+    let a : length (integerText v) ≤ suc (suc k) = integer-short v (suc k) h in
+    let b : length (integerText v) ≡ digitCount v = integer-length v in
+    let c : length (partText v) ≡ 1 + max 2 (digitCount v) = part-length v in
+    omega arith
+
+-- as many digits as the code counts
+pub part-two : (v : ℕ) {k : ℕ} → k ≡ length (integerText v) → k < 2 → 2 ≡ max 2 (digitCount v)
+part-two v e h = omega (arith, integer-length v)
+
+pub part-more : (v : ℕ) {k : ℕ} → k ≡ length (integerText v) → 2 ≤ k → k ≡ max 2 (digitCount v)
+part-more v e h = omega (arith, integer-length v)
+
+pub digits-few : (v : ℕ) {k : ℕ} → k ≡ max 2 (digitCount v) → v < 4294967296 → k ≤ 10
+digits-few v e h = omega (arith, integer-length v, integer-ten v h)
+
+pub digits-part : (v : ℕ) {k : ℕ} → k ≡ max 2 (digitCount v) → colon ∷ digitsText 10 k v ≡ partText v
+unfolding partText
+digits-part v e = ap (λ (k : ℕ). colon ∷ digitsText 10 k v) e
+
+-- any part of 32 bits
+part-long : (v : ℕ) → v < 4294967296 → length (partText v) ≤ 11
+part-long v h = part-short v 8 (let g : v < 10000000000 = omega arith in g)
+
+-- ---- whole hours, or minutes, and what they leave
+module _ (unit s : ℕ) where
+  pub whole-few : s / unit < partMax → s / unit ≡ wholeIn unit s
+  unfolding wholeIn
+  whole-few h = omega arith
+
+  pub whole-most : partMax ≤ s / unit → partMax ≡ wholeIn unit s
+  unfolding wholeIn
+  whole-most h = omega arith
+
+  pub whole-max : wholeIn unit s ≤ partMax
+  unfolding wholeIn
+  whole-max = omega arith
+
+  pub whole-le : wholeIn unit s * unit ≤ s
+  unfolding wholeIn
+  whole-le = le-trans (mul-le-mul-right unit (let h : wholeIn unit s ≤ s / unit = omega arith in h)) (div-mul-le-self s unit)
+
+  pub left-is : s - wholeIn unit s * unit ≡ leftBy unit s
+  unfolding leftBy
+  left-is = refl
+
+pub counted-le : (unit s : ℕ) {n : ℕ} → n ≡ wholeIn unit s → n * unit ≤ s
+counted-le unit s e = subst (λ (k : ℕ). k * unit ≤ s) (sym e) (whole-le unit s)
+
+pub left-le : (unit s : ℕ) → leftBy unit s ≤ s
+left-le unit s = let e : s - wholeIn unit s * unit ≡ leftBy unit s = left-is unit s in omega arith
+
+-- below an hour minutes leave less than one; of the largest clock there are 999 seconds left
+pub minute-left : (s : ℕ) → s < 3600 → leftBy 60 s < 60
+unfolding wholeIn leftBy
+minute-left s h = omega arith
+
+pub clock-left : (s : ℕ) → s ≤ clockMax → leftBy 60 (leftBy 3600 s) ≤ partMax
+unfolding wholeIn leftBy
+clock-left s h = omega arith
+
+-- the parts count the whole
+pub minutes-whole : (s : ℕ) → wholeIn 60 s * 60 + leftBy 60 s ≡ s
+minutes-whole s =
+    let e : s - wholeIn 60 s * 60 ≡ leftBy 60 s = left-is 60 s in
+    let h : wholeIn 60 s * 60 ≤ s = whole-le 60 s in
+    omega arith
+
+pub hours-whole : (s : ℕ) → (wholeIn 3600 s * 60 + wholeIn 60 (leftBy 3600 s)) * 60 + leftBy 60 (leftBy 3600 s) ≡ s
+hours-whole s =
+    let e : s - wholeIn 3600 s * 3600 ≡ leftBy 3600 s = left-is 3600 s in
+    let h : wholeIn 3600 s * 3600 ≤ s = whole-le 3600 s in
+    let m : wholeIn 60 (leftBy 3600 s) * 60 + leftBy 60 (leftBy 3600 s) ≡ leftBy 3600 s = minutes-whole (leftBy 3600 s) in
+    omega arith
+
+-- up to 999:59:59 the parts are what the clock shows, minutes and seconds below 60; past it there are 999 hours
+pub parts-below : (s : ℕ) → s < 3600000
+    → (wholeIn 3600 s ≡ s / 3600) × (wholeIn 60 (leftBy 3600 s) ≡ s / 60 % 60) × (leftBy 60 (leftBy 3600 s) ≡ s % 60)
+unfolding wholeIn leftBy
+parts-below s h = (omega arith, omega arith, omega arith)
+
+pub parts-past : (s : ℕ) → 3600000 ≤ s → wholeIn 3600 s ≡ partMax
+unfolding wholeIn
+parts-past s h = omega arith
 
 -- ---- the three shapes of a time
 pub clock-seconds : (s : ℕ) → s < 60 → clockText s ≡ integerText s
 unfolding clockText
 clock-seconds s h = rw (lt-ltb s 60 h)
 
-pub clock-minutes : (s : ℕ) → 60 ≤ s → s < 3600 → clockText s ≡ integerText (s / 60) ++ partText (s % 60)
+pub clock-minutes : (s : ℕ) → 60 ≤ s → s < 3600 → clockText s ≡ integerText (wholeIn 60 s) ++ partText (leftBy 60 s)
 unfolding clockText
 clock-minutes s g h = rw (le-ltb s 60 g, lt-ltb s 3600 h)
 
-pub clock-hours : (s : ℕ) → 3600 ≤ s → clockText s ≡ integerText (s / 3600) ++ (partText (s / 60 % 60) ++ partText (s % 60))
+pub clock-hours : (s : ℕ) → 3600 ≤ s
+    → clockText s ≡ integerText (wholeIn 3600 s) ++ (partText (wholeIn 60 (leftBy 3600 s)) ++ partText (leftBy 60 (leftBy 3600 s)))
 unfolding clockText
 clock-hours s h = let g : 60 ≤ s = omega arith in rw (le-ltb s 60 g, le-ltb s 3600 h)
 
-pub clock-length-minutes : (s : ℕ) → 60 ≤ s → s < 3600 → length (clockText s) ≡ length (integerText (s / 60)) + 3
-clock-length-minutes s g h =
-    ap length (clock-minutes s g h) ∙ length-append (integerText (s / 60)) (partText (s % 60))
-    ∙ ap (λ (k : ℕ). length (integerText (s / 60)) + k) (part-length (s % 60))
+-- of the parts as the code has them
+pub clock-minutes-is : (s : ℕ) {a b : ℕ} → a ≡ wholeIn 60 s → b ≡ leftBy 60 s → 60 ≤ s → s < 3600 → clockText s ≡ integerText a ++ partText b
+clock-minutes-is s ea eb g h = let e = clock-minutes s g h in cc
 
-pub clock-length-hours : (s : ℕ) → 3600 ≤ s → length (clockText s) ≡ length (integerText (s / 3600)) + 6
+pub clock-hours-is : (s : ℕ) {r a b c : ℕ} → r ≡ leftBy 3600 s → a ≡ wholeIn 3600 s → b ≡ wholeIn 60 r → c ≡ leftBy 60 r → 3600 ≤ s
+    → clockText s ≡ integerText a ++ (partText b ++ partText c)
+clock-hours-is s er ea eb ec h = let e = clock-hours s h in cc
+
+pub clock-length-minutes : (s : ℕ) → 60 ≤ s → s < 3600
+    → length (clockText s) ≡ length (integerText (wholeIn 60 s)) + length (partText (leftBy 60 s))
+clock-length-minutes s g h = ap length (clock-minutes s g h) ∙ length-append (integerText (wholeIn 60 s)) (partText (leftBy 60 s))
+
+pub clock-length-hours : (s : ℕ) → 3600 ≤ s
+    → length (clockText s)
+    ≡ length (integerText (wholeIn 3600 s)) + length (partText (wholeIn 60 (leftBy 3600 s))) + length (partText (leftBy 60 (leftBy 3600 s)))
 clock-length-hours s h =
-    ap length (clock-hours s h) ∙ length-append (integerText (s / 3600)) (partText (s / 60 % 60) ++ partText (s % 60))
-    ∙ ap (λ (k : ℕ). length (integerText (s / 3600)) + k)
-    (length-append (partText (s / 60 % 60)) (partText (s % 60))
-    ∙ ap (λ (k : ℕ). length (partText (s / 60 % 60)) + k) (part-length (s % 60)) ∙ ap (λ (k : ℕ). k + 3) (part-length (s / 60 % 60)))
+    let m : List ℕ = partText (wholeIn 60 (leftBy 3600 s)) in
+    let r : List ℕ = partText (leftBy 60 (leftBy 3600 s)) in
+    let a : length (clockText s) ≡ length (integerText (wholeIn 3600 s) ++ (m ++ r)) = ap length (clock-hours s h) in
+    let b : length (integerText (wholeIn 3600 s) ++ (m ++ r)) ≡ length (integerText (wholeIn 3600 s)) + length (m ++ r) =
+    length-append (integerText (wholeIn 3600 s)) (m ++ r)
+    in
+    let c : length (m ++ r) ≡ length m + length r = length-append m r in
+    omega arith
+
+-- the lengths as the code adds them, and that they are small
+pub minutes-length : (s : ℕ) {a b x y : ℕ} → a ≡ wholeIn 60 s → b ≡ leftBy 60 s → x ≡ length (integerText a) → y ≡ length (partText b)
+    → 60 ≤ s → s < 3600 → x + y ≡ length (clockText s)
+minutes-length s ea eb ex ey g h = let e = clock-length-minutes s g h in cc
+
+pub hours-length : (s : ℕ) {r a b c x y z : ℕ} → r ≡ leftBy 3600 s → a ≡ wholeIn 3600 s → b ≡ wholeIn 60 r → c ≡ leftBy 60 r
+    → x ≡ length (integerText a) → y ≡ length (partText b) → z ≡ length (partText c) → 3600 ≤ s → x + y + z ≡ length (clockText s)
+hours-length s er ea eb ec ex ey ez h = let e = clock-length-hours s h in cc
+
+pub integer-few : {n x : ℕ} → x ≡ length (integerText n) → n < 4294967296 → x ≤ 10
+integer-few {n} e h = omega (arith, integer-ten n h)
+
+pub part-few : {v y : ℕ} → y ≡ length (partText v) → v < 4294967296 → y ≤ 11
+part-few {v} e h = omega (arith, part-long v h)
+
+-- hours and minutes have three digits at most, so that only the seconds are to be bounded
+pub clock-by : (s k : ℕ) → leftBy 60 (leftBy 3600 s) < 10 ^ suc (suc k) → length (clockText s) ≤ 10 + k
+clock-by s k h =
+    by-lt s 60
+    (λ l.
+    let a : length (integerText s) ≤ 2 = integer-short s 1 (let g : s < 100 = omega arith in g) in
+    let e : length (clockText s) ≡ length (integerText s) = ap length (clock-seconds s l) in
+    omega arith)
+    (λ l.
+    let n : (unit r : ℕ) → wholeIn unit r < 1000 = λ unit r. omega (arith, whole-max unit r) in
+    by-lt s 3600
+    (λ m.
+    let a : length (integerText (wholeIn 60 s)) ≤ 3 = integer-short (wholeIn 60 s) 2 (n 60 s) in
+    let b : length (partText (leftBy 60 s)) ≤ 3 + 0 = part-short (leftBy 60 s) 0 (let g : leftBy 60 s < 100 = omega (arith, minute-left s m) in g) in
+    let e : length (clockText s) ≡ length (integerText (wholeIn 60 s)) + length (partText (leftBy 60 s)) = clock-length-minutes s l m in
+    omega arith)
+    (λ m.
+    let a : length (integerText (wholeIn 3600 s)) ≤ 3 = integer-short (wholeIn 3600 s) 2 (n 3600 s) in
+    let b : length (partText (wholeIn 60 (leftBy 3600 s))) ≤ 3 + 1 = part-short (wholeIn 60 (leftBy 3600 s)) 1 (n 60 (leftBy 3600 s)) in
+    let c : length (partText (leftBy 60 (leftBy 3600 s))) ≤ 3 + k = part-short (leftBy 60 (leftBy 3600 s)) k h in
+    let e = clock-length-hours s m in
+    omega arith))
 
 pub time-length : (t : ℕ) → length (timeText t) ≡ length (clockText (t / 10)) + length (fractionText tenthsDigits (t % 10))
 unfolding timeText
 time-length t = length-append (clockText (t / 10)) (fractionText tenthsDigits (t % 10))
 
-pub clock-long : (s : ℕ) → s < 4294967296 → length (clockText s) ≤ 16
-clock-long s h =
-    by-lt s 60
-    (λ l.
-    let a : length (integerText s) ≤ 10 = integer-ten s h in
-    let e : length (clockText s) ≡ length (integerText s) = ap length (clock-seconds s l) in
-    omega arith)
-    (λ l.
-    by-lt s 3600
-    (λ m.
-    let a : length (integerText (s / 60)) ≤ 10 = integer-ten (s / 60) (omega arith) in
-    let e : length (clockText s) ≡ length (integerText (s / 60)) + 3 = clock-length-minutes s l m in
-    omega arith)
-    (λ m.
-    let a : length (integerText (s / 3600)) ≤ 10 = integer-ten (s / 3600) (omega arith) in
-    let e : length (clockText s) ≡ length (integerText (s / 3600)) + 6 = clock-length-hours s m in
-    omega arith))
-
-pub clock-short : (s : ℕ) → s ≤ clockMax → length (clockText s) ≤ 9
-clock-short s h =
-    by-lt s 60
-    (λ l.
-    let a : length (integerText s) ≤ 3 = integer-short s 2 (let g : s < 1000 = omega arith in g) in
-    let e : length (clockText s) ≡ length (integerText s) = ap length (clock-seconds s l) in
-    omega arith)
-    (λ l.
-    by-lt s 3600
-    (λ m.
-    let a : length (integerText (s / 60)) ≤ 3 = integer-short (s / 60) 2 (let g : s / 60 < 1000 = omega arith in g) in
-    let e : length (clockText s) ≡ length (integerText (s / 60)) + 3 = clock-length-minutes s l m in
-    omega arith)
-    (λ m.
-    let a : length (integerText (s / 3600)) ≤ 3 = integer-short (s / 3600) 2 (let g : s / 3600 < 1000 = omega arith in g) in
-    let e : length (clockText s) ≡ length (integerText (s / 3600)) + 6 = clock-length-hours s m in
-    omega arith))
-
-pub time-short : (t : ℕ) → t ≤ timeMax → length (timeText t) ≤ 11
-time-short t h =
-    let a : length (clockText (t / 10)) ≤ 9 = clock-short (t / 10) (let g : t / 10 ≤ clockMax = omega arith in g) in
+pub time-by : (t k : ℕ) → leftBy 60 (leftBy 3600 (t / 10)) < 10 ^ suc (suc k) → length (timeText t) ≤ 12 + k
+time-by t k h =
+    let a : length (clockText (t / 10)) ≤ 10 + k = clock-by (t / 10) k h in
     let b : length (fractionText tenthsDigits (t % 10)) ≤ tenthsDigits + 1 = fraction-short tenthsDigits (t % 10) in
     let c : length (timeText t) ≡ length (clockText (t / 10)) + length (fractionText tenthsDigits (t % 10)) = time-length t in
     omega arith
+
+-- a time as it is read, and any of 32 bits
+pub time-short : (t : ℕ) → t ≤ timeMax → length (timeText t) ≤ 13
+time-short t h =
+    let l : t / 10 ≤ clockMax = omega arith in
+    time-by t 1 (let g : leftBy 60 (leftBy 3600 (t / 10)) < 1000 = omega (arith, clock-left (t / 10) l) in g)
+
+pub left-few : (t : ℕ) → leftBy 60 (leftBy 3600 (t / 10)) ≤ t / 10
+left-few t = let a = left-le 60 (leftBy 3600 (t / 10)) in let b = left-le 3600 (t / 10) in omega arith
+
+pub time-long : (t : ℕ) → t < 4294967296 → length (timeText t) ≤ 19
+time-long t h = time-by t 7 (let g : leftBy 60 (leftBy 3600 (t / 10)) < 1000000000 = omega (arith, left-few t) in g)
+
+pub time-some : (t : ℕ) → 1 ≤ length (timeText t)
+time-some t =
+    let s : ℕ = t / 10 in
+    let e = time-length t in
+    by-lt s 60
+    (λ l.
+    let a : length (clockText s) ≡ length (integerText s) = ap length (clock-seconds s l) in
+    let b : 1 ≤ length (integerText s) = integer-some s in
+    omega arith)
+    (λ l.
+    by-lt s 3600
+    (λ m. let a = clock-length-minutes s l m in let b = integer-some (wholeIn 60 s) in omega arith)
+    (λ m. let a = clock-length-hours s m in let b = integer-some (wholeIn 3600 s) in omega arith))
 
 -- ---- characters: of digits, for any class that holds the digits
 pub digits-all : (p : ℕ → Bool) (r : ℕ) → 0 < r → ((d : ℕ) → d < r → p (digitChar d) ≡ true)
@@ -328,7 +457,7 @@ module _ (p : ℕ → Bool) (f : (c : ℕ) → 48 ≤ c → c ≤ 57 → p c ≡
   module _ (g : p colon ≡ true) where
     part-all : (v : ℕ) → span p (partText v) ≡ length (partText v)
     unfolding partText
-    part-all v = all-cons p colon (digitsText 10 2 v) g (decimals-all 2 v)
+    part-all v = all-cons p colon (digitsText 10 (max 2 (digitCount v)) v) g (decimals-all (max 2 (digitCount v)) v)
 
     pub clock-all : (s : ℕ) → span p (clockText s) ≡ length (clockText s)
     clock-all s =
@@ -338,11 +467,12 @@ module _ (p : ℕ → Bool) (f : (c : ℕ) → 48 ≤ c → c ≤ 57 → p c ≡
         by-lt s 3600
         (λ m.
         subst (λ (z : List ℕ). span p z ≡ length z) (sym (clock-minutes s l m))
-        (all-append p (integerText (s / 60)) (partText (s % 60)) (integer-all (s / 60)) (part-all (s % 60))))
+        (all-append p (integerText (wholeIn 60 s)) (partText (leftBy 60 s)) (integer-all (wholeIn 60 s)) (part-all (leftBy 60 s))))
         (λ m.
+        let r : ℕ = leftBy 3600 s in
         subst (λ (z : List ℕ). span p z ≡ length z) (sym (clock-hours s m))
-        (all-append p (integerText (s / 3600)) (partText (s / 60 % 60) ++ partText (s % 60)) (integer-all (s / 3600))
-        (all-append p (partText (s / 60 % 60)) (partText (s % 60)) (part-all (s / 60 % 60)) (part-all (s % 60))))))
+        (all-append p (integerText (wholeIn 3600 s)) (partText (wholeIn 60 r) ++ partText (leftBy 60 r)) (integer-all (wholeIn 3600 s))
+        (all-append p (partText (wholeIn 60 r)) (partText (leftBy 60 r)) (part-all (wholeIn 60 r)) (part-all (leftBy 60 r))))))
 
   -- and the point
   pub fraction-all : p point ≡ true → (k v : ℕ) → span p (fractionText k v) ≡ length (fractionText k v)

@@ -3,8 +3,8 @@
 use mathlib.Core.Path.{_≡_, refl, sym, ap, _∙_, subst}
 use mathlib.Core.Bool.{true}
 use mathlib.Core.List.{List, [], _∷_, _++_, append-nil}
-use Prim.Native.Nat.{ℕ, zero, suc, _+_, _-_, _*_, _/_, _%_, _^_, _<_, _≤_, min}
-use native.Mathlib.Nat.{mod-lt, pow-zero, pow-suc, mul-one, mul-assoc, add-mul, add-assoc, zero-mul, zero-add, div-add-mod', div-lt-iff-lt-mul}
+use Prim.Native.Nat.{ℕ, zero, suc, _+_, _-_, _*_, _/_, _%_, _^_, _<_, _≤_, min, max}
+use native.Mathlib.Nat.{mod-lt, pow-zero, pow-suc, mul-one, mul-assoc, add-mul, add-assoc, zero-mul, zero-add, div-add-mod', div-lt-iff-lt-mul, pow-le-pow-right, le-trans}
 use native.Mathlib.Omega.{arith}
 use lib.Dec.{eqb}
 use lib.ListN.{length}
@@ -19,7 +19,7 @@ use Rattle.value_level.specs.declared.Leveled.the-variants.{Value as IsLevel}
 use Rattle.value.specs.Integer.{cap, digitOf, digitsFrom, runOf, integerOf}
 use Rattle.value.specs.Parts.{point, colon, isOther}
 use Rattle.value.specs.Number.{wholeMax, fractionDigits, fractionMax, number, numberOf}
-use Rattle.value.specs.Time.{firstMax, laterMax, tenthsDigits, clockMax, timeMax, partOf, clockOf, timeOf}
+use Rattle.value.specs.Time.{partMax, tenthsDigits, clockMax, timeMax, partOf, clockOf, timeOf}
 use Rattle.value.specs.Field.{pageOf}
 use Rattle.value_level.specs.Level.{hexDigits, levelOf}
 use Rattle.value.proofs.Digits.{digit-decimal, digit-capital, digits-nil, digits-cons, run-start}
@@ -27,8 +27,8 @@ use Rattle.value.proofs.Numbers.{number-good, page-good, page-is}
 use Rattle.value.proofs.Times.{part-good, part-is, join-good, time-good}
 use Rattle.value.proofs.Splits.{number-whole, number-parts, time-whole, time-parts, clock-whole, clock-parts, later-whole, later-parts}
 use Rattle.value_level.proofs.Levels.{hex-read, hex-byte, level-hex}
-use Rattle.value_written.specs.Text.{digitChar, digitsOn, digitsText, digitCount, integerText, numberText, levelText, partText, clockText, timeText}
-use Rattle.value_written.proofs.Texts.{char-decimal, char-capital, text-length, integer-enough, integer-count, fraction-none, fraction-some, decimals-all, integer-all, clock-all, clock-seconds, clock-minutes, clock-hours}
+use Rattle.value_written.specs.Text.{digitChar, digitsOn, digitsText, digitCount, integerText, numberText, levelText, partText, wholeIn, leftBy, clockText, timeText}
+use Rattle.value_written.proofs.Texts.{char-decimal, char-capital, text-length, integer-enough, integer-count, fraction-none, fraction-some, decimals-all, integer-all, clock-all, whole-max, minute-left, clock-left, minutes-whole, hours-whole, clock-seconds, clock-minutes, clock-hours}
 
 -- ---- digits
 pub char-read : (d : ℕ) → d < 16 → digitOf (digitChar d) ≡ d
@@ -144,48 +144,52 @@ level-read l h =
     ∙ hex-byte (length (digitsText 16 2 l)) (run-read 16 (omega arith) (omega arith) 2 l (omega arith) h c) b
 
 -- ---- times
-first-read : (n : ℕ) → n ≤ firstMax → partOf firstMax (integerText n) ≡ Value n
+first-read : (n : ℕ) → n ≤ partMax → partOf (integerText n) ≡ Value n
 first-read n h =
     let l : n ≤ cap = omega arith in
-    sym (part-is firstMax (integerText n) refl) ∙ part-good firstMax (integer-read n l) h
+    sym (part-is (integerText n) refl) ∙ part-good partMax (integer-read n l) h
 
-later-read : (v : ℕ) → v ≤ laterMax → partOf laterMax (digitsText 10 2 v) ≡ Value v
+-- the digits of a part after its colon
+abbrev laterText : ℕ → List ℕ
+laterText v = digitsText 10 (max 2 (digitCount v)) v
+
+later-read : (v : ℕ) → v ≤ partMax → partOf (laterText v) ≡ Value v
 later-read v h =
     let l : v ≤ cap = omega arith in
-    let g : v < 10 ^ 2 = (let m : v < 100 = omega arith in m) in
-    sym (part-is laterMax (digitsText 10 2 v) refl) ∙ part-good laterMax (fixed-read 2 v (omega arith) g l) h
+    let e : v < 10 ^ digitCount v = integer-enough v (let m : v < 10000000000 = omega arith in m) in
+    let g : v < 10 ^ max 2 (digitCount v) = le-trans e (pow-le-pow-right (omega arith) (omega arith)) in
+    sym (part-is (laterText v) refl) ∙ part-good partMax (fixed-read (max 2 (digitCount v)) v (omega arith) g l) h
+
+later-plain : (v : ℕ) → span (isOther colon) (laterText v) ≡ length (laterText v)
+later-plain v = decimals-all (isOther colon) no-colon (max 2 (digitCount v)) v
 
 pub clock-read : (s : ℕ) → s ≤ clockMax → clockOf (clockText s) ≡ Value s
 unfolding partText
 clock-read s h =
     by-lt s 60
     (λ l.
-    let g : s ≤ firstMax = omega arith in
+    let g : s ≤ partMax = omega arith in
     ap clockOf (clock-seconds s l) ∙ clock-whole (integerText s) (integer-all (isOther colon) no-colon s) ∙ first-read s g)
     (λ l.
     by-lt s 3600
     (λ m.
-    let a : ℕ = s / 60 in
-    let b : ℕ = s % 60 in
-    let g : s / 60 ≤ firstMax = omega arith in
-    let k : s % 60 ≤ laterMax = omega arith in
-    let e : s / 60 * 60 + s % 60 ≡ s = omega arith in
+    let a : ℕ = wholeIn 60 s in
+    let b : ℕ = leftBy 60 s in
+    let k : leftBy 60 s ≤ partMax = omega (arith, minute-left s m) in
     ap clockOf (clock-minutes s l m)
-    ∙ clock-parts (integerText a) (digitsText 10 2 b) (integer-all (isOther colon) no-colon a)
-    ∙ later-whole (partOf firstMax (integerText a)) (digitsText 10 2 b) (decimals-all (isOther colon) no-colon 2 b)
-    ∙ join-good 60 (first-read a g) (later-read b k) ∙ ap Value e)
+    ∙ clock-parts (integerText a) (laterText b) (integer-all (isOther colon) no-colon a)
+    ∙ later-whole (partOf (integerText a)) (laterText b) (later-plain b)
+    ∙ join-good 60 (first-read a (whole-max 60 s)) (later-read b k) ∙ ap Value (minutes-whole s))
     (λ m.
-    let a : ℕ = s / 3600 in
-    let b : ℕ = s / 60 % 60 in
-    let c : ℕ = s % 60 in
-    let g : s / 3600 ≤ firstMax = omega arith in
-    let j : s / 60 % 60 ≤ laterMax = omega arith in
-    let k : s % 60 ≤ laterMax = omega arith in
-    let e : (s / 3600 * 60 + s / 60 % 60) * 60 + s % 60 ≡ s = omega arith in
+    let r : ℕ = leftBy 3600 s in
+    let a : ℕ = wholeIn 3600 s in
+    let b : ℕ = wholeIn 60 r in
+    let c : ℕ = leftBy 60 r in
     ap clockOf (clock-hours s m)
-    ∙ clock-parts (integerText a) (digitsText 10 2 b ++ (colon ∷ digitsText 10 2 c)) (integer-all (isOther colon) no-colon a)
-    ∙ later-parts (partOf firstMax (integerText a)) (digitsText 10 2 b) (digitsText 10 2 c) (decimals-all (isOther colon) no-colon 2 b)
-    ∙ join-good 60 (join-good 60 (first-read a g) (later-read b j)) (later-read c k) ∙ ap Value e))
+    ∙ clock-parts (integerText a) (laterText b ++ (colon ∷ laterText c)) (integer-all (isOther colon) no-colon a)
+    ∙ later-parts (partOf (integerText a)) (laterText b) (laterText c) (later-plain b)
+    ∙ join-good 60 (join-good 60 (first-read a (whole-max 3600 s)) (later-read b (whole-max 60 r))) (later-read c (clock-left s h))
+    ∙ ap Value (hours-whole s)))
 
 time-text-none : (t : ℕ) → t % 10 ≡ 0 → timeText t ≡ clockText (t / 10)
 unfolding timeText

@@ -2,11 +2,11 @@
 -- Assumes nothing.
 use mathlib.Core.Bool.{Bool, cond, _&&_, _||_}
 use mathlib.Core.List.{List, [], _∷_, _++_}
-use Prim.Native.Nat.{ℕ, zero, suc, _+_, _/_, _%_}
+use Prim.Native.Nat.{ℕ, zero, suc, _+_, _-_, _*_, _/_, _%_, min, max}
 use lib.Dec.{eqb, ltb, leb}
 use Rattle.value.specs.Parts.{point, colon}
 use Rattle.value.specs.Number.{fractionDigits}
-use Rattle.value.specs.Time.{tenthsDigits}
+use Rattle.value.specs.Time.{partMax, tenthsDigits}
 
 -- ---- digits
 -- a digit's character: capitals
@@ -47,16 +47,24 @@ numberText w f = integerText w ++ fractionText fractionDigits f
 unfoldable pub levelText : ℕ → List ℕ
 levelText l = 72 ∷ digitsText 16 2 l
 
--- two digits after a colon
+-- at least two digits after a colon
 unfoldable pub partText : ℕ → List ℕ
-partText v = colon ∷ digitsText 10 2 v
+partText v = colon ∷ digitsText 10 (max 2 (digitCount v)) v
+
+-- as many whole hours, or minutes, as fit, up to 999 (C-12), and the seconds that they leave
+unfoldable pub wholeIn : ℕ → ℕ → ℕ
+wholeIn unit s = min (s / unit) partMax
+
+unfoldable pub leftBy : ℕ → ℕ → ℕ
+leftBy unit s = s - wholeIn unit s * unit
 
 -- below one minute seconds alone, below one hour minutes and seconds, otherwise all three parts
 unfoldable pub clockText : ℕ → List ℕ
 clockText s =
+    let m = leftBy 3600 s in
     cond (ltb s 60) (integerText s)
-    (cond (ltb s 3600) (integerText (s / 60) ++ partText (s % 60))
-    (integerText (s / 3600) ++ (partText (s / 60 % 60) ++ partText (s % 60))))
+    (cond (ltb s 3600) (integerText (wholeIn 60 s) ++ partText (leftBy 60 s))
+    (integerText (wholeIn 3600 s) ++ (partText (wholeIn 60 m) ++ partText (leftBy 60 m))))
 
 -- tenths only if not zero
 unfoldable pub timeText : ℕ → List ℕ

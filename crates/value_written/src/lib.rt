@@ -2,11 +2,12 @@
 use text_room::put_text;
 use value::FRACTION_DIGITS;
 use value::Number;
+use value::PART_MAX;
 use value::TENTHS_DIGITS;
 ghost use mathlib.Core.Path.{_≡_};
-ghost use Prim.Native.Nat.{_+_, _<_, _≤_};
+ghost use Prim.Native.Nat.{_+_, _<_, _≤_, max};
 ghost use lib.ListN.{length};
-ghost use Rattle.value_written.specs.Text.{digitChar, digitsText, integerText, fractionText, numberText, levelText, partText, clockText, timeText, markedText};
+ghost use Rattle.value_written.specs.Text.{digitChar, digitsText, digitCount, integerText, fractionText, numberText, levelText, partText, wholeIn, leftBy, clockText, timeText, markedText};
 ghost use Rattle.text_room.specs.Room.{Room};
 ghost use Rattle.text_room.specs.Wrote.{wrote, wroteAt};
 
@@ -16,7 +17,13 @@ const HEXADECIMAL: u32 = 16;
 
 const LEVEL_DIGITS: usize = 2;
 
+// After a colon a part of a time has so many digits at least.
 const PART_DIGITS: usize = 2;
+
+// In seconds.
+const MINUTE: u32 = 60;
+
+const HOUR: u32 = 3600;
 
 // A digit's character, capitals from ten on.
 fn digit_char(d: u32) -> u8
@@ -126,25 +133,64 @@ pub fn put_level(out: &mut [u8], at: usize, level: u8) -> usize
     put_digits(out, at + 1, level as u32, LEVEL_DIGITS, HEXADECIMAL)
 }
 
-// A part of a time after a colon, in two digits.
+// How many digits a part of a time has after a colon.
+fn part_digits(v: u32) -> usize
+    ensures { λ r. ⌜ r ≡ max 2 (digitCount v) ⌝ }
+{
+    let digits = integer_length(v);
+    if digits < PART_DIGITS {
+        return PART_DIGITS;
+    }
+    digits
+}
+
+fn part_length(v: u32) -> usize
+    ensures { λ r. ⌜ r ≡ length (partText v) ⌝ }
+{
+    1 + part_digits(v)
+}
+
 fn put_part(out: &mut [u8], at: usize, v: u32) -> usize
     requires { ⌜ Room (now out) at (partText v) ⌝ }
     ensures { λ r. ⌜ wrote r (now (out .exit)) ≡ wroteAt (now (out .entry)) at (partText v) ⌝ }
 {
     out[at] = b':';
-    put_digits(out, at + 1, v, PART_DIGITS, DECIMAL)
+    put_digits(out, at + 1, v, part_digits(v), DECIMAL)
+}
+
+// As many whole hours, or minutes, as fit, up to 999.
+fn whole_in(seconds: u32, unit: u32) -> u32
+    requires { ⌜ 0 < unit ⌝ }
+    ensures { λ r. ⌜ r ≡ wholeIn unit seconds ⌝ }
+{
+    let whole = seconds / unit;
+    if whole < PART_MAX {
+        return whole;
+    }
+    PART_MAX
+}
+
+// The seconds that they leave.
+fn left_by(seconds: u32, unit: u32) -> u32
+    requires { ⌜ 0 < unit ⌝ }
+    ensures { λ r. ⌜ r ≡ leftBy unit seconds ⌝ }
+{
+    seconds - whole_in(seconds, unit) * unit
 }
 
 fn clock_length(seconds: u32) -> usize
     ensures { λ r. ⌜ r ≡ length (clockText seconds) ⌝ }
 {
-    if seconds < 60 {
+    if seconds < MINUTE {
         return integer_length(seconds);
     }
-    if seconds < 3600 {
-        return integer_length(seconds / 60) + 3;
+    if seconds < HOUR {
+        return integer_length(whole_in(seconds, MINUTE)) + part_length(left_by(seconds, MINUTE));
     }
-    integer_length(seconds / 3600) + 6
+    let rest = left_by(seconds, HOUR);
+    integer_length(whole_in(seconds, HOUR))
+        + part_length(whole_in(rest, MINUTE))
+        + part_length(left_by(rest, MINUTE))
 }
 
 // Seconds alone below a minute, minutes and seconds below an hour, else all three.
@@ -152,16 +198,17 @@ fn put_clock(out: &mut [u8], at: usize, seconds: u32) -> usize
     requires { ⌜ Room (now out) at (clockText seconds) ⌝ }
     ensures { λ r. ⌜ wrote r (now (out .exit)) ≡ wroteAt (now (out .entry)) at (clockText seconds) ⌝ }
 {
-    if seconds < 60 {
+    if seconds < MINUTE {
         return put_integer(out, at, seconds);
     }
-    if seconds < 3600 {
-        let colon = put_integer(out, at, seconds / 60);
-        return put_part(out, colon, seconds % 60);
+    if seconds < HOUR {
+        let colon = put_integer(out, at, whole_in(seconds, MINUTE));
+        return put_part(out, colon, left_by(seconds, MINUTE));
     }
-    let colon = put_integer(out, at, seconds / 3600);
-    let second = put_part(out, colon, seconds / 60 % 60);
-    put_part(out, second, seconds % 60)
+    let rest = left_by(seconds, HOUR);
+    let colon = put_integer(out, at, whole_in(seconds, HOUR));
+    let second = put_part(out, colon, whole_in(rest, MINUTE));
+    put_part(out, second, left_by(rest, MINUTE))
 }
 
 pub fn time_length(tenths: u32) -> usize

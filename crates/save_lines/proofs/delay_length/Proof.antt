@@ -1,7 +1,8 @@
 -- `delay_length` meets its contract: a space and the time, and nothing for zero.
 -- Assumes nothing.
 use native.Mathlib.Omega.{arith}
-use Rattle.save_lines.proofs.Lengths.{delay-length-none, delay-length-some, time-long}
+use Rattle.value_written.proofs.Texts.{time-long}
+use Rattle.save_lines.proofs.Lengths.{delay-length-none, delay-length-some}
 use borrow.Author.Needs.{needs}
 use Rattle.save_lines.proofs.delay_length.Statement.{statement}
 use Rattle.save_lines.proofs.delay_length.Tie as tie

@@ -1,7 +1,8 @@
 -- `time_line_length` meets its contract: nothing where the value is absent, else the parts' lengths.
 -- Assumes nothing.
 use native.Mathlib.Omega.{arith}
-use Rattle.save_lines.proofs.Lengths.{time-length-none, time-length-some, time-long, delay-long}
+use Rattle.value_written.proofs.Texts.{time-long}
+use Rattle.save_lines.proofs.Lengths.{time-length-none, time-length-some, delay-long}
 use borrow.Author.Needs.{needs}
 use Rattle.save_lines.proofs.time_line_length.Statement.{statement}
 use Rattle.save_lines.proofs.time_line_length.Tie as tie

@@ -3,7 +3,7 @@
 use Rattle.value.specs.Parts.{colon}
 use Rattle.value.proofs.Cuts.{cut-count}
 use native.Mathlib.Omega.{arith}
-use Rattle.value.specs.Time.{firstMax}
+use Rattle.value.specs.Time.{partMax}
 use Rattle.value.proofs.Times.{part-at-most, clock-one-is, clock-more-is}
 use borrow.Author.Needs.{needs}
 use Rattle.value.proofs.clock.Statement.{statement}
@@ -34,7 +34,7 @@ part-later-end : tie.Need-part-later-end
 part-later-end c = search needs
 
 later-requires : tie.Need-later-requires
-later-requires c κs = part-at-most firstMax firstMax _ (c .before .before .part .ensures) (omega arith)
+later-requires c κs = part-at-most partMax _ (c .before .before .part .ensures) (omega arith)
 
 returns-2 : tie.Need-returns-2
 returns-2 c =

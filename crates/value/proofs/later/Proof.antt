@@ -4,7 +4,7 @@ use mathlib.Core.Path.{sym, _∙_}
 use native.Mathlib.Omega.{arith}
 use lib.Seq.{length-take-le}
 use Rattle.value.specs.Integer.{cap}
-use Rattle.value.specs.Time.{firstMax, laterMax}
+use Rattle.value.specs.Time.{partMax}
 use Rattle.value.proofs.Times.{at-most-up, part-at-most, middle-at-most, later-one-is, later-two-is}
 use borrow.Author.Needs.{needs}
 use Rattle.value.proofs.later.Statement.{statement}
@@ -18,8 +18,8 @@ part-requires c κs = search needs
 
 joined-requires : tie.Need-joined-requires
 joined-requires c κs = (
-  at-most-up {n = firstMax} {m = 10000000} (c .before .before .before .before .args .first) (c .before .before .before .before .pre) (omega arith),
-  (omega arith, part-at-most cap laterMax _ (c .part .ensures) (omega arith)),
+  at-most-up {n = partMax} {m = 10000000} (c .before .before .before .before .args .first) (c .before .before .before .before .pre) (omega arith),
+  (omega arith, part-at-most cap _ (c .part .ensures) (omega arith)),
 )
 
 returns : tie.Need-returns
@@ -33,8 +33,8 @@ part-requires-2 c κs = search needs
 
 joined-requires-2 : tie.Need-joined-requires-2
 joined-requires-2 c κs = (
-  at-most-up {n = firstMax} {m = 10000000} (c .before .before .before .before .before .args .first) (c .before .before .before .before .before .pre) (omega arith),
-  (omega arith, part-at-most cap laterMax _ (c .part2 .ensures) (omega arith)),
+  at-most-up {n = partMax} {m = 10000000} (c .before .before .before .before .before .args .first) (c .before .before .before .before .before .pre) (omega arith),
+  (omega arith, part-at-most cap _ (c .part2 .ensures) (omega arith)),
 )
 
 add-part : tie.Need-add-part
@@ -55,7 +55,7 @@ part-requires-3 c κs = search needs
 joined-requires-3 : tie.Need-joined-requires-3
 joined-requires-3 c κs = (
   middle-at-most _ _ (c .before .before .before .before .before .before .before .before .pre) (c .before .before .before .part2 .ensures) (c .before .before .joined2 .ensures),
-  (omega arith, part-at-most cap laterMax _ (c .part3 .ensures) (omega arith)),
+  (omega arith, part-at-most cap _ (c .part3 .ensures) (omega arith)),
 )
 
 returns-2 : tie.Need-returns-2

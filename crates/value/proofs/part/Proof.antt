@@ -16,17 +16,17 @@ enum-told : tie.Need-enum-told
 enum-told c = search needs
 
 returns : tie.Need-returns
-returns c = sym (part-malformed _ (c .enum-told .given .1)) ∙ part-is _ _ (c .before .before .read-integer .ensures)
+returns c = sym (part-malformed _ (c .enum-told .given .1)) ∙ part-is _ (c .before .before .read-integer .ensures)
 
 returns-2 : tie.Need-returns-2
 returns-2 c =
     sym (part-large _ (c .before .before .v .given .1) (c .if1 .taken))
-    ∙ part-is _ _ (c .before .before .before .before .read-integer .ensures)
+    ∙ part-is _ (c .before .before .before .before .read-integer .ensures)
 
 returns-3 : tie.Need-returns-3
 returns-3 c =
     sym (part-good _ (c .before .before .v .given .1) (c .if1 .left))
-    ∙ part-is _ _ (c .before .before .before .before .read-integer .ensures)
+    ∙ part-is _ (c .before .before .before .before .read-integer .ensures)
 
 pub part-spec : {M : Type 1} → statement M
 part-spec =

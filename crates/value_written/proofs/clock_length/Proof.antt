@@ -1,10 +1,9 @@
 -- `clock_length` meets its contract, shape by shape.
 -- Assumes nothing.
 use mathlib.Core.Path.{sym, ap, _∙_}
-use Prim.Native.Nat.{ℕ, _+_, _/_}
 use native.Mathlib.Omega.{arith}
 use lib.ListN.{length}
-use Rattle.value_written.proofs.Texts.{integer-ten, clock-seconds, clock-length-minutes, clock-length-hours}
+use Rattle.value_written.proofs.Texts.{clock-seconds, minutes-length, hours-length, integer-few, part-few}
 use borrow.Author.Needs.{needs}
 use Rattle.value_written.proofs.clock_length.Statement.{statement}
 use Rattle.value_written.proofs.clock_length.Tie as tie
@@ -15,25 +14,53 @@ integer-length-requires c κs = search needs
 returns : tie.Need-returns
 returns c = c .integer-length .ensures ∙ ap length (sym (clock-seconds _ (c .before .if1 .taken)))
 
+whole-in-requires : tie.Need-whole-in-requires
+whole-in-requires c κs = search needs
+
 integer-length-requires-2 : tie.Need-integer-length-requires-2
 integer-length-requires-2 c κs = search needs
 
+left-by-requires : tie.Need-left-by-requires
+left-by-requires c κs = search needs
+
+part-length-requires : tie.Need-part-length-requires
+part-length-requires c κs = search needs
+
 add-result : tie.Need-add-result
-add-result c = omega (arith, c .integer-length2 .ensures, integer-ten (c .before .before .before .args .seconds / 60) (omega arith))
+add-result c = omega (arith, integer-few (c .before .before .integer-length2 .ensures) (omega arith), part-few (c .part-length .ensures) (omega arith))
 
 returns-2 : tie.Need-returns-2
-returns-2 c =
-    ap (λ (k : ℕ). k + 3) (c .integer-length2 .ensures)
-    ∙ sym (clock-length-minutes _ (c .before .before .if1 .left) (c .before .if2 .taken))
+returns-2 c = minutes-length _ (c .before .before .before .whole-in .ensures) (c .before .left-by .ensures) (c .before .before .integer-length2 .ensures) (c .part-length .ensures) (c .before .before .before .before .before .if1 .left) (c .before .before .before .before .if2 .taken)
+
+left-by-requires-2 : tie.Need-left-by-requires-2
+left-by-requires-2 c κs = search needs
+
+whole-in-requires-2 : tie.Need-whole-in-requires-2
+whole-in-requires-2 c κs = search needs
 
 integer-length-requires-3 : tie.Need-integer-length-requires-3
 integer-length-requires-3 c κs = search needs
 
+whole-in-requires-3 : tie.Need-whole-in-requires-3
+whole-in-requires-3 c κs = search needs
+
+part-length-requires-2 : tie.Need-part-length-requires-2
+part-length-requires-2 c κs = search needs
+
 add-result-2 : tie.Need-add-result-2
-add-result-2 c = omega (arith, c .integer-length3 .ensures, integer-ten (c .before .before .before .args .seconds / 3600) (omega arith))
+add-result-2 c = omega (arith, integer-few (c .before .before .integer-length3 .ensures) (omega arith), part-few (c .part-length2 .ensures) (omega arith))
+
+left-by-requires-3 : tie.Need-left-by-requires-3
+left-by-requires-3 c κs = search needs
+
+part-length-requires-3 : tie.Need-part-length-requires-3
+part-length-requires-3 c κs = search needs
+
+add-result-3 : tie.Need-add-result-3
+add-result-3 c = omega (arith, integer-few (c .before .before .before .before .integer-length3 .ensures) (omega arith), part-few (c .before .before .part-length2 .ensures) (omega arith), part-few (c .part-length3 .ensures) (omega arith))
 
 returns-3 : tie.Need-returns-3
-returns-3 c = ap (λ (k : ℕ). k + 6) (c .integer-length3 .ensures) ∙ sym (clock-length-hours _ (c .before .if2 .left))
+returns-3 c = hours-length _ (c .before .before .before .before .before .before .left-by2 .ensures) (c .before .before .before .before .before .whole-in2 .ensures) (c .before .before .before .whole-in3 .ensures) (c .before .left-by3 .ensures) (c .before .before .before .before .integer-length3 .ensures) (c .before .before .part-length2 .ensures) (c .part-length3 .ensures) (c .before .before .before .before .before .before .before .if2 .left)
 
 pub clock-length-spec : {M : Type 1} → statement M
 clock-length-spec =
@@ -41,9 +68,19 @@ clock-length-spec =
     (tie.spec
     integer-length-requires
     returns
+    whole-in-requires
     integer-length-requires-2
+    left-by-requires
+    part-length-requires
     add-result
     returns-2
+    left-by-requires-2
+    whole-in-requires-2
     integer-length-requires-3
+    whole-in-requires-3
+    part-length-requires-2
     add-result-2
+    left-by-requires-3
+    part-length-requires-3
+    add-result-3
     returns-3)

@@ -1,9 +1,7 @@
 -- `time_length` meets its contract: the two parts' lengths.
 -- Assumes nothing.
-use Prim.Native.Nat.{_/_, _%_}
 use native.Mathlib.Omega.{arith}
-use Rattle.value.specs.Time.{tenthsDigits}
-use Rattle.value_written.proofs.Texts.{clock-long, fraction-short, time-length}
+use Rattle.value_written.proofs.Texts.{time-length, time-long}
 use borrow.Author.Needs.{needs}
 use Rattle.value_written.proofs.time_length.Statement.{statement}
 use Rattle.value_written.proofs.time_length.Tie as tie
@@ -17,7 +15,7 @@ fraction-length-requires c κs = search needs
 add-result : tie.Need-add-result
 add-result c =
     omega
-    (arith, c .before .clock-length .ensures, c .fraction-length .ensures, clock-long (c .before .before .args .tenths / 10) (omega arith), fraction-short tenthsDigits (c .before .before .args .tenths % 10))
+    (arith, c .before .clock-length .ensures, c .fraction-length .ensures, time-length (c .before .before .args .tenths), time-long (c .before .before .args .tenths) (omega arith))
 
 returns : tie.Need-returns
 returns c = omega (arith, c .before .clock-length .ensures, c .fraction-length .ensures, time-length (c .before .before .args .tenths))
