@@ -201,10 +201,10 @@ uint32_t sphairune_percent(uint8_t level);
 /* The standard's letter for a condition's severity: E error, W warning, I (of the closing number 0 alone) information. */
 uint8_t sphairune_severity(uint32_t condition);
 
-/* A time in tenths of a second as the written stream has it: 3, 1:30, 2:00:10.5.
+/* A time in tenths of a second as the written stream has it: 3, 1:30, 2:00:10.5, and past 999:59:59.9 as 999:100:05.
  * Answers 0, with the text at the beginning of `out`, no NUL behind it, the bytes of `out` past it as they were, and its length in
  * length[0]. Or R6, with the length needed in length[0] and `out` as it was. An empty `length` gets nothing, and its entries past length[0]
- * stay as they were. No time needs more than 14 bytes. */
+ * stay as they were. No time needs more than 19 bytes. */
 uint32_t sphairune_time_text(uint32_t tenths, uint8_t *out, size_t out_n, size_t *length, size_t length_n);
 
 /* The standard's text for a condition that a load can report (Appendix B), or for the closing number 0; of any other number a text of no

@@ -240,7 +240,7 @@ pub fn percent(level: u8) -> u32 {
     calls::percent(level)
 }
 
-/// A time in tenths of a second as the written stream has it: `3`, `1:30`, `2:00:10.5`.
+/// A time in tenths of a second as the written stream has it: `3`, `1:30`, `2:00:10.5`, and past 999:59:59.9 as `999:100:05`.
 pub fn time_text(tenths: u32) -> Text {
     Text::put(|out, length| calls::time_text(tenths, out, length))
 }
