@@ -16,7 +16,7 @@
 
 enum { COUNT, BLANK, OBEYED, PASSED, DROPPED, CLOSING, TOTALS };
 
-enum { MARK = 0xa5, STRIP = 16, FULL = 300 };
+enum { MARK = 0xa5, STRIP = 16, FULL = 300, LONGEST_TIME = 36573399 /* 999:999:999.9 in tenths */ };
 
 /* A lent list lies between two strips that nobody may touch. */
 static void *lend(size_t bytes) {
@@ -287,21 +287,21 @@ static void check_time(uint32_t tenths) {
     uint8_t store[24 + 1 + 3] = {0}, stream[64] = "CUE 1\nUP ";
     size_t length = 0;
     uint32_t totals[TOTALS], values[SPHAIRUNE_HEAD_VALUES];
-    check_text(sphairune_time_text, tenths, 14);
+    check_text(sphairune_time_text, tenths, 19);
     HOLDS(sphairune_time_text(tenths, stream + 9, SPHAIRUNE_TEXT, &length, 1) == 0);
     HOLDS(sphairune_load(limits, 9, store, sizeof store, stream, 9 + length, &no_reports, 0, totals, TOTALS) == 0);
     HOLDS(sphairune_head(limits, 9, store, sizeof store, 1, values, SPHAIRUNE_HEAD_VALUES) == 0);
-    HOLDS(values[SPHAIRUNE_HEAD_UP] == (tenths <= 35999999));
-    if (tenths <= 35999999) HOLDS(values[SPHAIRUNE_HEAD_UP_FADE] == tenths);
+    HOLDS(values[SPHAIRUNE_HEAD_UP] == (tenths <= LONGEST_TIME));
+    if (tenths <= LONGEST_TIME) HOLDS(values[SPHAIRUNE_HEAD_UP_FADE] == tenths);
 }
 
 static void check_words(uint32_t number) {
     char text[SPHAIRUNE_TEXT];
     check_time(number);
-    check_time(number % 36000000);
+    check_time(number % (LONGEST_TIME + 1));
     check_text(sphairune_condition_text, number, 44);
     check_text(sphairune_condition_text, number % 1024, 44);
-    HOLDS(strlen(sphairune_time_string(number, text)) <= 14 && strlen(sphairune_condition_string(number % 1024, text)) <= 44);
+    HOLDS(strlen(sphairune_time_string(number, text)) <= 19 && strlen(sphairune_condition_string(number % 1024, text)) <= 44);
     uint8_t letter = sphairune_severity(number % 1024);
     HOLDS(letter == (number % 1024 == 0 ? 'I' : 70 <= number % 1024 && number % 1024 <= 149 ? 'E' : 'W'));
     uint8_t level = (uint8_t)number;

@@ -10,8 +10,8 @@ const MOST_CUES: usize = 600;
 const MOST_GROUPS: usize = 200;
 /// 96 submasters on each of 8 pages.
 const MOST_OF_A_KIND: usize = 768;
-/// 999:59:59.9 in tenths of a second.
-const LONGEST_TIME: u32 = 35_999_999;
+/// 999:999:999.9 in tenths of a second.
+const LONGEST_TIME: u32 = 36_573_399;
 
 const RANGES: [RangeInclusive<u32>; 9] = [1..=512, 1..=512, 1..=600, 0..=200, 0..=96, 1..=63, 1..=63, 1..=8, 1..=4];
 
@@ -166,9 +166,21 @@ pub fn severity(condition: u32) -> u8 {
     }
 }
 
+/// The hours, minutes and seconds that a time is written in. Past 999:59:59.9 they are 999 hours, as many whole minutes as fit up to 999,
+/// and the rest in seconds.
+fn time_parts(tenths: u32) -> (u32, u32, u32) {
+    let seconds = tenths / 10;
+    if seconds < 1_000 * 3_600 {
+        return (seconds / 3_600, seconds / 60 % 60, seconds % 60);
+    }
+    let rest = seconds - 999 * 3_600;
+    let minutes = (rest / 60).min(999);
+    (999, minutes, rest - minutes * 60)
+}
+
 /// A time as it is written, at the front of `out`, and its length.
 pub fn time_text(tenths: u32, out: &mut [u8]) -> Result<usize, Refused> {
-    let (hours, minutes, seconds) = (tenths / 36_000, tenths / 600 % 60, tenths / 10 % 60);
+    let (hours, minutes, seconds) = time_parts(tenths);
     let mut text = match (hours, minutes) {
         (0, 0) => format!("{seconds}"),
         (0, _) => format!("{minutes}:{seconds:02}"),
@@ -488,8 +500,10 @@ impl Text {
         }
     }
 
-    fn two_digits(&mut self, n: u32) {
-        self.put(&[b'0' + (n / 10) as u8, b'0' + (n % 10) as u8]);
+    /// A part of a time after a colon, of two digits at least.
+    fn part(&mut self, n: u32) {
+        self.put(if n < 10 { b":0" } else { b":" });
+        self.integer(n);
     }
 
     fn tenths(&mut self, tenths: u32) {
@@ -509,17 +523,14 @@ impl Text {
     }
 
     fn time(&mut self, time: u32) {
-        let (hours, minutes, seconds) = (time / 36_000, time / 600 % 60, time / 10 % 60);
+        let (hours, minutes, seconds) = time_parts(time);
         if hours != 0 {
             self.integer(hours);
-            self.put(b":");
-            self.two_digits(minutes);
-            self.put(b":");
-            self.two_digits(seconds);
+            self.part(minutes);
+            self.part(seconds);
         } else if minutes != 0 {
             self.integer(minutes);
-            self.put(b":");
-            self.two_digits(seconds);
+            self.part(seconds);
         } else {
             self.integer(seconds);
         }
@@ -782,17 +793,17 @@ fn time(field: Field) -> Result<u32, Fault> {
 }
 
 fn tenths_of(field: &[u8]) -> Option<u32> {
-    let up_to = |n: u32, most| (n <= most).then_some(n);
+    let part = |n: u32| (n <= 999).then_some(n);
     let Some((first, rest)) = split_once(field, b':') else {
         let (seconds, tenths) = with_tenths(field)?;
-        return Some(up_to(seconds, 999)? * 10 + tenths);
+        return Some(part(seconds)? * 10 + tenths);
     };
     let (hours, minutes, last) = match split_once(rest, b':') {
-        None => (0, up_to(integer(first)?, 999)?, rest),
-        Some((minutes, last)) => (up_to(integer(first)?, 999)?, up_to(integer(minutes)?, 59)?, last),
+        None => (0, part(integer(first)?)?, rest),
+        Some((minutes, last)) => (part(integer(first)?)?, part(integer(minutes)?)?, last),
     };
     let (seconds, tenths) = with_tenths(last)?;
-    Some(hours * 36_000 + minutes * 600 + up_to(seconds, 59)? * 10 + tenths)
+    Some(hours * 36_000 + minutes * 600 + part(seconds)? * 10 + tenths)
 }
 
 // The load.

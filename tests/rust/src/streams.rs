@@ -594,16 +594,19 @@ impl Talk<'_> {
         if self.odd() {
             let odd = [
                 "1:60", "60:1", "1:60:00", "1:2:3:4", ":3", "3:", "1::2", "", ".5", "5.", "5.55", "1.5:3", "1000", "1000:00", "1000:00:00",
-                "999:59:59.9", "999:59", "999.9", "1:003", "00.5", "0:90", "59:59.9", "00999:00059", "4294967296", "4294967297:1", "1:4294967297",
-                "x", "1:x", "1:2:x", "1:2.x", "-1", "1:2:3.45", "0:0:0.0", "1:1000",
+                "999:59:59.9", "999:59", "999.9", "1:003", "00.5", "0:90", "59:59.9", "00999:00059", "999:60:00", "999:59:60", "999:999:999.9",
+                "999:999:60", "999:100:05", "999:1000:00", "999:00:1000", "4294967296", "4294967297:1", "1:4294967297", "x", "1:x", "1:2:x", "1:2.x",
+                "-1", "1:2:3.45", "0:0:0.0", "1:1000",
             ];
             let text = self.dice.pick(&odd);
             return self.field(text);
         }
-        let text = match self.dice.below(5) {
+        let text = match self.dice.below(7) {
             0 => self.dice.range(0, 999).to_string(),
             1 => format!("{}.{}", self.dice.range(0, 99), self.dice.range(0, 9)),
             2 => format!("{}:{:02}", self.dice.range(0, 999), self.dice.range(0, 59)),
+            4 => format!("{}:{}", self.dice.range(0, 999), self.dice.range(0, 999)),
+            5 => format!("{}:{}:{}.{}", self.dice.range(998, 999), self.dice.range(0, 999), self.dice.range(0, 999), self.dice.range(0, 9)),
             3 => format!("{}:{:02}:{:02}.{}", self.dice.range(0, 999), self.dice.range(0, 59), self.dice.range(0, 59), self.dice.range(0, 9)),
             _ => format!("{}:{}:{}", self.dice.range(0, 12), self.dice.range(0, 59), self.dice.range(0, 59)),
         };

@@ -176,6 +176,8 @@ struct Tally {
     /// The stored reports that blame a field, by its column.
     columns: BTreeMap<u64, u64>,
     kept: u64,
+    /// Times past 999:59:59.9 in what was written and read back.
+    long_times: u64,
     /// The calls that read a store or tell a text, by name.
     readers: BTreeMap<&'static str, u64>,
     /// Those of them that answered "not kept".
@@ -503,7 +505,7 @@ impl Case<'_> {
         const DESKS: [Limits; 2] = [[9, 9, 1, 1, 2, 2, 2, 2, 2], [9, 9, 1, 0, 0, 2, 2, 2, 2]];
         const FAULTY: [&[u8]; 40] = [
             b"CUE x 9", b"CUE 0", b"CUE 1000", b"CUE 1.55", b"CUE 1 9", b"CUE 1 x", b"CUE", b"CUE 2", b"GROUP x", b"GROUP 1 9", b"GROUP", b"GROUP 2",
-            b"SUB x", b"SUB 9 9", b"SUB 1 9", b"SUB", b"UP 1:60 x", b"UP 1 x", b"DOWN", b"FOLLOWON x", b"FOLLOWON", b"LINK 0", b"LINK",
+            b"SUB x", b"SUB 9 9", b"SUB 1 9", b"SUB", b"UP 1:1000 x", b"UP 1 x", b"DOWN", b"FOLLOWON x", b"FOLLOWON", b"LINK 0", b"LINK",
             b"CHAN 1@H0G 2@9", b"CHAN x@1 0@1 10@1 1@FULL 9", b"CHAN 9", b"PATCH 9 1 1 1", b"PATCH", b"PATCH 1 x 1 1 1 x 1 1 1 x",
             b"PATCH 1 10 1 1 1 10 1 1", b"CLEAR FOO 9", b"CLEAR", b"CLEAR CUES 9", b"CLEAR ALL x", b"CLEAR PATCH 3", b"IDENT 4:0", b"IDENT",
             b"FOO 1", b"9 1", b"(! CUE",
@@ -526,6 +528,21 @@ impl Case<'_> {
                 for place in [0, behind, record.len()] {
                     [b' ', 0x80].into_iter().for_each(|filler| at(place, &vec![filler; length]));
                 }
+            }
+        }
+    }
+
+    /// Times with parts at the ends of what a part can be, and of how many digits it has: loaded, written and read back.
+    fn sweep_times(&mut self) {
+        const DESK: Limits = [1, 1, 1, 0, 0, 1, 1, 1, 1];
+        const PARTS: [u32; 11] = [0, 1, 9, 10, 59, 60, 99, 100, 998, 999, 1_000];
+        let empty = vec![0; plain::needed(&DESK).expect("a desk in range")];
+        for (hours, minutes) in PARTS.iter().flat_map(|hours| PARTS.map(|minutes| (hours, minutes))) {
+            for (seconds, tenths) in PARTS.iter().flat_map(|seconds| ["", ".0", ".9"].map(|tenths| (seconds, tenths))) {
+                let stream = format!("CUE 1\nUP {hours}:{minutes}:{seconds}{tenths}\nDOWN 1 {minutes}:{seconds}{tenths}\nFOLLOWON {seconds}{tenths}");
+                let (store, _) = self.load(&DESK, &empty, stream.as_bytes(), &[7; 4]);
+                let (out, answer) = self.write(&DESK, &store, &[9; 120]);
+                self.back(&DESK, &store, &out[..answer.expect("there is room")]);
             }
         }
     }
@@ -655,16 +672,22 @@ impl Case<'_> {
         }
         for unit in [1, 10, 100, 600, 6_000, 36_000, 360_000, 3_600_000, 36_000_000, 360_000_000, 3_600_000_000] {
             for tenths in [unit - 1, unit, unit + 1, unit + 10, unit + 605] {
-                (0..=15).for_each(|room| self.time_text(tenths, room));
+                (0..=20).for_each(|room| self.time_text(tenths, room));
             }
         }
-        (0..=15).for_each(|room| self.time_text(u32::MAX, room));
+        // Past 999:59:59.9, every tenth where the minutes or the seconds take one digit more, and the largest that is read.
+        for tenths in [36_000_000, 36_024_000, 36_563_400, 36_564_000, 36_564_400, 36_573_399, 36_663_400, 37_563_400, 46_563_400, u32::MAX] {
+            for near in tenths - 11..=tenths.saturating_add(11) {
+                (0..=20).for_each(|room| self.time_text(near, room));
+            }
+        }
     }
 
     /// What was written is read back with no report, and written again gives the same bytes.
     fn back(&mut self, limits: &Limits, store: &[u8], text: &[u8]) {
         let (after, answer) = self.load(limits, store, text, &[]);
         let lines = text.iter().filter(|&&b| b == b'\n').count() as u32;
+        self.tally.long_times += text.split(|b| b" \r".contains(b)).filter(|field| is_long_time(field)).count() as u64;
         if answer != Ok(Totals { obeyed: lines, ..Totals::default() }) {
             self.differs(limits, store, "load of what was written", &format!("answers {answer:?} to {lines} lines"));
         }
@@ -764,6 +787,11 @@ impl Shape {
     }
 }
 
+/// Is it a written time past 999:59:59.9? Its minutes are then 60 or more.
+fn is_long_time(field: &[u8]) -> bool {
+    field.strip_prefix(b"999:").is_some_and(|rest| rest[0] >= b'6' || rest[2] != b':')
+}
+
 /// A patch entry with a value at the end of its range, or just past it.
 fn spoil_entry(entry: &mut [u8], channels: u32, dice: &mut Dice) {
     let field = dice.pick(&[(0, 10), (10, 8), (18, 6)]);
@@ -775,7 +803,7 @@ type Field = (usize, usize);
 const FLAG: &[u32] = &[0, 1];
 const WHOLE: &[u32] = &[0, 1, 999, 1_000, 1_023];
 const TENTHS: &[u32] = &[0, 1, 9, 10, 15];
-const TIME: &[u32] = &[0, 1, 35_999_999, 36_000_000, (1 << 26) - 1];
+const TIME: &[u32] = &[0, 1, 35_999_999, 36_000_000, 36_024_050, 36_573_399, 36_573_400, (1 << 26) - 1];
 
 /// The fields of a head as their first bit and width, with values at and past the ends of their ranges.
 const EDGES: [(Field, &[u32]); 16] = [
@@ -855,6 +883,7 @@ fn edges(seed: u64, tally: &mut Tally) -> u64 {
     case.sweep_names(dice);
     case.sweep_places();
     case.sweep_columns();
+    case.sweep_times();
     case.sweep_readers(dice);
     case.sweep_words();
     // The longest stream that may be written, and one byte more: ten bytes come from a submaster that a second load adds.
@@ -892,7 +921,7 @@ fn random(seed: u64, count: u64) {
     let counts = |map: &BTreeMap<&str, u64>, gap| map.iter().map(|(name, count)| format!("{name} {count}")).collect::<Vec<_>>().join(gap);
     println!(
         "{} calls, edges and {number} cases from seed {seed}: no difference ({:.0} s); {} on large stores; answered {}, refused {}; {} records, \
-         {} reports, {} stored ones blame {} columns; {} cues found; readers: {}; {} of a slot, dimmer or kind that there is not",
+         {} reports, {} stored ones blame {} columns; {} cues found; {} times past 999:59:59.9 written; readers: {}; {} of a slot, dimmer or kind that there is not",
         tally.calls,
         begun.elapsed().as_secs_f64(),
         tally.large,
@@ -903,6 +932,7 @@ fn random(seed: u64, count: u64) {
         tally.columns.values().sum::<u64>(),
         tally.columns.len(),
         tally.kept,
+        tally.long_times,
         counts(&tally.readers, ", "),
         tally.not_kept
     );
