@@ -88,19 +88,20 @@ fn memories(show: &Show, kind: Kind) -> String {
     if memories.is_empty() {
         return format!("{title} none\n");
     }
-    let mut text = format!("{title} {}\n{}", memories.len(), headings(kind));
+    let wide = time_width(&memories);
+    let mut text = format!("{title} {}\n{}", memories.len(), headings(kind, wide));
     for m in &memories {
-        text += &format!("  {:1$}  {2:4}{3}\n{4}", number(m.number), width(kind), m.page, values(kind, m), levels(m.levels));
+        text += &format!("  {:1$}  {2:4}{3}\n{4}", number(m.number), width(kind), m.page, values(kind, m, wide), levels(m.levels));
     }
     text
 }
 
-fn headings(kind: Kind) -> String {
-    let times = "     up fade       delay   down fade       delay";
+fn headings(kind: Kind, wide: usize) -> String {
+    let times = ["up fade", "delay", "down fade", "delay"].map(|name| format!(" {name:>wide$}")).concat();
     let times = match kind {
-        Kind::Cue => format!("{times}    followon  link"),
+        Kind::Cue => format!("{times} {:>wide$}  link", "followon"),
         Kind::Group => String::new(),
-        Kind::Submaster => times.to_string(),
+        Kind::Submaster => times,
     };
     format!("  {:1$}  page{times}\n", kind.name(), width(kind))
 }
@@ -110,24 +111,31 @@ fn width(kind: Kind) -> usize {
     kind.name().len().max(5)
 }
 
+/// Of the columns of times: `999:59:59.9`, which leaves a line of 80 characters, or a longer one that is among them.
+fn time_width(memories: &[Memory]) -> usize {
+    let fades = memories.iter().flat_map(|m| [m.up, m.down]).flatten().flat_map(|f| [f.fade, f.delay]);
+    let times = fades.chain(memories.iter().filter_map(|m| m.followon));
+    times.map(|tenths| time_text(tenths).len()).fold(11, usize::max)
+}
+
 /// The values that a memory of this kind can have besides its levels.
-fn values(kind: Kind, m: &Memory) -> String {
-    let times = fade(m.up) + &fade(m.down);
+fn values(kind: Kind, m: &Memory, wide: usize) -> String {
+    let times = fade(m.up, wide) + &fade(m.down, wide);
     match kind {
-        Kind::Cue => times + &time(m.followon) + "  " + m.link.map_or("  -".into(), number).as_str(),
+        Kind::Cue => times + &time(m.followon, wide) + "  " + m.link.map_or("  -".into(), number).as_str(),
         Kind::Group => String::new(),
         Kind::Submaster => times,
     }
 }
 
-fn fade(fade: Option<Fade>) -> String {
-    time(fade.map(|f| f.fade)) + &time(fade.map(|f| f.delay).filter(|&delay| delay != 0))
+fn fade(fade: Option<Fade>, wide: usize) -> String {
+    time(fade.map(|f| f.fade), wide) + &time(fade.map(|f| f.delay).filter(|&delay| delay != 0), wide)
 }
 
-fn time(tenths: Option<u32>) -> String {
+fn time(tenths: Option<u32>, wide: usize) -> String {
     match tenths {
-        Some(tenths) => format!(" {:>11}", time_text(tenths)),
-        None => format!(" {:>11}", "-"),
+        Some(tenths) => format!(" {:>wide$}", time_text(tenths)),
+        None => format!(" {:>wide$}", "-"),
     }
 }
 

@@ -115,7 +115,7 @@ mod tests {
 
     #[test]
     fn ticks_have_room_at_every_length() {
-        for longest in [0, 1, 50, 1_000, 36_000, 35_999_999, 71_999_998] {
+        for longest in [0, 1, 50, 1_000, 36_000, 35_999_999, 36_573_399, 73_146_798] {
             let scale = Scale::of(&[cue(None, Some(Fade { fade: longest / 2, delay: longest - longest / 2 }), None)]);
             let axis = scale.axis("cues");
             let places: Vec<f64> = axis.split("class=\"tick\" x=\"").skip(1).map(|t| t[..t.find('"').unwrap()].parse().unwrap()).collect();
