@@ -14,13 +14,14 @@ use Rattle.store_desk.specs.declared.Key.{Key}
 use Rattle.store_desk.specs.declared.Kind.{Kind}
 use Rattle.store_head.specs.declared.Head.{Head}
 use Rattle.store_head.specs.declared.Patch.{Patch}
-use Rattle.store_head.specs.Fits.{pageSpan, wholeSpan, timeSpan, HeadFits, PatchFits}
+use Rattle.store_head.specs.Fits.{pageSpan, wholeSpan, HeadFits, PatchFits}
+use Rattle.value.specs.Time.{timeMax}
 use Rattle.value_written.specs.Text.{integerText, numberText, timeText}
-use Rattle.value_written.proofs.Texts.{integer-short}
+use Rattle.value_written.proofs.Texts.{integer-short, time-short}
 use Rattle.save_lines.specs.Line.{crlf, joined, patchLine, kindText, primaryText, delayText, timeLine, linkLine, headLines, Lit, litFrom, pairText, pairsText, mostPairs, chanLinesIn, chanLines}
 use Rattle.save_lines.proofs.Parts.{joined-nil, joined-more}
 use Rattle.save_lines.proofs.Lengths.{kind-long, patch-length-none, patch-length-some, primary-length-is, delay-length-none, time-length-none, time-length-some, link-length-none, link-length-some, head-length-is, pair-length}
-use Rattle.save_lines.proofs.Rules.{number-six, time-held, delay-short, lits-count}
+use Rattle.save_lines.proofs.Rules.{number-six, time-held, delay-most, lits-count}
 
 -- ---- PATCH
 pub patch-most : (page dimmer : ℕ) (p : Patch) → page < 10 → dimmer < 1000 → PatchFits p → length (joined (patchLine page dimmer p)) ≤ 22
@@ -42,10 +43,40 @@ primary-most k key hp hw =
     omega arith
 
 -- ---- times and LINK
-time-most : (word : List ℕ) (present fade delay n : ℕ) → fade < timeSpan → length (delayText delay) ≤ n
-    → length (joined (timeLine word present fade delay)) ≤ length word + 19 + n
-time-most word present fade delay n hf hd =
-    let a = time-held fade hf in
+-- the five times of a head, each written in n characters at most
+pub record TimesWithin (n : ℕ) (h : Head) : Type 0 where
+  pub upFade : length (timeText (h .«up_fade»)) ≤ n
+  pub upDelay : length (timeText (h .«up_delay»)) ≤ n
+  pub downFade : length (timeText (h .«down_fade»)) ≤ n
+  pub downDelay : length (timeText (h .«down_delay»)) ≤ n
+  pub followonTime : length (timeText (h .«followon_time»)) ≤ n
+
+-- whatever bits they have
+pub times-held : (h : Head) → HeadFits h → TimesWithin 17 h
+times-held h f =
+    record {
+      upFade = time-held (h .«up_fade») (f .upFade);
+      upDelay = time-held (h .«up_delay») (f .upDelay);
+      downFade = time-held (h .«down_fade») (f .downFade);
+      downDelay = time-held (h .«down_delay») (f .downDelay);
+      followonTime = time-held (h .«followon_time») (f .followonTime);
+    }
+
+-- and where each is in its range
+pub times-read : (h : Head) → h .«up_fade» ≤ timeMax → h .«up_delay» ≤ timeMax → h .«down_fade» ≤ timeMax → h .«down_delay» ≤ timeMax
+    → h .«followon_time» ≤ timeMax → TimesWithin 13 h
+times-read h uf ud df dd ft =
+    record {
+      upFade = time-short (h .«up_fade») uf;
+      upDelay = time-short (h .«up_delay») ud;
+      downFade = time-short (h .«down_fade») df;
+      downDelay = time-short (h .«down_delay») dd;
+      followonTime = time-short (h .«followon_time») ft;
+    }
+
+time-most : (word : List ℕ) (present fade delay : ℕ)
+    → length (joined (timeLine word present fade delay)) ≤ length word + length (timeText fade) + length (delayText delay) + 2
+time-most word present fade delay =
     by-eq present 0
     (λ e. let l = time-length-none word present fade delay e in omega arith)
     (λ e. let l = time-length-some word present fade delay {a = length (timeText fade)} refl refl e in omega arith)
@@ -57,12 +88,19 @@ link-most h hw =
     (λ e. let l = link-length-none h e in omega arith)
     (λ e. let l = link-length-some h {a = length (numberText (h .«link_whole») (h .«link_fraction»))} refl e in omega arith)
 
-pub head-most : (h : Head) → HeadFits h → length (joined (headLines h)) ≤ 123
-head-most h f =
+pub head-most : (n : ℕ) (h : Head) → TimesWithin n h → HeadFits h → length (joined (headLines h)) ≤ 38 + 5 * n
+head-most n h t f =
+    let u = t .upFade in
+    let v = t .upDelay in
+    let w = t .downFade in
+    let x = t .downDelay in
+    let y = t .followonTime in
+    let du = delay-most (h .«up_delay») in
+    let dd = delay-most (h .«down_delay») in
     let none = delay-length-none 0 refl in
-    let a = time-most (bytes "UP ") (h .up) (h .«up_fade») (h .«up_delay») 18 (f .upFade) (delay-short (h .«up_delay») (f .upDelay)) in
-    let b = time-most (bytes "DOWN ") (h .down) (h .«down_fade») (h .«down_delay») 18 (f .downFade) (delay-short (h .«down_delay») (f .downDelay)) in
-    let c = time-most (bytes "FOLLOWON ") (h .followon) (h .«followon_time») 0 0 (f .followonTime) (omega arith) in
+    let a = time-most (bytes "UP ") (h .up) (h .«up_fade») (h .«up_delay») in
+    let b = time-most (bytes "DOWN ") (h .down) (h .«down_fade») (h .«down_delay») in
+    let c = time-most (bytes "FOLLOWON ") (h .followon) (h .«followon_time») 0 in
     let l = link-most h (f .linkWhole) in
     let e =
     head-length-is h {a = length (joined (timeLine (bytes "UP ") (h .up) (h .«up_fade») (h .«up_delay»)))} refl refl refl refl

@@ -165,14 +165,11 @@ delay-source delay =
     (λ e. subst Source (sym (delay-none delay e)) refl)
     (λ e. subst Source (delay-some delay e) (all-append isSource (bytes " ") (timeText delay) refl (time-source delay)))
 
-pub delay-short : (delay : ℕ) → delay < timeSpan → length (delayText delay) ≤ 18
-delay-short delay h =
+pub delay-most : (delay : ℕ) → length (delayText delay) ≤ 1 + length (timeText delay)
+delay-most delay =
     by-eq delay 0
     (λ e. let l : length (delayText delay) ≡ 0 = ap length (delay-none delay e) in omega arith)
-    (λ e.
-    let l : suc (length (timeText delay)) ≡ length (delayText delay) = ap length (delay-some delay e) in
-    let m = time-held delay h in
-    omega arith)
+    (λ e. let l : suc (length (timeText delay)) ≡ length (delayText delay) = ap length (delay-some delay e) in omega arith)
 
 module _ (word : List ℕ) (present fade delay : ℕ) (s : Source word) (lw : length word ≤ 9) (lf : fade < timeSpan) (ld : delay < timeSpan) where
   abbrev time-text : List ℕ
@@ -181,7 +178,8 @@ module _ (word : List ℕ) (present fade delay : ℕ) (s : Source word) (lw : le
   time-short : length time-text ≤ 80
   time-short =
       let a = time-held fade lf in
-      let b = delay-short delay ld in
+      let b = delay-most delay in
+      let c = time-held delay ld in
       let l : length (timeText fade ++ delayText delay) ≡ length (timeText fade) + length (delayText delay) = length-append (timeText fade) (delayText delay) in
       let m : length time-text ≡ length word + length (timeText fade ++ delayText delay) = length-append word (timeText fade ++ delayText delay) in
       omega arith

@@ -8,7 +8,7 @@ use native.Mathlib.Omega.{arith}
 use lib.Dec.{eqb, leb}
 use lib.ListN.{length, take, drop, length-append, length-drop, length-set}
 use lib.Seq.{length-take-le, take-at, drop-at}
-use borrow.Author.Tests.{le-leb}
+use borrow.Author.Tests.{eqb-true, eq-eqb, ne-eqb, le-leb, leb-true}
 use Rattle.cells.specs.Put.{put}
 use Rattle.cells.specs.Search.{Found, at, nowhere}
 use Rattle.cells.proofs.Search.{first-same}
@@ -297,6 +297,18 @@ values-of k h e =
 pub of-values : (k : Kind) (h : Head) → Values k h → valuesFit k h ≡ true
 unfolding valuesFit
 of-values k h v = seven-joined _ _ _ _ _ _ _ (v .upFade) (v .upDelay) (v .downFade) (v .downDelay) (v .followon) (v .link) (v .rest)
+
+-- a time in good form, there or not, is in range
+pub time-in : (can : Bool) (present time : ℕ) → timeFits can present time ≡ true → time ≤ timeMax
+time-in can present time e =
+    by-eq present 0
+    (λ z.
+    let f : eqb time 0 ≡ true = sym (cond-true (eqb present 0) (eqb time 0) (can && leb time timeMax) (eq-eqb present 0 z)) ∙ e in
+    let g : time ≡ 0 = eqb-true time 0 f in
+    omega arith)
+    (λ ne.
+    let f : (can && leb time timeMax) ≡ true = sym (cond-false (eqb present 0) (eqb time 0) (can && leb time timeMax) (ne-eqb present 0 ne)) ∙ e in
+    leb-true time timeMax (and-right can (leb time timeMax) f))
 
 time-set : (can : Bool) (t : ℕ) → can ≡ true → t ≤ timeMax → timeFits can 1 t ≡ true
 time-set can t c l = and-true can (leb t timeMax) c (le-leb t timeMax l)

@@ -24,7 +24,7 @@ use Rattle.store.specs.Slots.{keyOf}
 use Rattle.store.specs.View.{Memory}
 use Rattle.store.specs.Change.{seat, started, edited}
 use Rattle.store.specs.Form.{hasTimes, hasLink}
-use Rattle.store.proofs.Edits.{Values}
+use Rattle.store.proofs.Edits.{Values, time-in}
 use Rattle.load.specs.declared.State.{State}
 use Rattle.load.specs.Ask.{name}
 use Rattle.load.specs.Step.{opened}
@@ -33,7 +33,7 @@ use Rattle.save.specs.Lines.{memoryLines}
 use Rattle.theorem_same_show.proofs.Worded.{AllLit}
 use Rattle.theorem_same_show.proofs.Does.{Does, primary-does, up-does, down-does, followon-does, link-does, chan-does, editedAll, litEdits}
 use Rattle.theorem_same_show.proofs.Runs.{Runs, done, next, runs-append, runs-one}
-use Rattle.theorem_same_show.proofs.Rebuilt.{ifPresent, headEdits, memoryEdits, time-can, time-most, link-can, link-number}
+use Rattle.theorem_same_show.proofs.Rebuilt.{ifPresent, headEdits, memoryEdits, time-can, link-can, link-number}
 
 -- ---- changes in two parts
 edited-append : (d : Desk) (n : Name) (a b : List Edit) (t : List ℕ) → editedAll d (editedAll d t n a) n b ≡ editedAll d t n (a ++ b)
@@ -89,23 +89,23 @@ module _ (d : Desk) (k : Kind) (y : Key) where
       (if-runs (h .up) (Up (h .«up_fade») (h .«up_delay»)) _ t
       (λ ne.
       up-does d k y t (h .«up_fade») (h .«up_delay»)
-      (time-most (hasTimes k) (h .up) (h .«up_fade») (v .upFade) ne)
-      (time-most (hasTimes k) (h .up) (h .«up_delay») (v .upDelay) ne)
+      (time-in (hasTimes k) (h .up) (h .«up_fade») (v .upFade))
+      (time-in (hasTimes k) (h .up) (h .«up_delay») (v .upDelay))
       (time-can (hasTimes k) (h .up) (h .«up_fade») (v .upFade) ne)))
       (λ t₁.
       and-then b (c ++ e)
       (if-runs (h .down) (Down (h .«down_fade») (h .«down_delay»)) _ t₁
       (λ ne.
       down-does d k y t₁ (h .«down_fade») (h .«down_delay»)
-      (time-most (hasTimes k) (h .down) (h .«down_fade») (v .downFade) ne)
-      (time-most (hasTimes k) (h .down) (h .«down_delay») (v .downDelay) ne)
+      (time-in (hasTimes k) (h .down) (h .«down_fade») (v .downFade))
+      (time-in (hasTimes k) (h .down) (h .«down_delay») (v .downDelay))
       (time-can (hasTimes k) (h .down) (h .«down_fade») (v .downFade) ne)))
       (λ t₂.
       and-then c e
       (if-runs (h .followon) (Followon (h .«followon_time»)) _ t₂
       (λ ne.
       followon-does d k y t₂ (time-can (hasLink k) (h .followon) (h .«followon_time») (v .followon) ne) (h .«followon_time»)
-      (time-most (hasLink k) (h .followon) (h .«followon_time») (v .followon) ne)))
+      (time-in (hasLink k) (h .followon) (h .«followon_time») (v .followon))))
       (λ t₃.
       if-runs (h .link) (Link (h .«link_whole») (h .«link_fraction»)) _ t₃
       (λ ne.

@@ -9,7 +9,7 @@ use native.Mathlib.Omega.{arith}
 use lib.Dec.{eqb, leb}
 use lib.ListN.{length, replicate, length-append}
 use lib.Seq.{append-snoc}
-use borrow.Author.Tests.{eqb-true, eq-eqb, ne-eqb, leb-true}
+use borrow.Author.Tests.{eqb-true, eq-eqb, ne-eqb}
 use Rattle.cells.specs.Put.{put}
 use Rattle.cells.proofs.Split.{by-bool, by-eq, cond-true, cond-false, and-left, and-right}
 use Rattle.value.specs.Time.{timeMax}
@@ -29,7 +29,7 @@ use Rattle.store.specs.Form.{hasTimes, hasLink, timeFits, linkFits}
 use Rattle.store.specs.Memories.{blankMemory, editLevels, editMemory, canHave}
 use Rattle.store.specs.Fits.{InTime}
 use Rattle.store.proofs.Levels.{level-next}
-use Rattle.store.proofs.Edits.{Values}
+use Rattle.store.proofs.Edits.{Values, time-in}
 use Rattle.save_lines.specs.Line.{Lit, litFrom}
 use Rattle.theorem_same_show.proofs.Worded.{AllLit}
 use Rattle.theorem_same_show.proofs.Does.{litEdits}
@@ -77,9 +77,6 @@ module _ (can : Bool) (present time : ℕ) (e : timeFits can present time ≡ tr
 
   pub time-can : can ≡ true
   time-can = and-left can (leb time timeMax) time-there
-
-  pub time-most : time ≤ timeMax
-  time-most = leb-true time timeMax (and-right can (leb time timeMax) time-there)
 
 module _ (can : Bool) (h : Head) (e : linkFits can h ≡ true) where
   link-absent : h .link ≡ 0 → (h .«link_whole» ≡ 0) × (h .«link_fraction» ≡ 0)
@@ -254,19 +251,19 @@ head-have k h v =
     (if-have k (h .up) (Up (h .«up_fade») (h .«up_delay»))
     (λ ne. (
       time-can (hasTimes k) (h .up) (h .«up_fade») (v .upFade) ne,
-      (time-most (hasTimes k) (h .up) (h .«up_fade») (v .upFade) ne, time-most (hasTimes k) (h .up) (h .«up_delay») (v .upDelay) ne),
+      (time-in (hasTimes k) (h .up) (h .«up_fade») (v .upFade), time-in (hasTimes k) (h .up) (h .«up_delay») (v .upDelay)),
     )))
     (have-append k (ifPresent (h .down) (Down (h .«down_fade») (h .«down_delay»))) _
     (if-have k (h .down) (Down (h .«down_fade») (h .«down_delay»))
     (λ ne. (
       time-can (hasTimes k) (h .down) (h .«down_fade») (v .downFade) ne,
-      (time-most (hasTimes k) (h .down) (h .«down_fade») (v .downFade) ne, time-most (hasTimes k) (h .down) (h .«down_delay») (v .downDelay) ne),
+      (time-in (hasTimes k) (h .down) (h .«down_fade») (v .downFade), time-in (hasTimes k) (h .down) (h .«down_delay») (v .downDelay)),
     )))
     (have-append k (ifPresent (h .followon) (Followon (h .«followon_time»))) _
     (if-have k (h .followon) (Followon (h .«followon_time»))
     (λ ne. (
       time-can (hasLink k) (h .followon) (h .«followon_time») (v .followon) ne,
-      time-most (hasLink k) (h .followon) (h .«followon_time») (v .followon) ne,
+      time-in (hasLink k) (h .followon) (h .«followon_time») (v .followon),
     )))
     (if-have k (h .link) (Link (h .«link_whole») (h .«link_fraction»))
     (λ ne. (link-can (hasLink k) h (v .link) ne, link-number (hasLink k) h (v .link) ne)))))
