@@ -237,19 +237,31 @@ part-short v k h =
     let c : length (partText v) ≡ 1 + max 2 (digitCount v) = part-length v in
     omega arith
 
--- as many digits as the code counts
-pub part-two : (v : ℕ) {k : ℕ} → k ≡ length (integerText v) → k < 2 → 2 ≡ max 2 (digitCount v)
-part-two v e h = omega (arith, integer-length v)
+-- two digits below a hundred, and from there on its own
+count-two : (v : ℕ) → 10 ≤ v → 2 ≤ digitCount v
+unfolding digitCount
+count-two v h = let e = count-more 8 v h in let l = count-some 8 (v / 10) in omega arith
 
-pub part-more : (v : ℕ) {k : ℕ} → k ≡ length (integerText v) → 2 ≤ k → k ≡ max 2 (digitCount v)
-part-more v e h = omega (arith, integer-length v)
+module _ (v : ℕ) where
+  pub part-two : v < 100 → partText v ≡ colon ∷ digitsText 10 2 v
+  unfolding partText
+  part-two h =
+      let a : length (integerText v) ≤ 2 = integer-short v 1 h in
+      let e : max 2 (digitCount v) ≡ 2 = omega (arith, integer-length v) in
+      ap (λ (k : ℕ). colon ∷ digitsText 10 k v) e
 
-pub digits-few : (v : ℕ) {k : ℕ} → k ≡ max 2 (digitCount v) → v < 4294967296 → k ≤ 10
-digits-few v e h = omega (arith, integer-length v, integer-ten v h)
+  pub part-own : 100 ≤ v → partText v ≡ colon ∷ integerText v
+  unfolding partText integerText
+  part-own h =
+      let a : 2 ≤ digitCount v = count-two v (omega arith) in
+      let e : max 2 (digitCount v) ≡ digitCount v = omega arith in
+      ap (λ (k : ℕ). colon ∷ digitsText 10 k v) e
 
-pub digits-part : (v : ℕ) {k : ℕ} → k ≡ max 2 (digitCount v) → colon ∷ digitsText 10 k v ≡ partText v
-unfolding partText
-digits-part v e = ap (λ (k : ℕ). colon ∷ digitsText 10 k v) e
+  pub part-length-two : v < 100 → length (partText v) ≡ 3
+  part-length-two h = ap length (part-two h) ∙ ap suc (text-length 10 2 v)
+
+  pub part-length-own : 100 ≤ v → length (partText v) ≡ 1 + length (integerText v)
+  part-length-own h = ap length (part-own h) ∙ (let e : suc (length (integerText v)) ≡ 1 + length (integerText v) = omega arith in e)
 
 -- any part of 32 bits
 part-long : (v : ℕ) → v < 4294967296 → length (partText v) ≤ 11
@@ -283,17 +295,13 @@ counted-le unit s e = subst (λ (k : ℕ). k * unit ≤ s) (sym e) (whole-le uni
 pub left-le : (unit s : ℕ) → leftBy unit s ≤ s
 left-le unit s = let e : s - wholeIn unit s * unit ≡ leftBy unit s = left-is unit s in omega arith
 
--- below an hour minutes leave less than one; of the largest clock there are 999 seconds left
-pub minute-left : (s : ℕ) → s < 3600 → leftBy 60 s < 60
-unfolding wholeIn leftBy
-minute-left s h = omega arith
-
+-- of the largest clock there are 999 seconds left
 pub clock-left : (s : ℕ) → s ≤ clockMax → leftBy 60 (leftBy 3600 s) ≤ partMax
 unfolding wholeIn leftBy
 clock-left s h = omega arith
 
 -- the parts count the whole
-pub minutes-whole : (s : ℕ) → wholeIn 60 s * 60 + leftBy 60 s ≡ s
+minutes-whole : (s : ℕ) → wholeIn 60 s * 60 + leftBy 60 s ≡ s
 minutes-whole s =
     let e : s - wholeIn 60 s * 60 ≡ leftBy 60 s = left-is 60 s in
     let h : wholeIn 60 s * 60 ≤ s = whole-le 60 s in
@@ -321,7 +329,7 @@ pub clock-seconds : (s : ℕ) → s < 60 → clockText s ≡ integerText s
 unfolding clockText
 clock-seconds s h = rw (lt-ltb s 60 h)
 
-pub clock-minutes : (s : ℕ) → 60 ≤ s → s < 3600 → clockText s ≡ integerText (wholeIn 60 s) ++ partText (leftBy 60 s)
+pub clock-minutes : (s : ℕ) → 60 ≤ s → s < 3600 → clockText s ≡ integerText (s / 60) ++ partText (s % 60)
 unfolding clockText
 clock-minutes s g h = rw (le-ltb s 60 g, lt-ltb s 3600 h)
 
@@ -331,16 +339,12 @@ unfolding clockText
 clock-hours s h = let g : 60 ≤ s = omega arith in rw (le-ltb s 60 g, le-ltb s 3600 h)
 
 -- of the parts as the code has them
-pub clock-minutes-is : (s : ℕ) {a b : ℕ} → a ≡ wholeIn 60 s → b ≡ leftBy 60 s → 60 ≤ s → s < 3600 → clockText s ≡ integerText a ++ partText b
-clock-minutes-is s ea eb g h = let e = clock-minutes s g h in cc
-
 pub clock-hours-is : (s : ℕ) {r a b c : ℕ} → r ≡ leftBy 3600 s → a ≡ wholeIn 3600 s → b ≡ wholeIn 60 r → c ≡ leftBy 60 r → 3600 ≤ s
     → clockText s ≡ integerText a ++ (partText b ++ partText c)
 clock-hours-is s er ea eb ec h = let e = clock-hours s h in cc
 
-pub clock-length-minutes : (s : ℕ) → 60 ≤ s → s < 3600
-    → length (clockText s) ≡ length (integerText (wholeIn 60 s)) + length (partText (leftBy 60 s))
-clock-length-minutes s g h = ap length (clock-minutes s g h) ∙ length-append (integerText (wholeIn 60 s)) (partText (leftBy 60 s))
+pub clock-length-minutes : (s : ℕ) → 60 ≤ s → s < 3600 → length (clockText s) ≡ length (integerText (s / 60)) + length (partText (s % 60))
+clock-length-minutes s g h = ap length (clock-minutes s g h) ∙ length-append (integerText (s / 60)) (partText (s % 60))
 
 pub clock-length-hours : (s : ℕ) → 3600 ≤ s
     → length (clockText s)
@@ -356,9 +360,9 @@ clock-length-hours s h =
     omega arith
 
 -- the lengths as the code adds them, and that they are small
-pub minutes-length : (s : ℕ) {a b x y : ℕ} → a ≡ wholeIn 60 s → b ≡ leftBy 60 s → x ≡ length (integerText a) → y ≡ length (partText b)
-    → 60 ≤ s → s < 3600 → x + y ≡ length (clockText s)
-minutes-length s ea eb ex ey g h = let e = clock-length-minutes s g h in cc
+pub minutes-length : (s : ℕ) {x y : ℕ} → x ≡ length (integerText (s / 60)) → y ≡ length (partText (s % 60)) → 60 ≤ s → s < 3600
+    → x + y ≡ length (clockText s)
+minutes-length s ex ey g h = let e = clock-length-minutes s g h in cc
 
 pub hours-length : (s : ℕ) {r a b c x y z : ℕ} → r ≡ leftBy 3600 s → a ≡ wholeIn 3600 s → b ≡ wholeIn 60 r → c ≡ leftBy 60 r
     → x ≡ length (integerText a) → y ≡ length (partText b) → z ≡ length (partText c) → 3600 ≤ s → x + y + z ≡ length (clockText s)
@@ -382,9 +386,9 @@ clock-by s k h =
     let n : (unit r : ℕ) → wholeIn unit r < 1000 = λ unit r. omega (arith, whole-max unit r) in
     by-lt s 3600
     (λ m.
-    let a : length (integerText (wholeIn 60 s)) ≤ 3 = integer-short (wholeIn 60 s) 2 (n 60 s) in
-    let b : length (partText (leftBy 60 s)) ≤ 3 + 0 = part-short (leftBy 60 s) 0 (let g : leftBy 60 s < 100 = omega (arith, minute-left s m) in g) in
-    let e : length (clockText s) ≡ length (integerText (wholeIn 60 s)) + length (partText (leftBy 60 s)) = clock-length-minutes s l m in
+    let a : length (integerText (s / 60)) ≤ 2 = integer-short (s / 60) 1 (let g : s / 60 < 100 = omega arith in g) in
+    let b : length (partText (s % 60)) ≡ 3 = part-length-two (s % 60) (omega arith) in
+    let e : length (clockText s) ≡ length (integerText (s / 60)) + length (partText (s % 60)) = clock-length-minutes s l m in
     omega arith)
     (λ m.
     let a : length (integerText (wholeIn 3600 s)) ≤ 3 = integer-short (wholeIn 3600 s) 2 (n 3600 s) in
@@ -427,7 +431,7 @@ time-some t =
     omega arith)
     (λ l.
     by-lt s 3600
-    (λ m. let a = clock-length-minutes s l m in let b = integer-some (wholeIn 60 s) in omega arith)
+    (λ m. let a = clock-length-minutes s l m in let b = integer-some (s / 60) in omega arith)
     (λ m. let a = clock-length-hours s m in let b = integer-some (wholeIn 3600 s) in omega arith))
 
 -- ---- characters: of digits, for any class that holds the digits
@@ -467,7 +471,7 @@ module _ (p : ℕ → Bool) (f : (c : ℕ) → 48 ≤ c → c ≤ 57 → p c ≡
         by-lt s 3600
         (λ m.
         subst (λ (z : List ℕ). span p z ≡ length z) (sym (clock-minutes s l m))
-        (all-append p (integerText (wholeIn 60 s)) (partText (leftBy 60 s)) (integer-all (wholeIn 60 s)) (part-all (leftBy 60 s))))
+        (all-append p (integerText (s / 60)) (partText (s % 60)) (integer-all (s / 60)) (part-all (s % 60))))
         (λ m.
         let r : ℕ = leftBy 3600 s in
         subst (λ (z : List ℕ). span p z ≡ length z) (sym (clock-hours s m))

@@ -28,7 +28,7 @@ use Rattle.value.proofs.Times.{part-good, part-is, join-good, time-good}
 use Rattle.value.proofs.Splits.{number-whole, number-parts, time-whole, time-parts, clock-whole, clock-parts, later-whole, later-parts}
 use Rattle.value_level.proofs.Levels.{hex-read, hex-byte, level-hex}
 use Rattle.value_written.specs.Text.{digitChar, digitsOn, digitsText, digitCount, integerText, numberText, levelText, partText, wholeIn, leftBy, clockText, timeText}
-use Rattle.value_written.proofs.Texts.{char-decimal, char-capital, text-length, integer-enough, integer-count, fraction-none, fraction-some, decimals-all, integer-all, clock-all, whole-max, minute-left, clock-left, minutes-whole, hours-whole, clock-seconds, clock-minutes, clock-hours}
+use Rattle.value_written.proofs.Texts.{char-decimal, char-capital, text-length, integer-enough, integer-count, fraction-none, fraction-some, decimals-all, integer-all, clock-all, whole-max, clock-left, hours-whole, clock-seconds, clock-minutes, clock-hours}
 
 -- ---- digits
 pub char-read : (d : ℕ) → d < 16 → digitOf (digitChar d) ≡ d
@@ -173,13 +173,15 @@ clock-read s h =
     (λ l.
     by-lt s 3600
     (λ m.
-    let a : ℕ = wholeIn 60 s in
-    let b : ℕ = leftBy 60 s in
-    let k : leftBy 60 s ≤ partMax = omega (arith, minute-left s m) in
+    let a : ℕ = s / 60 in
+    let b : ℕ = s % 60 in
+    let j : s / 60 ≤ partMax = omega arith in
+    let k : s % 60 ≤ partMax = omega arith in
+    let e : s / 60 * 60 + s % 60 ≡ s = omega arith in
     ap clockOf (clock-minutes s l m)
     ∙ clock-parts (integerText a) (laterText b) (integer-all (isOther colon) no-colon a)
     ∙ later-whole (partOf (integerText a)) (laterText b) (later-plain b)
-    ∙ join-good 60 (first-read a (whole-max 60 s)) (later-read b k) ∙ ap Value (minutes-whole s))
+    ∙ join-good 60 (first-read a j) (later-read b k) ∙ ap Value e)
     (λ m.
     let r : ℕ = leftBy 3600 s in
     let a : ℕ = wholeIn 3600 s in

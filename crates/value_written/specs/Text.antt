@@ -63,7 +63,7 @@ unfoldable pub clockText : ℕ → List ℕ
 clockText s =
     let m = leftBy 3600 s in
     cond (ltb s 60) (integerText s)
-    (cond (ltb s 3600) (integerText (wholeIn 60 s) ++ partText (leftBy 60 s))
+    (cond (ltb s 3600) (integerText (s / 60) ++ partText (s % 60))
     (integerText (wholeIn 3600 s) ++ (partText (wholeIn 60 m) ++ partText (leftBy 60 m))))
 
 -- tenths only if not zero

@@ -5,9 +5,9 @@ use value::Number;
 use value::PART_MAX;
 use value::TENTHS_DIGITS;
 ghost use mathlib.Core.Path.{_≡_};
-ghost use Prim.Native.Nat.{_+_, _<_, _≤_, max};
+ghost use Prim.Native.Nat.{_+_, _<_, _≤_};
 ghost use lib.ListN.{length};
-ghost use Rattle.value_written.specs.Text.{digitChar, digitsText, digitCount, integerText, fractionText, numberText, levelText, partText, wholeIn, leftBy, clockText, timeText, markedText};
+ghost use Rattle.value_written.specs.Text.{digitChar, digitsText, integerText, fractionText, numberText, levelText, partText, wholeIn, leftBy, clockText, timeText, markedText};
 ghost use Rattle.text_room.specs.Room.{Room};
 ghost use Rattle.text_room.specs.Wrote.{wrote, wroteAt};
 
@@ -17,8 +17,10 @@ const HEXADECIMAL: u32 = 16;
 
 const LEVEL_DIGITS: usize = 2;
 
-// After a colon a part of a time has so many digits at least.
+// After a colon a part of a time has two digits, and more only from a hundred on.
 const PART_DIGITS: usize = 2;
+
+const LONG_PART: u32 = 100;
 
 // In seconds.
 const MINUTE: u32 = 60;
@@ -133,21 +135,13 @@ pub fn put_level(out: &mut [u8], at: usize, level: u8) -> usize
     put_digits(out, at + 1, level as u32, LEVEL_DIGITS, HEXADECIMAL)
 }
 
-// How many digits a part of a time has after a colon.
-fn part_digits(v: u32) -> usize
-    ensures { λ r. ⌜ r ≡ max 2 (digitCount v) ⌝ }
-{
-    let digits = integer_length(v);
-    if digits < PART_DIGITS {
-        return PART_DIGITS;
-    }
-    digits
-}
-
 fn part_length(v: u32) -> usize
     ensures { λ r. ⌜ r ≡ length (partText v) ⌝ }
 {
-    1 + part_digits(v)
+    if v < LONG_PART {
+        return 1 + PART_DIGITS;
+    }
+    1 + integer_length(v)
 }
 
 fn put_part(out: &mut [u8], at: usize, v: u32) -> usize
@@ -155,7 +149,10 @@ fn put_part(out: &mut [u8], at: usize, v: u32) -> usize
     ensures { λ r. ⌜ wrote r (now (out .exit)) ≡ wroteAt (now (out .entry)) at (partText v) ⌝ }
 {
     out[at] = b':';
-    put_digits(out, at + 1, v, part_digits(v), DECIMAL)
+    if v < LONG_PART {
+        return put_digits(out, at + 1, v, PART_DIGITS, DECIMAL);
+    }
+    put_integer(out, at + 1, v)
 }
 
 // As many whole hours, or minutes, as fit, up to 999.
@@ -185,7 +182,7 @@ fn clock_length(seconds: u32) -> usize
         return integer_length(seconds);
     }
     if seconds < HOUR {
-        return integer_length(whole_in(seconds, MINUTE)) + part_length(left_by(seconds, MINUTE));
+        return integer_length(seconds / MINUTE) + part_length(seconds % MINUTE);
     }
     let rest = left_by(seconds, HOUR);
     integer_length(whole_in(seconds, HOUR))
@@ -202,8 +199,8 @@ fn put_clock(out: &mut [u8], at: usize, seconds: u32) -> usize
         return put_integer(out, at, seconds);
     }
     if seconds < HOUR {
-        let colon = put_integer(out, at, whole_in(seconds, MINUTE));
-        return put_part(out, colon, left_by(seconds, MINUTE));
+        let colon = put_integer(out, at, seconds / MINUTE);
+        return put_part(out, colon, seconds % MINUTE);
     }
     let rest = left_by(seconds, HOUR);
     let colon = put_integer(out, at, whole_in(seconds, HOUR));
