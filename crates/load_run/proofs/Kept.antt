@@ -6,9 +6,9 @@ use Prim.Native.Nat.{ℕ}
 use Rattle.store_desk.specs.declared.Desk.{Desk}
 use Rattle.store_code.specs.Fits.{Fitting}
 use Rattle.load.specs.Step.{recordStep}
-use Rattle.load_step.specs.declared.Held.{Held}
-use Rattle.load_step.specs.Held.{heldOf, HeldReady}
-use Rattle.load_step.proofs.Holding.{nothing-ready}
+use Rattle.load_held.specs.declared.Held.{Held}
+use Rattle.load_held.specs.Held.{heldOf, HeldReady}
+use Rattle.load_held.proofs.Holding.{nothing-ready}
 use Rattle.load_step.proofs.Laws.{record-keeps}
 use Rattle.load_run.specs.Loaded.{begunOf}
 

@@ -37,9 +37,9 @@ use Rattle.load.proofs.Counts.{blank-step, blank-said}
 use Rattle.load.proofs.Told.{said-near}
 use Rattle.load_items.specs.Done.{faultsIn, mostFaults}
 use Rattle.load_items.proofs.Faults.{faults-back}
-use Rattle.load_step.specs.declared.Held.{Held}
-use Rattle.load_step.specs.declared.Stepped.{Stepped}
-use Rattle.load_step.specs.Held.{heldOf, HeldReady, Room, ResAll, steppingAll, steppedOf, steppedAll}
+use Rattle.load_held.specs.declared.Held.{Held}
+use Rattle.load_held.specs.declared.Stepped.{Stepped}
+use Rattle.load_held.specs.Held.{heldOf, HeldReady, Room, ResAll, steppingAll, steppedOf, steppedAll}
 use Rattle.load_tell.specs.declared.Count.{Count}
 use Rattle.load_run.specs.declared.Progress.{Progress}
 use Rattle.load_tell.specs.Count.{tallied, told, toldAs, toldAll, ignoredBy, faultsAs, mostRecords, Tellable, Countable}

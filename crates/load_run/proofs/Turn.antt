@@ -25,8 +25,8 @@ use Rattle.load.specs.Item.{blameNone}
 use Rattle.load.specs.Step.{Step, recordStep, reportedOf}
 use Rattle.load.specs.Run.{Report, Run, stops, reportsAt, runFrom, loadOf, allReports, storedIn, conditionSpan}
 use Rattle.load.proofs.Counts.{record-said, stored-none}
-use Rattle.load_step.specs.declared.Held.{Held}
-use Rattle.load_step.specs.Held.{heldOf, HeldReady}
+use Rattle.load_held.specs.declared.Held.{Held}
+use Rattle.load_held.specs.Held.{heldOf, HeldReady}
 use Rattle.load_tell.specs.declared.Count.{Count}
 use Rattle.load_run.specs.declared.Progress.{Progress}
 use Rattle.load_tell.specs.Count.{countOf, totalsBy, tallied, Told, told, toldAs, toldAll, Reportable, Countable, mostRecords}

@@ -16,7 +16,7 @@ use Rattle.load.specs.Step.{Step, stepOf, recordStep, outcomeFaults, reportedOf
 use Rattle.load.specs.declared.Fault.{Fault}
 use Rattle.load.specs.declared.Outcome.the-variants.{Blank}
 use Rattle.load.specs.Run.{stops}
-use Rattle.load_step.specs.Held.{heldOf, HeldReady}
+use Rattle.load_held.specs.Held.{heldOf, HeldReady}
 use Rattle.load_tell.specs.declared.Count.{Count}
 use Rattle.load_run.specs.declared.Progress.{Progress}
 use Rattle.load_tell.specs.Count.{told, toldAll, tallied, ignoredBy, mostRecords, Marred, Countable}

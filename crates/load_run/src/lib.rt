@@ -5,7 +5,7 @@ ghost use Prim.Native.Nat.{_-_, _≤_};
 ghost use lib.ListN.{length, take, drop};
 ghost use Rattle.store_code.specs.Fits.{Fitting};
 ghost use Rattle.load.specs.Run.{loadOf};
-ghost use Rattle.load_step.specs.Held.{Room};
+ghost use Rattle.load_held.specs.Held.{Room};
 ghost use Rattle.load_tell.specs.Count.{mostRecords, Countable};
 ghost use Rattle.load_run.specs.Take.{taken, textTaken, recordTaken, blankTaken, TextOf, Taking, Spans};
 ghost use Rattle.load_run.specs.Loaded.{runLoaded, loadedOf, begunOf};
@@ -13,7 +13,7 @@ use load::Open;
 use load::Outcome;
 use load::State;
 use load::Totals;
-use load_step::Held;
+use load_held::Held;
 use load_tell::Count;
 use store_desk::Desk;
 

@@ -50,15 +50,15 @@ use Rattle.load_items.specs.Take.{Taken, takenAs, takenOf}
 use Rattle.load_items.proofs.Done.{done-page, page-find}
 use Rattle.load.specs.declared.Basic.{Basic}
 use Rattle.load.specs.declared.Basic.the-variants.{Ident, Clear, Patch, Enddata, Unknown}
-use Rattle.load_step.specs.declared.Did.{Did}
+use Rattle.load_held.specs.declared.Did.{Did}
 use Rattle.load.specs.declared.Family.{Family}
 use Rattle.load.specs.declared.Family.the-variants.{Primary, Augments, Basic as BasicOf}
-use Rattle.load_step.specs.declared.Held.{Held}
-use Rattle.load_step.specs.declared.Stepped.{Stepped}
-use Rattle.load_step.specs.Held.{heldOf, HeldReady, stepping, steppedOf, ResAll, steppingAll, steppedAll}
-use Rattle.load_step.specs.Parts.{keywordIn, withHeld, didOf, DeedsAll, doingAll, didAll}
-use Rattle.load_step.proofs.Holding.{held-stays}
-use Rattle.load_step.proofs.Answers.{step-all, asked-all, held-with}
+use Rattle.load_held.specs.declared.Held.{Held}
+use Rattle.load_held.specs.declared.Stepped.{Stepped}
+use Rattle.load_held.specs.Held.{heldOf, HeldReady, stepping, steppedOf, ResAll, steppingAll, steppedAll}
+use Rattle.load_held.specs.Parts.{keywordIn, withHeld, didOf, DeedsAll, doingAll, didAll}
+use Rattle.load_held.proofs.Holding.{held-stays}
+use Rattle.load_held.proofs.Answers.{step-all, asked-all, held-with}
 
 -- ---- PATCH
 pub patch-page : (limit : ℕ) (w : List ℕ) {x : Paged} {p : ℕ} → x ≡ pageOf limit w → x ≡ IsPage p → Within 1 p limit

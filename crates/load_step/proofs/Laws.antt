@@ -34,8 +34,8 @@ use Rattle.load.specs.Step.{Step, ended, skipping as skippingState, wiped, open
 use Rattle.load.proofs.Deed.{Deed, resting, skipping, opening, editing, setting, patching, clearing, record-deed}
 use Rattle.load.proofs.Wiped.{wiped-length}
 use Rattle.load_items.proofs.Done.{slot-find, slot-length, page-find, page-length}
-use Rattle.load_step.specs.Held.{slotBy, IsKept, Settled}
-use Rattle.load_step.proofs.Holding.{skipping-settled, memory-settled, settle-settled, settled-stays, edited-find, edited-length}
+use Rattle.load_held.specs.Held.{slotBy, IsKept, Settled}
+use Rattle.load_held.proofs.Holding.{skipping-settled, memory-settled, settle-settled, settled-stays, edited-find, edited-length}
 
 -- ---- what is kept
 pub record Keeps (d : Desk) (t : List ℕ) (x : Step) : Type 0 where

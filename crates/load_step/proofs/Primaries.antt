@@ -32,11 +32,11 @@ use Rattle.load.specs.Ask.{Ask, skips, opens, name, namedOf, namedAsk, primaryA
 use Rattle.load.specs.Step.{Step, ended, nothingOpen, skipping, opened, openedBy, acted}
 use Rattle.load.proofs.Read.{accepted-ok}
 use Rattle.load.proofs.Steps.{primary-faults}
-use Rattle.load_step.specs.declared.Held.{Held}
-use Rattle.load_step.specs.declared.Stepped.{Stepped}
-use Rattle.load_step.specs.Held.{slotBy, heldOf, stepping, steppedOf, steppingAll, steppedAll}
-use Rattle.load_step.specs.Parts.{resting, endedAs}
-use Rattle.load_step.proofs.Answers.{ended-as, step-all, skips-as}
+use Rattle.load_held.specs.declared.Held.{Held}
+use Rattle.load_held.specs.declared.Stepped.{Stepped}
+use Rattle.load_held.specs.Held.{slotBy, heldOf, stepping, steppedOf, steppingAll, steppedAll}
+use Rattle.load_held.specs.Parts.{resting, endedAs}
+use Rattle.load_held.proofs.Answers.{ended-as, step-all, skips-as}
 
 -- ---- an accepted one
 module _ (d : Desk) (k : Kind) (key : Key) (t : List ℕ) {p : Place} {u : List ℕ} (s : startedAs p u ≡ startOf d t (name k key)) where

@@ -39,12 +39,13 @@ use Rattle.load.proofs.Read.{NoLevel, ChangeOk, ReadingOk, reading-ok}
 use Rattle.load_items.specs.declared.Aim.the-variants.{Slot}
 use Rattle.load_items.specs.Take.{Taken, takenAs, takenOf}
 use Rattle.load_items.proofs.Done.{done-slot, slot-find}
-use Rattle.load_step.specs.declared.Did.{Did}
-use Rattle.load_step.specs.declared.Held.{Held}
-use Rattle.load_step.specs.Held.{slotBy, heldOf, IsKept, HeldReady}
-use Rattle.load_step.specs.Parts.{kindIn, openName, IsOpen, didAs, hasItems, ReadingFits, doing, didOf, DeedsAll, doingAll, didAll}
-use Rattle.load_step.proofs.Holding.{open-found, held-stays, edited-find}
-use Rattle.load_step.proofs.Answers.{did-all, asked-did-all}
+use Rattle.load_held.specs.declared.Did.{Did}
+use Rattle.load_held.specs.declared.Held.{Held}
+use Rattle.load_held.specs.Held.{slotBy, heldOf, IsKept, HeldReady}
+use Rattle.load_held.specs.Parts.{kindIn, openName, IsOpen, didAs, doing, didOf, DeedsAll, doingAll, didAll}
+use Rattle.load_step.specs.Parts.{hasItems, ReadingFits}
+use Rattle.load_held.proofs.Holding.{open-found, held-stays, edited-find}
+use Rattle.load_held.proofs.Answers.{did-all, asked-did-all}
 
 -- ---- a change that is asked for can be written
 change-editing : (d : Desk) (k : Kind) (e : Edit) → ChangeOk k e → Editing d e

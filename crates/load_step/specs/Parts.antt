@@ -1,60 +1,13 @@
--- What the private functions speak of: the keyword's word, the name of the open memory, answers with no faults, answers that leave open what was
--- open. No promise above this crate names these.
+-- What the private functions speak of: which secondary has items, and that a change which is asked for can be written. No promise above this
+-- crate names these.
 -- Assumes nothing.
 use mathlib.Core.Bool.{Bool, true, false}
-use mathlib.Core.List.{List}
-use Prim.Native.Nat.{ℕ}
-use lib.ListN.{length}
 use Rattle.store_desk.specs.declared.Desk.{Desk}
-use Rattle.store_desk.specs.declared.Kind.{Kind}
-use Rattle.store_desk.specs.declared.Kind.the-variants.{Cue}
-use Rattle.store_desk.specs.Name.{Name}
-use Rattle.text_fields.specs.Words.{Word, headOf}
-use Rattle.text_fields.specs.Places.{wordsFrom}
 use Rattle.store_code.specs.Fits.{Editing}
-use Rattle.load.specs.declared.State.{State}
-use Rattle.load.specs.declared.Open.{Open}
-use Rattle.load.specs.declared.Open.the-variants.{Nothing, Skipping, Memory}
-use Rattle.load.specs.declared.Outcome.{Outcome}
 use Rattle.load.specs.declared.Reading.{Reading}
 use Rattle.load.specs.declared.Reading.the-variants.{Wrong as Misread, Change}
 use Rattle.load.specs.declared.Secondary.{Secondary}
 use Rattle.load.specs.declared.Secondary.the-variants.{Chan, Up, Down, Followon, Link}
-use Rattle.load.specs.Ask.{name}
-use Rattle.load.specs.Step.{Step, noKey}
-use Rattle.load_items.specs.Done.{faultsIn}
-use Rattle.load_step.specs.declared.Did.{Did}
-use Rattle.load_step.specs.declared.Held.{Held}
-use Rattle.load_step.specs.declared.Stepped.{Stepped}
-
--- the keyword: the first field of the text
-abbrev pub keywordIn : List ℕ → Word
-keywordIn text = headOf (wordsFrom text 0)
-
--- the name of the open memory; where none is open, no step asks for it
-unfoldable pub kindIn : Open → Kind
-kindIn Nothing = Cue
-kindIn Skipping = Cue
-kindIn (Memory k) = k
-
-abbrev pub openName : State → Name
-openName s = name (kindIn (s .«open»)) (s .key)
-
-abbrev pub IsOpen : Open → Type 0
-IsOpen Nothing = ⊥
-IsOpen Skipping = ⊥
-IsOpen (Memory k) = Unit {0}
-
--- no memory open, so in no slot
-abbrev pub resting : Open → Held
-resting o = record { state = record { «open» = o; key = noKey }; slot = 0 }
-
--- answers with no faults
-abbrev pub endedAs : Held → Outcome → Stepped
-endedAs h o = record { held = h; outcome = o; faults = 0 }
-
-abbrev pub didAs : Outcome → Did
-didAs o = record { outcome = o; faults = 0 }
 
 -- CHAN has items
 unfoldable pub hasItems : Secondary → Bool
@@ -68,28 +21,3 @@ hasItems Link = false
 abbrev pub ReadingFits : Desk → Reading → Type 0
 ReadingFits d (Misread f) = Unit {0}
 ReadingFits d (Change e) = Editing d e
-
--- ---- answers that leave open what was open
-
-abbrev pub withHeld : Held → Did → Stepped
-withHeld h x = record { held = h; outcome = x .outcome; faults = x .faults }
-
-pub record Deeds : Type 0 where
-  pub did : Did
-  pub store : List ℕ
-
-abbrev pub doing : Did → List ℕ → Deeds
-doing r t = record { did = r; store = t }
-
-unfoldable pub didOf : Step → Deeds
-didOf x = doing (record { outcome = x .outcome; faults = length (x .faults) }) (x .store)
-
-pub record DeedsAll : Type 0 where
-  pub deeds : Deeds
-  pub faults : List ℕ
-
-abbrev pub doingAll : Did → List ℕ → List ℕ → DeedsAll
-doingAll r t fs = record { deeds = doing r t; faults = fs }
-
-unfoldable pub didAll : Step → List ℕ → DeedsAll
-didAll x fs = record { deeds = didOf x; faults = faultsIn fs (x .faults) }

@@ -1,6 +1,6 @@
 -- `chan` meets its contract.
 -- Assumes nothing.
-use Rattle.load_step.proofs.Holding.{open-slot}
+use Rattle.load_held.proofs.Holding.{open-slot}
 use Rattle.load_step.proofs.Secondaries.{chan-did}
 use borrow.Author.Needs.{needs}
 use Rattle.load_step.proofs.chan.Statement.{statement}

@@ -1,7 +1,7 @@
 -- `changed` meets its contract: fields that are wrong, and a change.
 -- Assumes nothing.
-use Rattle.load_step.proofs.Holding.{open-slot}
-use Rattle.load_step.proofs.Answers.{asked-did, rests-did}
+use Rattle.load_held.proofs.Holding.{open-slot}
+use Rattle.load_held.proofs.Answers.{asked-did, rests-did}
 use Rattle.load_step.proofs.Secondaries.{change-fits, change-wrong, change-edits, edits-did}
 use borrow.Author.Needs.{needs}
 use Rattle.load_step.proofs.changed.Statement.{statement}

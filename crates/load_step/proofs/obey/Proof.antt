@@ -1,6 +1,6 @@
 -- `obey` meets its contract, by what the keyword begins.
 -- Assumes nothing.
-use Rattle.load_step.proofs.Answers.{asked-all, held-with}
+use Rattle.load_held.proofs.Answers.{asked-all, held-with}
 use Rattle.load_step.proofs.Primaries.{primary-all}
 use Rattle.load_step.proofs.Secondaries.{secondary-stays}
 use Rattle.load_step.proofs.Basics.{family-primary, family-secondary, family-basic}

@@ -2,10 +2,10 @@
 -- Assumes nothing.
 use mathlib.Core.Path.{_∙_, ap}
 use Rattle.load.specs.declared.Outcome.the-variants.{Passed}
-use Rattle.load_step.specs.declared.Held.{Held}
-use Rattle.load_step.specs.Parts.{endedAs}
+use Rattle.load_held.specs.declared.Held.{Held}
+use Rattle.load_held.specs.Parts.{endedAs}
 use Rattle.load.specs.Ask.{basicAsk}
-use Rattle.load_step.proofs.Answers.{asked-all, rests-all, skips-all}
+use Rattle.load_held.proofs.Answers.{asked-all, rests-all, skips-all}
 use Rattle.load_step.proofs.Basics.{basic-ident, basic-clear, basic-patch, basic-enddata, basic-unknown, basic-as}
 use borrow.Author.Needs.{needs}
 use Rattle.load_step.proofs.obey_basic.Statement.{statement}

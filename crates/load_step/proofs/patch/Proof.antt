@@ -1,7 +1,7 @@
 -- `patch` meets its contract: a wrong page, and its triples.
 -- Assumes nothing.
 use Rattle.load_naming.proofs.Fields.{field-in, field-lent, start-low, line-next}
-use Rattle.load_step.proofs.Answers.{asked-did-all, rests-did-all}
+use Rattle.load_held.proofs.Answers.{asked-did-all, rests-did-all}
 use Rattle.load_step.proofs.Basics.{patch-page, patch-bad, patch-items, patched-did}
 use borrow.Author.Needs.{needs}
 use Rattle.load_step.proofs.patch.Statement.{statement}

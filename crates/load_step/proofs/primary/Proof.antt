@@ -1,6 +1,6 @@
 -- `primary` meets its contract: support, then the name.
 -- Assumes nothing.
-use Rattle.load_step.proofs.Answers.{asked-as, skips-as}
+use Rattle.load_held.proofs.Answers.{asked-as, skips-as}
 use Rattle.load_step.proofs.Primaries.{primary-unsupported, primary-refused, primary-opened, primary-ok}
 use borrow.Author.Needs.{needs}
 use Rattle.load_step.proofs.primary.Statement.{statement}

@@ -2,8 +2,8 @@
 -- Assumes nothing.
 use mathlib.Core.Path.{_∙_, ap}
 use Rattle.load.specs.declared.Outcome.the-variants.{Dropped}
-use Rattle.load_step.specs.declared.Held.{Held}
-use Rattle.load_step.specs.Parts.{endedAs}
+use Rattle.load_held.specs.declared.Held.{Held}
+use Rattle.load_held.specs.Parts.{endedAs}
 use borrow.Author.Needs.{needs}
 use Rattle.load_step.proofs.refused.Statement.{statement}
 use Rattle.load_step.proofs.refused.Tie as tie

@@ -1,6 +1,6 @@
 -- `secondary` meets its contract, by what is open.
 -- Assumes nothing.
-use Rattle.load_step.proofs.Answers.{asked-did-all, rests-did-all}
+use Rattle.load_held.proofs.Answers.{asked-did-all, rests-did-all}
 use Rattle.load_step.proofs.Secondaries.{is-open, secondary-nothing, secondary-skipping, secondary-wrong, secondary-obeyed}
 use borrow.Author.Needs.{needs}
 use Rattle.load_step.proofs.secondary.Statement.{statement}

@@ -1,6 +1,6 @@
 -- `step` meets its contract: with a keyword, and with none.
 -- Assumes nothing.
-use Rattle.load_step.proofs.Answers.{asked-all, rests-all}
+use Rattle.load_held.proofs.Answers.{asked-all, rests-all}
 use Rattle.load_step.proofs.Basics.{step-blank, step-line, step-as, step-told}
 use borrow.Author.Needs.{needs}
 use Rattle.load_step.proofs.step.Statement.{statement}

@@ -1,9 +1,9 @@
 -- `settled` meets its contract, by what was open and whether the store keeps it.
 -- Assumes nothing.
 use borrow.Author.Needs.{needs}
-use Rattle.load_step.proofs.Holding.{settle-nothing, settle-skipping, settle-found, settle-gone}
-use Rattle.load_step.proofs.settled.Statement.{statement}
-use Rattle.load_step.proofs.settled.Tie as tie
+use Rattle.load_held.proofs.Holding.{settle-nothing, settle-skipping, settle-found, settle-gone}
+use Rattle.load_held.proofs.settled.Statement.{statement}
+use Rattle.load_held.proofs.settled.Tie as tie
 
 -- the memory open, from the place where it is looked for
 abbrev known : tie.After-find → tie.After-open

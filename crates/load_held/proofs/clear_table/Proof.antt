@@ -1,9 +1,9 @@
 -- `clear_table` meets its contract: a table with the page, and one without.
 -- Assumes nothing.
 use borrow.Author.Needs.{needs}
-use Rattle.load_step.proofs.Clearing.{table-page, table-has, table-lacks}
-use Rattle.load_step.proofs.clear_table.Statement.{statement}
-use Rattle.load_step.proofs.clear_table.Tie as tie
+use Rattle.load_held.proofs.Clearing.{table-page, table-has, table-lacks}
+use Rattle.load_held.proofs.clear_table.Statement.{statement}
+use Rattle.load_held.proofs.clear_table.Tie as tie
 
 table-pages-requires : tie.Need-table-pages-requires
 table-pages-requires c κs = search needs

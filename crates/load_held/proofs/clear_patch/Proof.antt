@@ -1,11 +1,11 @@
 -- `clear_patch` meets its contract: a wrong page, and a right one.
 -- Assumes nothing.
 use mathlib.Core.Path.{_∙_}
-use Rattle.load_step.proofs.Answers.{asked-as, rests-as}
-use Rattle.load_step.proofs.Clearing.{page-le, paged-bad, paged-good, dimmers-as, patch-cleared}
+use Rattle.load_held.proofs.Answers.{asked-as, rests-as}
+use Rattle.load_held.proofs.Clearing.{page-le, paged-bad, paged-good, dimmers-as, patch-cleared}
 use borrow.Author.Needs.{needs}
-use Rattle.load_step.proofs.clear_patch.Statement.{statement}
-use Rattle.load_step.proofs.clear_patch.Tie as tie
+use Rattle.load_held.proofs.clear_patch.Statement.{statement}
+use Rattle.load_held.proofs.clear_patch.Tie as tie
 
 -- the places that the answers speak of, each from a later one: the page read, the page known
 abbrev began : tie.After-page-at → tie.Start

@@ -1,9 +1,9 @@
 -- `clear_dimmers` meets its contract: a patch with the page, and one without.
 -- Assumes nothing.
 use borrow.Author.Needs.{needs}
-use Rattle.load_step.proofs.Clearing.{dimmers-have, dimmers-lack}
-use Rattle.load_step.proofs.clear_dimmers.Statement.{statement}
-use Rattle.load_step.proofs.clear_dimmers.Tie as tie
+use Rattle.load_held.proofs.Clearing.{dimmers-have, dimmers-lack}
+use Rattle.load_held.proofs.clear_dimmers.Statement.{statement}
+use Rattle.load_held.proofs.clear_dimmers.Tie as tie
 
 clear-patch-requires : tie.Need-clear-patch-requires
 clear-patch-requires c κs = search needs

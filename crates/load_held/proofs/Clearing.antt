@@ -37,9 +37,9 @@ use Rattle.load.specs.Step.{ended, settle, wiped, acted}
 use Rattle.load.proofs.Wiped.{wiped-join}
 use Rattle.load_naming.specs.Line.{Line}
 use Rattle.load.proofs.Read.{PageIn, page-at-in}
-use Rattle.load_step.specs.declared.Stepped.{Stepped}
-use Rattle.load_step.specs.Held.{stepping, steppedOf}
-use Rattle.load_step.specs.Parts.{keywordIn}
+use Rattle.load_held.specs.declared.Stepped.{Stepped}
+use Rattle.load_held.specs.Held.{stepping, steppedOf}
+use Rattle.load_held.specs.Parts.{keywordIn}
 
 -- ---- pages within a table's fit the page's six bits
 pub page-le : (limit : ℕ) (ws : List Word) {x : Paged} {p : ℕ} → x ≡ pageAt everyPage limit ws → x ≡ IsPage p → p ≤ limit

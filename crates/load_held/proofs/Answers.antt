@@ -13,11 +13,11 @@ use Rattle.load.specs.declared.Outcome.{Outcome}
 use Rattle.load.specs.Ask.{Ask, rests, skips}
 use Rattle.load.specs.Step.{Step, ended, skipping, acted}
 use Rattle.load_items.specs.Done.{faultsIn}
-use Rattle.load_step.specs.declared.Did.{Did}
-use Rattle.load_step.specs.declared.Held.{Held}
-use Rattle.load_step.specs.declared.Stepped.{Stepped}
-use Rattle.load_step.specs.Held.{slotBy, heldOf, HeldReady, Res, stepping, steppedOf, ResAll, steppingAll, steppedAll}
-use Rattle.load_step.specs.Parts.{resting, endedAs, didAs, withHeld, Deeds, doing, didOf, DeedsAll, doingAll, didAll}
+use Rattle.load_held.specs.declared.Did.{Did}
+use Rattle.load_held.specs.declared.Held.{Held}
+use Rattle.load_held.specs.declared.Stepped.{Stepped}
+use Rattle.load_held.specs.Held.{slotBy, heldOf, HeldReady, Res, stepping, steppedOf, ResAll, steppingAll, steppedAll}
+use Rattle.load_held.specs.Parts.{resting, endedAs, didAs, withHeld, Deeds, doing, didOf, DeedsAll, doingAll, didAll}
 
 -- ---- with no faults
 pub ended-as : (d : Desk) (t : List ℕ) (s : State) (o : Outcome) {h : Held} {r : Stepped}

@@ -1,9 +1,9 @@
 -- `cleared` meets its contract.
 -- Assumes nothing.
 use borrow.Author.Needs.{needs}
-use Rattle.load_step.proofs.Answers.{ended-as}
-use Rattle.load_step.proofs.cleared.Statement.{statement}
-use Rattle.load_step.proofs.cleared.Tie as tie
+use Rattle.load_held.proofs.Answers.{ended-as}
+use Rattle.load_held.proofs.cleared.Statement.{statement}
+use Rattle.load_held.proofs.cleared.Tie as tie
 
 settled-requires : tie.Need-settled-requires
 settled-requires c κs = search needs

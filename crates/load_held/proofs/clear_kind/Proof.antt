@@ -1,11 +1,11 @@
 -- `clear_kind` meets its contract: support, then the page.
 -- Assumes nothing.
 use mathlib.Core.Path.{_∙_}
-use Rattle.load_step.proofs.Answers.{asked-as, rests-as}
-use Rattle.load_step.proofs.Clearing.{kind-page, paged-bad, paged-good, kind-unsupported, kind-as, table-cleared}
+use Rattle.load_held.proofs.Answers.{asked-as, rests-as}
+use Rattle.load_held.proofs.Clearing.{kind-page, paged-bad, paged-good, kind-unsupported, kind-as, table-cleared}
 use borrow.Author.Needs.{needs}
-use Rattle.load_step.proofs.clear_kind.Statement.{statement}
-use Rattle.load_step.proofs.clear_kind.Tie as tie
+use Rattle.load_held.proofs.clear_kind.Statement.{statement}
+use Rattle.load_held.proofs.clear_kind.Tie as tie
 
 -- the places that the answers speak of, each from a later one: the kind supported, the page read, the page known
 abbrev began : tie.After-supports → tie.Start

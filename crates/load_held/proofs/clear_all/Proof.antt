@@ -1,11 +1,11 @@
 -- `clear_all` meets its contract: a wrong page, and a right one.
 -- Assumes nothing.
 use mathlib.Core.Path.{_∙_}
-use Rattle.load_step.proofs.Answers.{asked-as, rests-as}
-use Rattle.load_step.proofs.Clearing.{paged-bad, paged-good, all-as, clears-as}
+use Rattle.load_held.proofs.Answers.{asked-as, rests-as}
+use Rattle.load_held.proofs.Clearing.{paged-bad, paged-good, all-as, clears-as}
 use borrow.Author.Needs.{needs}
-use Rattle.load_step.proofs.clear_all.Statement.{statement}
-use Rattle.load_step.proofs.clear_all.Tie as tie
+use Rattle.load_held.proofs.clear_all.Statement.{statement}
+use Rattle.load_held.proofs.clear_all.Tie as tie
 
 -- the start, from the place where the page is read
 abbrev began : tie.After-page-at → tie.Start

@@ -27,9 +27,9 @@ use Rattle.load.specs.declared.Open.{Open}
 use Rattle.load.specs.declared.Open.the-variants.{Nothing, Skipping, Memory}
 use Rattle.load.specs.Ask.{name}
 use Rattle.load.specs.Step.{noKey, nothingOpen, skipping, settleBy, settle}
-use Rattle.load_step.specs.declared.Held.{Held}
-use Rattle.load_step.specs.Held.{slotBy, slotOf, heldOf, IsKept, Settled, HeldReady}
-use Rattle.load_step.specs.Parts.{kindIn, openName, IsOpen, resting}
+use Rattle.load_held.specs.declared.Held.{Held}
+use Rattle.load_held.specs.Held.{slotBy, slotOf, heldOf, IsKept, Settled, HeldReady}
+use Rattle.load_held.specs.Parts.{kindIn, openName, IsOpen, resting}
 
 -- ---- the open memory is in its slot
 open-kept : (d : Desk) (t : List ℕ) (key : Key) (o : Open) → IsOpen o → IsKept d t key o → find d t (name (kindIn o) key) ≡ at (slotBy d t key o)

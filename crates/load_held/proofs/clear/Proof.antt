@@ -6,13 +6,13 @@ use Rattle.text_fields.specs.Places.{wordsFrom}
 use Rattle.store_code.specs.Fits.{Fitting}
 use Rattle.load.specs.Ask.{itemAsk, clearAsk}
 use Rattle.load_naming.specs.Line.{Line}
-use Rattle.load_step.specs.Held.{HeldReady}
-use Rattle.load_step.specs.Parts.{keywordIn}
-use Rattle.load_step.proofs.Answers.{asked-as, rests-as}
-use Rattle.load_step.proofs.Clearing.{item-start, item-other, item-line, clear-as}
+use Rattle.load_held.specs.Held.{HeldReady}
+use Rattle.load_held.specs.Parts.{keywordIn}
+use Rattle.load_held.proofs.Answers.{asked-as, rests-as}
+use Rattle.load_held.proofs.Clearing.{item-start, item-other, item-line, clear-as}
 use borrow.Author.Needs.{needs}
-use Rattle.load_step.proofs.clear.Statement.{statement}
-use Rattle.load_step.proofs.clear.Tie as tie
+use Rattle.load_held.proofs.clear.Statement.{statement}
+use Rattle.load_held.proofs.clear.Tie as tie
 
 -- the start, from the item's first character
 abbrev began : tie.After-field-start → tie.Start

@@ -1,9 +1,9 @@
 -- `clear_tables` meets its contract: the patch, then kind by kind.
 -- Assumes nothing.
 use borrow.Author.Needs.{needs}
-use Rattle.load_step.proofs.Clearing.{tables-are}
-use Rattle.load_step.proofs.clear_tables.Statement.{statement}
-use Rattle.load_step.proofs.clear_tables.Tie as tie
+use Rattle.load_held.proofs.Clearing.{tables-are}
+use Rattle.load_held.proofs.clear_tables.Statement.{statement}
+use Rattle.load_held.proofs.clear_tables.Tie as tie
 
 clear-dimmers-requires : tie.Need-clear-dimmers-requires
 clear-dimmers-requires c κs = search needs

@@ -18,8 +18,8 @@ use Rattle.load.specs.declared.Open.the-variants.{Nothing, Skipping, Memory}
 use Rattle.load_items.specs.Done.{faultsIn, mostFaults}
 use Rattle.load.specs.Ask.{name}
 use Rattle.load.specs.Step.{Step}
-use Rattle.load_step.specs.declared.Held.{Held}
-use Rattle.load_step.specs.declared.Stepped.{Stepped}
+use Rattle.load_held.specs.declared.Held.{Held}
+use Rattle.load_held.specs.declared.Stepped.{Stepped}
 
 -- ---- what is open, with its slot
 
