@@ -322,7 +322,7 @@ impl Table {
         // About a thousand reports, of pairs and of whole records.
         let faulty = [last.as_bytes(), &b"CHAN 9@H0G 600@50 3x@10 4@1000 5@HFF\n".repeat(250)].concat();
         self.load(&format!("{name}, full: a thousand faulty pairs"), limits, &taken, &faulty);
-        let dropped = [last.as_bytes(), &b"UP 1:60\nLINK 0.0\nCUES\nSUB 1 9\n".repeat(250)].concat();
+        let dropped = [last.as_bytes(), &b"UP 1:1000\nLINK 0.0\nCUES\nSUB 1 9\n".repeat(250)].concat();
         self.load(&format!("{name}, full: a thousand dropped records"), limits, &taken, &dropped);
         self.write(&format!("{name}, full, no levels"), limits, &taken);
         let mut lit = taken.clone();
