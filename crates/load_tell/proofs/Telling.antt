@@ -2,7 +2,7 @@
 -- By induction on the faults.
 -- Assumes nothing.
 use mathlib.Core.Path.{_≡_, refl, sym, ap, _∙_, subst}
-use mathlib.Core.Bool.{Bool, true, false, _||_}
+use mathlib.Core.Bool.{Bool, true, false, _||_, true≢false}
 use mathlib.Core.List.{List, [], _∷_, _++_}
 use Prim.Native.Nat.{ℕ, suc, _+_, _≤_, _<_, zero-le}
 use native.Mathlib.Numerals.{add-one}
@@ -79,6 +79,11 @@ module _ (xs : List ℕ) where
   unfolding toldAll
   if-told x true c = none-told x c
   if-told x false c = refl
+
+  pub unless-told : (x : Told) (b : Bool) (f : Fault) → b ≡ false → x ≡ toldAll xs x (oneIf b f)
+  unfolding toldAll
+  unless-told x true f e = absurd (true≢false e)
+  unless-told x false f e = refl
 
   -- one in its column
   pub column-told : (x : Told) (f : Fault) {y : Told} {k : ℕ} → y ≡ toldAs x (f .condition) k → k ≡ columnOf xs (f .place) → y ≡ toldOne xs x f

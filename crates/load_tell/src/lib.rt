@@ -294,7 +294,8 @@ fn either(a: bool, b: bool) -> bool
     b
 }
 
-// A record's outcome tallied, and its faults reported: ignored characters, the outcome's, the dropped items'.
+// A record's outcome tallied, and its faults reported: ignored characters, the outcome's, the dropped items'. Nearly every record has no
+// ignored character, and does not pay for those that have.
 pub fn tell(
     reports: &mut [u64],
     count: Count,
@@ -310,11 +311,14 @@ pub fn tell(
     ensures { λ r. ⌜ told r (now (reports .exit)) ≡ toldAll (now (received .entry)) (told (tallied count outcome) (now (reports .entry))) (saidOf high control outcome (now (faults .entry))) ⌝ }
 {
     let a = tally(count, outcome);
-    let b = report_if(reports, a, high, IGNORED_HIGH);
-    let c = report_if(reports, b, control, IGNORED_CONTROL);
-    let marred = either(high, control);
-    let d = report_outcome(reports, c, received, marred, outcome);
-    report_faults(reports, d, received, marred, faults)
+    if either(high, control) {
+        let b = report_if(reports, a, high, IGNORED_HIGH);
+        let c = report_if(reports, b, control, IGNORED_CONTROL);
+        let d = report_outcome(reports, c, received, true, outcome);
+        return report_faults(reports, d, received, true, faults);
+    }
+    let d = report_outcome(reports, a, received, false, outcome);
+    report_faults(reports, d, received, false, faults)
 }
 
 // An over-long record stops the load, whatever its characters are.
