@@ -16,8 +16,8 @@ fn samples() -> Vec<Show> {
     let small = Desk::of([12, 12, 3, 1, 6, 1, 1, 1, 1]);
     let bare = Desk::of([6, 6, 10, 0, 0, 1, 1, 1, 1]);
     let mut shows: Vec<Show> =
-        ["worked", "house", "foreign", "faults", "noise", "times", "long_record", "other_version"].map(|name| sample(name, Desk::HOUSE)).into();
-    shows.extend([sample("small_desk", small), sample("bare_desk", bare), sample("house", Desk::LARGEST)]);
+        ["worked", "house", "foreign", "faults", "noise", "long_record", "other_version"].map(|name| sample(name, Desk::HOUSE)).into();
+    shows.extend([sample("small_desk", small), sample("bare_desk", bare), sample("house", Desk::LARGEST), sample("times", Desk::HOUSE)]);
     shows
 }
 
