@@ -2,7 +2,7 @@
 use crate::desk;
 use crate::kind::Kind;
 use crate::show::Show;
-use crate::words::{condition, has_names, kept, notes, number, received, unread};
+use crate::words::{condition, has_names, kept, longest_time, notes, number, received, unread};
 use sphairune::{percent, time_text, Fade, Memory, Patched, Report};
 
 /// Levels on one line of the sheet.
@@ -88,7 +88,8 @@ fn memories(show: &Show, kind: Kind) -> String {
     if memories.is_empty() {
         return format!("{title} none\n");
     }
-    let wide = time_width(&memories);
+    // `999:59:59.9`, which leaves a line of 80 characters, or a longer one that is among them.
+    let wide = longest_time(&memories).max(11);
     let mut text = format!("{title} {}\n{}", memories.len(), headings(kind, wide));
     for m in &memories {
         text += &format!("  {:1$}  {2:4}{3}\n{4}", number(m.number), width(kind), m.page, values(kind, m, wide), levels(m.levels));
@@ -109,13 +110,6 @@ fn headings(kind: Kind, wide: usize) -> String {
 /// Of the column of numbers: `999.9`, or the kind's name above it.
 fn width(kind: Kind) -> usize {
     kind.name().len().max(5)
-}
-
-/// Of the columns of times: `999:59:59.9`, which leaves a line of 80 characters, or a longer one that is among them.
-fn time_width(memories: &[Memory]) -> usize {
-    let fades = memories.iter().flat_map(|m| [m.up, m.down]).flatten().flat_map(|f| [f.fade, f.delay]);
-    let times = fades.chain(memories.iter().filter_map(|m| m.followon));
-    times.map(|tenths| time_text(tenths).len()).fold(11, usize::max)
 }
 
 /// The values that a memory of this kind can have besides its levels.

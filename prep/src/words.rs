@@ -4,7 +4,7 @@ use crate::input;
 use crate::passed::Passed;
 use crate::records::{self, MOST_CHARACTERS};
 use crate::show::Show;
-use sphairune::{condition_text, percent, severity, Number};
+use sphairune::{condition_text, percent, severity, time_text, Memory, Number};
 
 /// `1 cue`, `2 cues`.
 pub fn counted(count: usize, thing: &str) -> String {
@@ -98,4 +98,11 @@ fn channels_asked(show: &Show) -> Option<String> {
     } else {
         format!("the show asks for a channel of very many digits, and this desk has {has}; no desk has more than {most}")
     })
+}
+
+/// How many characters the longest of the memories' times has, 0 where they have none.
+pub fn longest_time(memories: &[Memory]) -> usize {
+    let fades = memories.iter().flat_map(|m| [m.up, m.down]).flatten().flat_map(|f| [f.fade, f.delay]);
+    let times = fades.chain(memories.iter().filter_map(|m| m.followon));
+    times.map(|tenths| time_text(tenths).len()).max().unwrap_or(0)
 }

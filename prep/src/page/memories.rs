@@ -1,6 +1,7 @@
 //! Cues, groups and submasters as tables: a row a memory, its times as text and drawn, its link, its levels.
 use super::text::{counted, range};
 use super::times::{self, Scale};
+use crate::words::longest_time;
 use sphairune::{percent, time_text, Fade, Memory, Number};
 
 /// What a table is of, and what goes with it.
@@ -20,6 +21,9 @@ pub const SUBMASTERS: Kind = Kind { one: "submaster", title: "Submasters", id: "
 
 /// The levels of a longer table are laid out only as they come into sight.
 const LONG: usize = 100;
+
+/// Past so many characters a time needs wider columns.
+const LONG_TIME: usize = 9;
 
 /// A section with the memories of a kind, by page and number.
 pub fn section(kind: &Kind, memories: &[Memory]) -> String {
@@ -44,7 +48,8 @@ fn legend(kind: &Kind) -> String {
 fn table(kind: &Kind, memories: &[Memory]) -> String {
     let scale = Scale::of(memories);
     let long = if LONG < memories.len() { " long" } else { "" };
-    let mut text = format!("<table class=\"memories {}{long}\">\n{}", kind.id, columns(kind, &scale));
+    let wide = if LONG_TIME < longest_time(memories) { " wide" } else { "" };
+    let mut text = format!("<table class=\"memories {}{long}{wide}\">\n{}", kind.id, columns(kind, &scale));
     let on_page_1_alone = memories.iter().all(|m| m.page == 1);
     for page in memories.chunk_by(|a, b| a.page == b.page) {
         text += "<tbody>\n";

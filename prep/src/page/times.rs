@@ -8,8 +8,13 @@ const HEIGHT: u32 = 24;
 /// Ticks that may stand on a scale, in seconds.
 const TICKS: [u32; 13] = [1, 2, 5, 10, 20, 60, 120, 300, 900, 3_600, 18_000, 86_400, 864_000];
 
-/// Room that a tick's text needs.
+/// Room that a tick's text needs at least.
 const TICK_ROOM: f64 = 30.0;
+
+/// So much of it to each side of the tick: by its characters, with a gap.
+fn beside(text: &str) -> f64 {
+    (6.2 * text.len() as f64 + 8.0).max(TICK_ROOM) / 2.0
+}
 
 /// Half a second is to be seen beside ten minutes, so that a place grows as the logarithm of its time.
 pub struct Scale {
@@ -30,13 +35,14 @@ impl Scale {
 
     /// The scale itself, and the lines that every row shows behind its times.
     pub fn axis(&self, id: &str) -> String {
-        let (mut lines, mut texts, mut free) = (String::from("M.5 0V24"), String::from("<text x=\"0\" y=\"14\">0</text>"), TICK_ROOM);
+        let (mut lines, mut texts, mut free) = (String::from("M.5 0V24"), String::from("<text x=\"0\" y=\"14\">0</text>"), TICK_ROOM / 2.0);
         for tenths in TICKS.map(|seconds| seconds * 10) {
-            let place = self.place(tenths);
-            if free <= place && place <= WIDTH - TICK_ROOM / 2.0 {
+            let (place, text) = (self.place(tenths), time_text(tenths));
+            let half = beside(&text);
+            if free + half <= place && place <= WIDTH - half {
                 lines += &format!("M{place} 0V24");
-                texts += &format!("<text class=\"tick\" x=\"{place}\" y=\"14\">{}</text>", time_text(tenths));
-                free = place + TICK_ROOM;
+                texts += &format!("<text class=\"tick\" x=\"{place}\" y=\"14\">{text}</text>");
+                free = place + half;
             }
         }
         let lines = format!("<defs><path id=\"scale-{id}\" class=\"scale\" d=\"{lines}\"/></defs>");
@@ -118,8 +124,13 @@ mod tests {
         for longest in [0, 1, 50, 1_000, 36_000, 35_999_999, 36_573_399, 73_146_798] {
             let scale = Scale::of(&[cue(None, Some(Fade { fade: longest / 2, delay: longest - longest / 2 }), None)]);
             let axis = scale.axis("cues");
-            let places: Vec<f64> = axis.split("class=\"tick\" x=\"").skip(1).map(|t| t[..t.find('"').unwrap()].parse().unwrap()).collect();
-            assert!(!places.is_empty() && places.windows(2).all(|two| TICK_ROOM <= two[1] - two[0]), "{longest}: {places:?}");
+            let ticks = axis
+                .split("class=\"tick\" x=\"")
+                .skip(1)
+                .map(|t| (&t[..t.find('"').unwrap()], &t[t.find('>').unwrap() + 1..t.find('<').unwrap()]));
+            let ends: Vec<(f64, f64)> =
+                ticks.map(|(at, text)| (at.parse().unwrap(), beside(text))).map(|(at, half): (f64, f64)| (at - half, at + half)).collect();
+            assert!(!ends.is_empty() && ends.windows(2).all(|two| two[0].1 <= two[1].0), "{longest}: {ends:?}");
         }
     }
 }
