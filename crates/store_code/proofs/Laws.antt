@@ -14,7 +14,7 @@ use Rattle.cells.proofs.Split.{cond-true, cond-false}
 use lib.ListN.{length, take, drop, set, replicate, length-append, length-drop, length-replicate, drop-of-length-le}
 use lib.Seq.{length-take-le, drop-drop}
 use Rattle.cells.specs.Put.{put}
-use Rattle.cells.proofs.Arith.{apart}
+use Rattle.cells.proofs.Arith.{apart, products}
 use Rattle.cells.proofs.Put.{length-put, put-back, put-front, put-fill, put-next, put-zero, part-of-front}
 use Rattle.store_desk.specs.declared.Desk.{Desk}
 use Rattle.store_desk.specs.declared.Key.{Key}
@@ -63,6 +63,13 @@ pub kind-slot : (d : Desk) (k : Kind) {first count end i : ℕ}
     → first ≡ firstSlot d k → count ≡ slotCount d k → end ≡ first + count → i < end → i < slotsOf d
 kind-slot d k a b e h = let l = kind-end d k in omega arith
 
+-- and so is where the first begins
+pub kind-from : (d : Desk) (k : Kind) {first len : ℕ} → first ≡ firstSlot d k → len ≡ slotLength d → first * len ≤ patchStart d
+unfolding patchStart
+kind-from d k {first} e f =
+    let l : first ≤ slotsOf d = (let a = kind-end d k in omega arith) in
+    subst (λ (z : ℕ). first * z ≤ slotsOf d * slotLength d) (sym f) (products (slotLength d) l)
+
 -- ---- a slot that is lent
 module _ (d : Desk) (s : List ℕ) (i : ℕ) {a e : ℕ} (ea : a ≡ i * slotLength d) (ee : e ≡ i * slotLength d + slotLength d) where
   slot-span : e - a ≡ slotLength d
@@ -72,17 +79,19 @@ module _ (d : Desk) (s : List ℕ) (i : ℕ) {a e : ℕ} (ea : a ≡ i * slotLen
   unfolding slotAt
   slot-is = ap (λ (z : ℕ). take z (drop a s)) slot-span ∙ ap (λ (z : ℕ). take (slotLength d) (drop z s)) ea
 
+  pub lent-long : i * slotLength d + slotLength d ≤ length s → length (take (e - a) (drop a s)) ≡ slotLength d
+  lent-long r =
+      let m : e - a ≡ slotLength d = slot-span in
+      let l : length (drop a s) ≡ length s - a = length-drop a s in
+      let k : e - a ≤ length (drop a s) = omega arith in
+      length-take-le (e - a) (drop a s) k ∙ m
+
   module _ (f : Fitting d s) (h : i < slotsOf d) where
     pub slot-ends : (a ≤ e) × (e ≤ length s)
     slot-ends = let r = slot-room d i h f in omega arith
 
     pub lent-length : length (take (e - a) (drop a s)) ≡ slotLength d
-    lent-length =
-        let r = slot-room d i h f in
-        let m : e - a ≡ slotLength d = slot-span in
-        let l : length (drop a s) ≡ length s - a = length-drop a s in
-        let k : e - a ≤ length (drop a s) = omega arith in
-        length-take-le (e - a) (drop a s) k ∙ m
+    lent-length = lent-long (slot-room d i h f)
 
     -- what comes back
     pub slot-back : (ys xs : List ℕ) → ys ≡ xs → length xs ≡ slotLength d → take a s ++ (ys ++ drop (e - a) (drop a s)) ≡ putSlot d s i xs

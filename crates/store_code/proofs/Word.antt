@@ -5,7 +5,11 @@ use mathlib.Core.Path.{_≡_, refl, sym, ap, _∙_}
 use mathlib.Core.Bool.{Bool, true, false, not}
 use mathlib.Core.List.{List}
 use Prim.Native.Nat.{ℕ, _+_, _-_, _*_, _≤_, _<_}
+use native.Mathlib.Nat.{add-mul}
 use native.Mathlib.Omega.{arith}
+use lib.ListN.{length, take, drop, length-drop}
+use lib.Seq.{drop-drop}
+use Rattle.cells.proofs.Put.{tail-is}
 use lib.Dec.{leb, ltb, eqb}
 use borrow.Author.Tests.{eqb-true, eq-eqb, ne-eqb, leb-true, le-leb, ltb-true, lt-ltb, le-ltb}
 use Rattle.cells.specs.Search.{Found, at, firstFrom}
@@ -14,13 +18,13 @@ use Rattle.cells.proofs.Split.{by-bool, by-lt, same-test, and-true, and-left, a
 use Rattle.store_desk.specs.declared.Desk.{Desk}
 use Rattle.store_desk.specs.declared.Key.{Key}
 use Rattle.store_desk.specs.declared.Kind.{Kind}
-use Rattle.store_desk.specs.Size.{slotsOf}
+use Rattle.store_desk.specs.Size.{slotLength, slotsOf}
 use Rattle.store_desk.specs.Name.{KeyFits, eqKey, firstSlot, slotCount}
 use Rattle.store_desk.proofs.Name.{eq-key, eq-key-true, kind-end}
 use Rattle.store_head.specs.Pack.{Bytes}
-use Rattle.store_head.specs.Fits.{usedWord, pageWord, wholeWord, wordOf}
+use Rattle.store_head.specs.Fits.{usedWord, pageWord, wholeWord, wordOf, quickOf}
 use Rattle.store_head.proofs.Laws.{word-sum}
-use Rattle.store.specs.Slots.{headAt, keyOf, isUsed, holdsAt, find}
+use Rattle.store.specs.Slots.{slotAt, headAt, keyOf, isUsed, holdsAt, find}
 use Rattle.store.specs.Change.{onPage, hitsAt, lowestUnused}
 use Rattle.store_code.specs.Fits.{Fitting}
 use Rattle.store.specs.Order.{slotWord}
@@ -177,3 +181,23 @@ module _ (d : Desk) (s : List ℕ) {w x e i : ℕ} {a : Found} (h : i < e) (q : 
 
   pub below-miss : w ≤ x → firstFrom (isBelow d s w) (e - i) i ≡ a → firstFrom (isBelow d s w) (e - (i + 1)) (i + 1) ≡ a
   below-miss t g = search-miss (isBelow d s w) e i h (ap (λ (z : ℕ). ltb z w) q) (le-ltb x w t) g
+
+-- ---- slots that lie by themselves: those of the store from one on
+module _ (d : Desk) (s : List ℕ) {first from i : ℕ} (e : from ≡ first * slotLength d) (h : first ≤ i) where
+  part-at : from + (i - first) * slotLength d ≡ i * slotLength d
+  part-at =
+      let b : first + (i - first) ≡ i = omega arith in
+      ap (λ (k : ℕ). k + (i - first) * slotLength d) e ∙ sym (add-mul first (i - first) (slotLength d)) ∙ ap (λ (k : ℕ). k * slotLength d) b
+
+  pub part-word : {x : ℕ} → x ≡ slotWord d (take (length s - from) (drop from s)) (i - first) → x ≡ slotWord d s i
+  unfolding slotWord slotAt
+  part-word q =
+      q ∙ ap (λ (z : List ℕ). quickOf (take (slotLength d) (drop ((i - first) * slotLength d) z))) (tail-is s from)
+      ∙ ap (λ (z : List ℕ). quickOf (take (slotLength d) z)) (drop-drop ((i - first) * slotLength d) from s)
+      ∙ ap (λ (k : ℕ). quickOf (take (slotLength d) (drop k s))) part-at
+
+  pub part-room : i * slotLength d + slotLength d ≤ length s → (i - first) * slotLength d + slotLength d ≤ length (take (length s - from) (drop from s))
+  part-room r =
+      let a : length (take (length s - from) (drop from s)) ≡ length s - from = ap length (tail-is s from) ∙ length-drop from s in
+      let p : from + (i - first) * slotLength d ≡ i * slotLength d = part-at in
+      omega arith

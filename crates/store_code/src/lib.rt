@@ -117,7 +117,20 @@ pub fn levels<'a>(desk: Desk, store: &'a [u8], slot: usize) -> &'a [u8]
 
 // ---- look-up
 
-// The slot that keeps this memory.
+// The same of slots that lie by themselves.
+fn word_in(desk: Desk, slots: &[u8], slot: usize) -> u32
+    requires { ⌜ InRange desk ⌝ }
+    requires { ⌜ slot < slotsOf desk ⌝ }
+    requires { ⌜ slot * slotLength desk + slotLength desk ≤ length (now slots) ⌝ }
+    ensures { λ r. ⌜ r ≡ slotWord desk (now (slots .entry)) slot ⌝ }
+{
+    let at = slot_start(desk, slot);
+    let end = slot_end(desk, slot);
+    store_head::quick(&slots[at..end])
+}
+
+// The slot that keeps this memory. The slots of its kind are looked at as a part of the store of their own: in a load the compiler then keeps
+// where they begin at hand, and does not fetch it again for each slot.
 pub fn find(desk: Desk, store: &[u8], kind: Kind, key: Key) -> Place
     requires { ⌜ Fitting desk (now store) ⌝ }
     requires { ⌜ KeyFits key ⌝ }
@@ -126,9 +139,11 @@ pub fn find(desk: Desk, store: &[u8], kind: Kind, key: Key) -> Place
     let wanted = store_head::quick_key(key.page, key.whole, key.fraction);
     let first = store_desk::first_slot(desk, kind);
     let end = first + store_desk::slot_count(desk, kind);
+    let from = first * desk.slot_length();
+    let slots = &store[from..];
     let mut i = first;
     while i < end {
-        if word_at(desk, store, i) == wanted {
+        if word_in(desk, slots, i - first) == wanted {
             return Place::At(i);
         }
         i += 1;
