@@ -12,7 +12,7 @@ use Rattle.store_desk.specs.declared.Desk.{Desk}
 use Rattle.store_desk.specs.declared.Needed.{Needed}
 use Rattle.store_desk.specs.declared.Needed.the-variants.{Away, Length}
 use Rattle.store_desk.specs.declared.Refusal.{Refusal}
-use Rattle.store_desk.specs.declared.Refusal.the-variants.{R1, R2, R3, R4a, R4b, R4c, R5, R6}
+use Rattle.store_desk.specs.declared.Refusal.the-variants.{R1, R2, R3, R4a, R4b, R4c, R5, R6, R7}
 use Rattle.store_desk.specs.Refusal.{refusalNumber, Reply, replied, refused, neededReply, neededCall, NeededPromise}
 use Rattle.store_desk.specs.Size.{inRangeOf}
 use Rattle.cells.proofs.Split.{by-test}
@@ -26,6 +26,7 @@ refusal-some (R4b p) = omega arith
 refusal-some (R4c p) = omega arith
 refusal-some R5 = omega arith
 refusal-some (R6 n) = omega arith
+refusal-some R7 = omega arith
 
 -- the highest is R4c's
 pub refusal-most : (r : Refusal) → refusalNumber r ≤ 0x4C
@@ -37,6 +38,7 @@ refusal-most (R4b p) = omega arith
 refusal-most (R4c p) = omega arith
 refusal-most R5 = omega arith
 refusal-most (R6 n) = omega arith
+refusal-most R7 = omega arith
 
 -- the refusal of a number, a place and what is told beside them
 named : Reply → Refusal
@@ -44,7 +46,7 @@ named a =
     cond (eqb (a .number) 0x4A) (R4a (a .place))
     (cond (eqb (a .number) 0x4B) (R4b (a .place))
     (cond (eqb (a .number) 0x4C) (R4c (a .place))
-    (getD (R1 ∷ R1 ∷ R2 ∷ R3 ∷ R1 ∷ R5 ∷ R6 (getD (a .told) 0 0) ∷ []) (a .number) R1)))
+    (getD (R1 ∷ R1 ∷ R2 ∷ R3 ∷ R1 ∷ R5 ∷ R6 (getD (a .told) 0 0) ∷ R7 ∷ []) (a .number) R1)))
 
 named-again : (r : Refusal) → named (refused r) ≡ r
 unfolding named
@@ -56,6 +58,7 @@ named-again (R4b p) = refl
 named-again (R4c p) = refl
 named-again R5 = refl
 named-again (R6 n) = refl
+named-again R7 = refl
 
 pub refused-apart : {r q : Refusal} → refused r ≡ refused q → r ≡ q
 refused-apart {r} {q} e = sym (named-again r) ∙ ap named e ∙ named-again q

@@ -1,4 +1,4 @@
--- Why a call is turned away, as a number, and what a call answers (paper 01, "Calls turned away"; paper 02, C-11).
+-- Why a call is turned away, as a number, and what a call answers (paper 01, "Calls turned away"; paper 02, C-11, C-13).
 -- Assumes nothing.
 use mathlib.Core.Bool.{cond}
 use mathlib.Core.List.{List, [], _∷_}
@@ -8,7 +8,7 @@ use Rattle.store_desk.specs.declared.Desk.{Desk}
 use Rattle.store_desk.specs.declared.Needed.{Needed}
 use Rattle.store_desk.specs.declared.Needed.the-variants.{Away, Length}
 use Rattle.store_desk.specs.declared.Refusal.{Refusal}
-use Rattle.store_desk.specs.declared.Refusal.the-variants.{R1, R2, R3, R4a, R4b, R4c, R5, R6}
+use Rattle.store_desk.specs.declared.Refusal.the-variants.{R1, R2, R3, R4a, R4b, R4c, R5, R6, R7}
 use Rattle.store_desk.specs.Size.{inRangeOf, storeLength}
 
 -- the number of a refusal in the paper's table: R4a, R4b, R4c read as hexadecimal
@@ -21,6 +21,7 @@ refusalNumber (R4b p) = 0x4B
 refusalNumber (R4c p) = 0x4C
 refusalNumber R5 = 5
 refusalNumber (R6 n) = 6
+refusalNumber R7 = 7
 
 -- the place, from 1, that R4a, R4b and R4c tell; 0 with every other
 abbrev pub refusalPlace : Refusal → ℕ
@@ -32,6 +33,7 @@ refusalPlace (R4b p) = p
 refusalPlace (R4c p) = p
 refusalPlace R5 = 0
 refusalPlace (R6 n) = 0
+refusalPlace R7 = 0
 
 -- what it tells beside them: R6 the length needed
 abbrev pub refusalTold : Refusal → List ℕ
@@ -43,6 +45,7 @@ refusalTold (R4b p) = []
 refusalTold (R4c p) = []
 refusalTold R5 = []
 refusalTold (R6 n) = n ∷ []
+refusalTold R7 = []
 
 -- what a call answers: 0 or the paper's number, the place that R4a, R4b and R4c tell, and what it tells beside them
 pub record Reply : Type 0 where

@@ -185,8 +185,8 @@ pub const ENTRY_LENGTH: usize = 3;
 // In an answer that is a word the place stands above the number's eight bits.
 const PLACE_UNIT: u32 = 256;
 
-// Why a call is turned away: paper 01's table "Calls turned away", with C-11's R4a, R4b, R4c in the place of R4. These have the place, from 1,
-// of the slot or patch entry that is out of form, R6 the length needed. Every answer of a call holds it.
+// Why a call is turned away: paper 01's table "Calls turned away", with C-11's R4a, R4b, R4c in the place of R4, and C-13's R7. R4a to R4c have
+// the place, from 1, of the slot or patch entry that is out of form, R6 the length needed. Every answer of a call holds it.
 pub enum Refusal {
     R1,
     R2,
@@ -196,6 +196,7 @@ pub enum Refusal {
     R4c(usize),
     R5,
     R6(usize),
+    R7,
 }
 
 impl Refusal {
@@ -212,6 +213,7 @@ impl Refusal {
             Refusal::R4c(_) => 0x4C,
             Refusal::R5 => 5,
             Refusal::R6(_) => 6,
+            Refusal::R7 => 7,
         }
     }
 
@@ -228,6 +230,7 @@ impl Refusal {
             Refusal::R4c(place) => place,
             Refusal::R5 => 0,
             Refusal::R6(_) => 0,
+            Refusal::R7 => 0,
         }
     }
 
