@@ -3,7 +3,7 @@
 -- Assumes nothing.
 use mathlib.Core.Bool.{cond}
 use mathlib.Core.List.{List}
-use Prim.Native.Nat.{ℕ, _+_}
+use Prim.Native.Nat.{ℕ, _+_, _*_}
 use lib.Dec.{eqb, ltb}
 use Rattle.value.specs.declared.Integer.{Integer}
 use Rattle.value.specs.declared.Integer.the-variants.{Malformed, Value}
@@ -33,3 +33,24 @@ numberedOf (Value w) (Value f) = cond (ltb wholeMax w) TooLarge (cond (eqb (w + 
 
 unfoldable pub numberOf : List ℕ → Numbered
 numberOf s = numberedOf (integerOf (before (cutAt point s) s)) (decimalsOf fractionDigits s (cutAt point s))
+
+-- ---- what a CUE bears and a LINK asks for in a load with translation (paper 02, C-13): a number as §7.4 formats one, whole part 0 to 9999, 0
+-- too, whatever the desk could keep; by value, in units of its last digit
+
+abbrev pub borneMax : ℕ
+borneMax = 9999
+
+abbrev pub fractionSpan : ℕ
+fractionSpan = fractionMax + 1
+
+-- any other text is no number
+abbrev pub noNumber : ℕ
+noNumber = (borneMax + 1) * fractionSpan
+
+unfoldable pub borneBy : Integer → Integer → ℕ
+borneBy Malformed f = noNumber
+borneBy (Value w) Malformed = noNumber
+borneBy (Value w) (Value f) = cond (ltb borneMax w) noNumber (w * fractionSpan + f)
+
+unfoldable pub borneOf : List ℕ → ℕ
+borneOf s = borneBy (integerOf (before (cutAt point s) s)) (decimalsOf fractionDigits s (cutAt point s))

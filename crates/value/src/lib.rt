@@ -7,7 +7,7 @@ ghost use lib.ListN.{length};
 ghost use Rattle.value.specs.Integer.{cap, digitOf, runOf, integerOf, AtMost};
 ghost use Rattle.value.specs.Digits.{isDigit, digitsAt};
 ghost use Rattle.value.specs.Parts.{cutAt, decimalsOf};
-ghost use Rattle.value.specs.Number.{numberedOf, numberOf};
+ghost use Rattle.value.specs.Number.{numberedOf, numberOf, borneBy, borneOf};
 ghost use Rattle.value.specs.Time.{partMax, partOf, joinOf, laterOf, clockOf, timeOf};
 ghost use Rattle.value.specs.Field.{versionedOf, versionOf, pageOf};
 
@@ -24,6 +24,14 @@ pub const WHOLE_MAX: u32 = 999;
 pub const FRACTION_DIGITS: usize = 1;
 
 pub const FRACTION_MAX: u32 = 9;
+
+// The largest whole part of a number that a CUE bears or a LINK asks for (C-13), how many numbers there are to a whole one, and what stands
+// for no such number.
+const BORNE_MAX: u32 = 9999;
+
+const FRACTION_SPAN: u32 = FRACTION_MAX + 1;
+
+pub const NO_NUMBER: u32 = (BORNE_MAX + 1) * FRACTION_SPAN;
 
 // A time: the largest part, and how many digits may follow the point.
 pub const PART_MAX: u32 = 999;
@@ -250,6 +258,32 @@ pub fn read_number(s: &[u8]) -> Numbered
     let point = cut(s, b'.');
     let whole = read_integer(&s[..point]);
     sized(whole, decimals(s, point, FRACTION_DIGITS))
+}
+
+// The number that two parts write, whatever the desk could keep; NO_NUMBER where they write none.
+fn borne(whole: Integer, fraction: Integer) -> u32
+    requires { ⌜ AtMost cap fraction ⌝ }
+    ensures { λ r. ⌜ r ≡ borneBy whole fraction ⌝ }
+{
+    let Integer::Value(w) = whole else {
+        return NO_NUMBER;
+    };
+    let Integer::Value(f) = fraction else {
+        return NO_NUMBER;
+    };
+    if BORNE_MAX < w {
+        return NO_NUMBER;
+    }
+    w * FRACTION_SPAN + f
+}
+
+// What a CUE bears and a LINK asks for in a load with translation.
+pub fn read_borne(s: &[u8]) -> u32
+    ensures { λ r. ⌜ r ≡ borneOf (now (s .entry)) ⌝ }
+{
+    let point = cut(s, b'.');
+    let whole = read_integer(&s[..point]);
+    borne(whole, decimals(s, point, FRACTION_DIGITS))
 }
 
 // One part of a time: hours, minutes or seconds.
