@@ -2,7 +2,7 @@
 -- 0100, and the four tallies sum to the records read. An empty record is blank, with no fault; a text has at most forty faults. By
 -- induction on the records.
 -- Assumes nothing.
-use mathlib.Core.Path.{_≡_, refl, ap, _∙_}
+use mathlib.Core.Path.{_≡_, refl, ap, _∙_, subst}
 use mathlib.Core.Bool.{Bool, true, false, cond}
 use mathlib.Core.List.{List, [], _∷_, _++_, flatten}
 use Prim.Native.Nat.{ℕ, suc, _+_, _*_, _≤_, _<_, zero-le, suc-le-suc}
@@ -20,18 +20,22 @@ use Rattle.text_records.specs.Cleaning.{isHigh, isControl, has, keptOf}
 use Rattle.text_records.proofs.Stream.{records-count}
 use Rattle.text_fields.specs.Words.{wordsIn, wordsOf, fieldsOf}
 use Rattle.load.specs.declared.Fault.{Fault}
+use Rattle.load.specs.declared.Numbers.{Numbers}
 use Rattle.load.specs.declared.State.{State}
 use Rattle.load.specs.declared.Outcome.{Outcome}
 use Rattle.load.specs.declared.Outcome.the-variants.{Blank}
 use Rattle.load.specs.Condition.{noEnddata, ignoredHigh, ignoredControl}
 use Rattle.load.specs.Item.{blameNone}
-use Rattle.load.specs.Ask.{isOverLong, fieldsAsk, askOf}
-use Rattle.load.specs.Step.{nothingOpen, ended, acted, stepOf, recordStep, reportedOf, ignoredIn, oneIf, outcomeFaults}
-use Rattle.load.specs.Run.{conditionSpan, Report, Run, stops, reportsAt, runFrom, loadOf, allReports, Class, blank, passed, dropped, obeyed, classOf, eqClass, tallyOf, storedIn, totalsOf}
+use Rattle.load.specs.Ask.{isOverLong}
+use Rattle.load.specs.Anew.{fieldsAskIn, askIn}
+use Rattle.load.specs.Step.{nothingOpen, ended, acted, reportedOf, ignoredIn, oneIf, outcomeFaults}
+use Rattle.load.specs.Translated.{asGiven, stepIn, numbersAfter, runIn}
+use Rattle.load.specs.Run.{conditionSpan, Report, Run, stops, only, andThen, reportsAt, loadOf, allReports, Class, blank, passed, dropped, obeyed, classOf, eqClass, tallyOf, storedIn, totalsOf}
 use Rattle.text_records.proofs.Counts.{tell, seen-few, characters-few}
 use Rattle.text_fields.proofs.Counts.{words-few, fields-few}
-use Rattle.load.specs.Fits.{Small}
-use Rattle.load.proofs.Steps.{Modest, step-few, step-said}
+use Rattle.load.specs.Fits.{Small, textStep}
+use Rattle.load.proofs.Anew.{run-given}
+use Rattle.load.proofs.Steps.{Modest, step-in-few, step-in-said}
 
 -- ---- a record's ignored characters are reported at most once a sort
 one-few : (b : Bool) (f : Fault) → length (oneIf b f) ≡ tell b
@@ -71,82 +75,92 @@ said-join n k fs {gs} h g m =
     let f : length gs ≤ n = m .few in
     record { few = omega arith; small = small-join fs gs g (m .small) }
 
-long-said : (d : Desk) (s : State) (r t : List ℕ) → isOverLong r ≡ true → Modest (length r) (reportedOf r (recordStep d s r t))
-unfolding reportedOf recordStep outcomeFaults Small acted askOf
-long-said d s r t e =
+long-said : (d : Desk) (b : Numbers) (s : State) (r t : List ℕ) → isOverLong r ≡ true → Modest (length r) (reportedOf r (stepIn d b s r t))
+unfolding reportedOf stepIn outcomeFaults Small acted askIn
+long-said d b s r t e =
     let l : longest < length r = ltb-true longest (length r) e in
     let h : 1 ≤ length r = omega arith in
     rw e (record { few = h; small = (omega arith, tt) })
 
-pub record-said : (d : Desk) (s : State) (r t : List ℕ) → Modest (length r) (reportedOf r (recordStep d s r t))
-unfolding reportedOf recordStep ignoredIn askOf
-record-said d s r t =
+pub step-in-record-said : (d : Desk) (b : Numbers) (s : State) (r t : List ℕ) → Modest (length r) (reportedOf r (stepIn d b s r t))
+unfolding reportedOf stepIn ignoredIn askIn
+step-in-record-said d b s r t =
     by-bool (isOverLong r)
-    (λ e. long-said d s r t e)
+    (λ e. long-said d b s r t e)
     (λ e.
     let i : length (ignoredIn r) + length (keptOf r) ≤ length r = ignored-few r in
     let f : length (fieldsOf r) ≤ length (keptOf r) = fields-few r in
     let h : length (ignoredIn r) + length (fieldsOf r) ≤ length r = omega arith in
-    rw e (said-join (length (fieldsOf r)) (length r) (ignoredIn r) h (ignored-small (has isHigh r) (has isControl r)) (step-said d s (fieldsOf r) t)))
+    rw e (said-join (length (fieldsOf r)) (length r) (ignoredIn r) h (ignored-small (has isHigh r) (has isControl r)) (step-in-said d b s (fieldsOf r) t)))
 
 -- a record with no character is blank, and nothing is reported of it
-pub blank-step : (d : Desk) (s : State) (t : List ℕ) → recordStep d s [] t ≡ ended s Blank t
-unfolding recordStep askOf keptOf fieldsOf wordsOf wordsIn fieldsAsk acted
-blank-step d s t = refl
+pub blank-step-in : (d : Desk) (b : Numbers) (s : State) (t : List ℕ) → stepIn d b s [] t ≡ ended s Blank t
+unfolding stepIn askIn keptOf fieldsOf wordsOf wordsIn fieldsAskIn acted
+blank-step-in d b s t = refl
 
 pub blank-said : (s : State) (t : List ℕ) → reportedOf [] (ended s Blank t) ≡ []
 unfolding reportedOf ignoredIn has outcomeFaults
 blank-said s t = refl
 
 -- ---- a text of at most 80 characters has at most forty faults
-pub text-few : (d : Desk) (s : State) (text t : List ℕ) → length text ≤ longest → length (stepOf d s (wordsOf 0 text) t .faults) ≤ 40
-text-few d s text t h =
-    let a : 2 * length (stepOf d s (wordsOf 0 text) t .faults) ≤ length (wordsOf 0 text) = step-few d s (wordsOf 0 text) t in
-    let b : length (wordsOf 0 text) ≤ length text = words-few 0 text in
+pub text-in-few : (d : Desk) (b : Numbers) (s : State) (text t : List ℕ) → length text ≤ longest → length (textStep d b s (wordsOf 0 text) t .faults) ≤ 40
+text-in-few d b s text t h =
+    let a : 2 * length (textStep d b s (wordsOf 0 text) t .faults) ≤ length (wordsOf 0 text) = step-in-few d b s (wordsOf 0 text) t in
+    let w : length (wordsOf 0 text) ≤ length text = words-few 0 text in
     omega arith
 
 -- ---- a load's records and reports
 module _ (d : Desk) where
-  run-records : (n : ℕ) (s : State) (t : List ℕ) (rs : List (List ℕ)) → length (runFrom d n s t rs .outcomes) ≤ length rs
-  unfolding runFrom
-  run-records n s t [] = zero-le
-  run-records n s t (r ∷ rs) =
-      let x = recordStep d s r t in
-      by-test (λ (y : Run). length (y .outcomes) ≤ suc (length rs)) (stops (x .outcome)) _ _
+  pub run-in-records : (n : ℕ) (b : Numbers) (s : State) (t : List ℕ) (rs : List (List ℕ)) → length (runIn d n b s t rs .outcomes) ≤ length rs
+  unfolding runIn
+  run-in-records n b s t [] = zero-le
+  run-in-records n b s t (r ∷ rs) =
+      let x = stepIn d b s r t in
+      by-test (λ (y : Run). length (y .outcomes) ≤ suc (length rs)) (stops (x .outcome)) (only (n + 1) r x)
+      (andThen (n + 1) r x (runIn d (n + 1) (numbersAfter b r x) (x .state) (x .store) rs))
       (λ e. suc-le-suc zero-le)
-      (λ e. suc-le-suc (run-records (n + 1) (x .state) (x .store) rs))
+      (λ e. suc-le-suc (run-in-records (n + 1) (numbersAfter b r x) (x .state) (x .store) rs))
 
-  run-reports : (n : ℕ) (s : State) (t : List ℕ) (rs : List (List ℕ)) → length (runFrom d n s t rs .reports) ≤ length (flatten rs)
-  unfolding runFrom flatten
-  run-reports n s t [] = zero-le
-  run-reports n s t (r ∷ rs) =
-      let x = recordStep d s r t in
-      let more = runFrom d (n + 1) (x .state) (x .store) rs .reports in
+  pub run-in-reports : (n : ℕ) (b : Numbers) (s : State) (t : List ℕ) (rs : List (List ℕ)) → length (runIn d n b s t rs .reports) ≤ length (flatten rs)
+  unfolding runIn flatten
+  run-in-reports n b s t [] = zero-le
+  run-in-reports n b s t (r ∷ rs) =
+      let x = stepIn d b s r t in
+      let rest = runIn d (n + 1) (numbersAfter b r x) (x .state) (x .store) rs in
+      let more = rest .reports in
       let here : List Report = reportsAt (n + 1) r (reportedOf r x) in
       let m : length here ≡ length (reportedOf r x) = length-map (reportedOf r x) _ in
-      let f : length (reportedOf r x) ≤ length r = record-said d s r t .few in
+      let f : length (reportedOf r x) ≤ length r = step-in-record-said d b s r t .few in
       let l : length (r ++ flatten rs) ≡ length r + length (flatten rs) = length-append r (flatten rs) in
-      let ih : length more ≤ length (flatten rs) = run-reports (n + 1) (x .state) (x .store) rs in
+      let ih : length more ≤ length (flatten rs) = run-in-reports (n + 1) (numbersAfter b r x) (x .state) (x .store) rs in
       let j : length (here ++ more) ≡ length here + length more = length-append here more in
-      by-test (λ (y : Run). length (y .reports) ≤ length (r ++ flatten rs)) (stops (x .outcome)) _ _
+      by-test (λ (y : Run). length (y .reports) ≤ length (r ++ flatten rs)) (stops (x .outcome)) (only (n + 1) r x) (andThen (n + 1) r x rest)
       (λ e. let g : length here ≤ length (r ++ flatten rs) = omega arith in g)
       (λ e. let g : length (here ++ more) ≤ length (r ++ flatten rs) = omega arith in g)
 
--- a load reads no more records than the stream has bytes
+  -- no more records than the stream has bytes
+  pub stream-records : (b : Numbers) (t s : List ℕ) → length (runIn d 0 b nothingOpen t (recordsOf s) .outcomes) ≤ length s
+  stream-records b t s =
+      let a : length (runIn d 0 b nothingOpen t (recordsOf s) .outcomes) ≤ length (recordsOf s) = run-in-records 0 b nothingOpen t (recordsOf s) in
+      let c : length (recordsOf s) ≤ length s = records-count s in
+      omega arith
+
+  -- and no more reports but 0100
+  pub stream-reports : (b : Numbers) (t s : List ℕ) → length (runIn d 0 b nothingOpen t (recordsOf s) .reports) ≤ length s
+  stream-reports b t s =
+      let a : length (runIn d 0 b nothingOpen t (recordsOf s) .reports) ≤ length (flatten (recordsOf s)) = run-in-reports 0 b nothingOpen t (recordsOf s) in
+      let c : length (flatten (recordsOf s)) ≤ length s = characters-few s in
+      omega arith
+
 pub load-records : (d : Desk) (t s : List ℕ) → length (loadOf d t s .outcomes) ≤ length s
 unfolding loadOf
 load-records d t s =
-    let a : length (runFrom d 0 nothingOpen t (recordsOf s) .outcomes) ≤ length (recordsOf s) = run-records d 0 nothingOpen t (recordsOf s) in
-    let b : length (recordsOf s) ≤ length s = records-count s in
-    omega arith
+    subst (λ (x : Run). length (x .outcomes) ≤ length s) (run-given d 0 asGiven nothingOpen t (recordsOf s) refl) (stream-records d asGiven t s)
 
--- and makes no more reports but 0100
 pub load-reports : (d : Desk) (t s : List ℕ) → length (loadOf d t s .reports) ≤ length s
 unfolding loadOf
 load-reports d t s =
-    let a : length (runFrom d 0 nothingOpen t (recordsOf s) .reports) ≤ length (flatten (recordsOf s)) = run-reports d 0 nothingOpen t (recordsOf s) in
-    let b : length (flatten (recordsOf s)) ≤ length s = characters-few s in
-    omega arith
+    subst (λ (x : Run). length (x .reports) ≤ length s) (run-given d 0 asGiven nothingOpen t (recordsOf s) refl) (stream-reports d asGiven t s)
 
 all-few : (x : Run) → length (allReports x) ≤ length (x .reports) + 1
 unfolding allReports

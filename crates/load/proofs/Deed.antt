@@ -97,13 +97,13 @@ full-fits Cue = lit< tt
 full-fits Group = lit< tt
 full-fits Sub = lit< tt
 
-unsupported-fits : (k : Kind) → unsupportedOf k < conditionSpan
+pub unsupported-fits : (k : Kind) → unsupportedOf k < conditionSpan
 unfolding unsupportedOf
 unsupported-fits Cue = lit< tt
 unsupported-fits Group = lit< tt
 unsupported-fits Sub = lit< tt
 
-dropped-idles : (f : Fault) → Idles (Dropped f)
+pub dropped-idles : (f : Fault) → Idles (Dropped f)
 unfolding stops
 dropped-idles f = ((λ e. let z : _≡_ {A = ℕ} 0 1 = cc in absurd (omega arith)), refl)
 
@@ -146,7 +146,7 @@ all-wipes d p =
 
 module _ (d : Desk) (s : State) (n : ℕ) where
   -- ---- primaries
-  named-deed : (k : Kind) (x : Named) → NamedOk d k x → Deed d s n (namedAsk k x)
+  pub named-deed : (k : Kind) (x : Named) → NamedOk d k x → Deed d s n (namedAsk k x)
   unfolding namedAsk
   named-deed k (Refused f) h = skipping (Dropped f) h (dropped-idles f)
   named-deed k (Accepted y) h = opening k y h
@@ -223,7 +223,7 @@ module _ (d : Desk) (s : State) (ws : List Word) where
   obeyed-deed k h Followon a = changed-deed k h (timesOf Followon ws) (reading-ok k Followon a ws)
   obeyed-deed k h Link a = changed-deed k h (timesOf Link ws) (reading-ok k Link a ws)
 
-  secondary-deed : (o : Open) → s .«open» ≡ o → (e : Secondary) (w : Word)
+  pub secondary-deed : (o : Open) → s .«open» ≡ o → (e : Secondary) (w : Word)
       → Deed d s (length ws) (secondaryAsk d (s .key) o e w ws)
   unfolding secondaryAsk
   secondary-deed Nothing h e w = resting (Dropped _) (lit< tt)
@@ -239,7 +239,7 @@ tail-few [] = omega arith
 tail-few (w ∷ ws) = omega arith
 
 module _ (d : Desk) (s : State) where
-  basic-deed : (b : Basic) (w : Word) (ws : List Word) → Deed d s (length ws) (basicAsk d b w ws)
+  pub basic-deed : (b : Basic) (w : Word) (ws : List Word) → Deed d s (length ws) (basicAsk d b w ws)
   unfolding basicAsk
   basic-deed Ident w ws = ident-deed d s (length ws) (headOf ws) (versionOf (headOf ws .chars))
   basic-deed Clear w ws = item-deed d s (length ws) (itemOf (headOf ws .chars)) w (tailOf ws)
@@ -251,13 +251,13 @@ module _ (d : Desk) (s : State) where
   basic-deed Local w ws = skipping Passed tt passed-idles
   basic-deed Unknown w ws = resting (Dropped _) (lit< tt)
 
-  family-deed : (f : Family) (w : Word) (ws : List Word) → Deed d s (length ws) (familyAsk d s f w ws)
+  pub family-deed : (f : Family) (w : Word) (ws : List Word) → Deed d s (length ws) (familyAsk d s f w ws)
   unfolding familyAsk
   family-deed (Primary k) w ws = primary-deed d s (length ws) k w ws
   family-deed (Augments e) w ws = secondary-deed d s ws (s .«open») refl e w
   family-deed (Basically b) w ws = basic-deed b w ws
 
-  pub fields-deed : (ws : List Word) → Deed d s (length (tailOf ws)) (fieldsAsk d s ws)
+  fields-deed : (ws : List Word) → Deed d s (length (tailOf ws)) (fieldsAsk d s ws)
   unfolding fieldsAsk
   fields-deed [] = resting Blank tt
   fields-deed (w ∷ ws) = family-deed (familyOf (keywordOf (w .chars))) w ws

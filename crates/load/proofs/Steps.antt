@@ -2,7 +2,7 @@
 -- form is kept; a fault has two fields, so that a record with no items has none; its reports, one for the record or one for each item that is
 -- dropped, are no more than its fields, and fit their bits.
 -- Assumes nothing.
-use mathlib.Core.Path.{_≡_, refl}
+use mathlib.Core.Path.{_≡_, refl, subst}
 use mathlib.Core.Bool.{true}
 use mathlib.Core.List.{List, [], _∷_, _++_}
 use Prim.Native.Nat.{ℕ, suc, _+_, _*_, _≤_, _<_}
@@ -30,18 +30,22 @@ use Rattle.store.proofs.Patches.{patch-good, clear-patch-good}
 use Rattle.load.specs.declared.Fault.{Fault}
 use Rattle.load.specs.declared.Entry.{Entry}
 use Rattle.load.specs.declared.Entry.the-variants.{Level, Patch, Faulty}
+use Rattle.load.specs.declared.Numbers.{Numbers}
 use Rattle.load.specs.declared.State.{State}
 use Rattle.load.specs.declared.Outcome.{Outcome}
 use Rattle.load.specs.declared.Outcome.the-variants.{Blank, Passed, Obeyed, Dropped, Stopped}
 use Rattle.load.specs.Condition.{fullOf}
 use Rattle.load.specs.Item.{blameNone, faultsOf, memory, page, done, allDone}
-use Rattle.load.specs.Ask.{Wipe, table, dimmers, Ask, name, primaryAsk, itemAsk, fieldsAsk}
-use Rattle.load.specs.Step.{Step, nothingOpen, wiped, openedBy, acted, stepOf, recordStep, outcomeFaults}
-use Rattle.load.specs.Fits.{AllFit, Small}
-use Rattle.load.specs.Run.{conditionSpan, Run, stops, only, andThen, runFrom, loadOf}
+use Rattle.load.specs.Ask.{Wipe, table, dimmers, Ask, name, itemAsk}
+use Rattle.load.specs.Anew.{fieldsAskIn}
+use Rattle.load.specs.Step.{Step, nothingOpen, wiped, openedBy, acted, recordStep, outcomeFaults}
+use Rattle.load.specs.Translated.{asGiven, stepIn, numbersAfter, runIn}
+use Rattle.load.specs.Fits.{AllFit, Small, primaryAskIn, textStep}
+use Rattle.load.specs.Run.{conditionSpan, Run, stops, loadOf}
 use Rattle.load.proofs.Entries.{faults-few}
 use Rattle.load.proofs.Deed.{OutcomeFits, WipesFit, Deed, resting, skipping, opening, editing, setting, patching, clearing, full-fits}
-use Rattle.load.proofs.Deed.{primary-deed, item-deed, fields-deed, record-deed}
+use Rattle.load.proofs.Deed.{item-deed}
+use Rattle.load.proofs.Anew.{primary-in-deed, anew-fields-deed, anew-record-deed, step-given, run-given}
 
 -- ---- not obeyed, not touched
 module _ (d : Desk) (s : State) (n : ℕ) (t : List ℕ) where
@@ -63,9 +67,12 @@ module _ (d : Desk) (s : State) (n : ℕ) (t : List ℕ) where
   deed-still (patching p w es f l) h = absurd (h refl)
   deed-still (clearing xs f) h = absurd (h refl)
 
+pub step-in-untouched : (d : Desk) (b : Numbers) (s : State) (r t : List ℕ) → (stepIn d b s r t .outcome ≡ Obeyed → ⊥) → stepIn d b s r t .store ≡ t
+unfolding stepIn
+step-in-untouched d b s r t = deed-still d s (length (tailOf (fieldsOf r))) t (anew-record-deed d b s r)
+
 pub untouched : (d : Desk) (s : State) (r t : List ℕ) → (recordStep d s r t .outcome ≡ Obeyed → ⊥) → recordStep d s r t .store ≡ t
-unfolding recordStep
-untouched d s r t = deed-still d s (length (tailOf (fieldsOf r))) t (record-deed d s r)
+untouched d s r t = subst (λ (x : Step). (x .outcome ≡ Obeyed → ⊥) → x .store ≡ t) (step-given d asGiven s r t refl) (step-in-untouched d asGiven s r t)
 
 -- ---- good form is kept
 pub level-ready : (d : Desk) (t : List ℕ) → Ready d t → (n : Name) (channel v : ℕ) → Ready d (edited d t n (SetLevel channel v))
@@ -109,23 +116,29 @@ module _ (d : Desk) (s : State) (n : ℕ) (t : List ℕ) (r : Ready d t) where
   deed-ready (patching p w es f l) = page-ready d p w es f t r
   deed-ready (clearing xs f) = wiped-ready d xs f t r
 
+pub step-in-ready : (d : Desk) (t : List ℕ) → Ready d t → (b : Numbers) (s : State) (x : List ℕ) → Ready d (stepIn d b s x t .store)
+unfolding stepIn
+step-in-ready d t r b s x = deed-ready d s (length (tailOf (fieldsOf x))) t r (anew-record-deed d b s x)
+
 pub record-ready : (d : Desk) (t : List ℕ) → Ready d t → (s : State) (x : List ℕ) → Ready d (recordStep d s x t .store)
-unfolding recordStep
-record-ready d t r s x = deed-ready d s (length (tailOf (fieldsOf x))) t r (record-deed d s x)
+record-ready d t r s x = subst (λ (y : Step). Ready d (y .store)) (step-given d asGiven s x t refl) (step-in-ready d t r asGiven s x)
 
 -- and so of the records one after the other, and of a load
-run-ready : (d : Desk) (n : ℕ) (s : State) (t : List ℕ) (rs : List (List ℕ)) → Ready d t → Ready d (runFrom d n s t rs .store)
-unfolding runFrom
-run-ready d n s t [] h = h
-run-ready d n s t (r ∷ rs) h =
-    by-test (λ (z : Run). Ready d (z .store)) (stops (recordStep d s r t .outcome)) (only (n + 1) r (recordStep d s r t))
-    (andThen (n + 1) r (recordStep d s r t) (runFrom d (n + 1) (recordStep d s r t .state) (recordStep d s r t .store) rs))
-    (λ e. record-ready d t h s r)
-    (λ e. run-ready d (n + 1) (recordStep d s r t .state) (recordStep d s r t .store) rs (record-ready d t h s r))
+pub run-in-ready : (d : Desk) (n : ℕ) (b : Numbers) (s : State) (t : List ℕ) (rs : List (List ℕ)) → Ready d t → Ready d (runIn d n b s t rs .store)
+unfolding runIn
+run-in-ready d n b s t [] h = h
+run-in-ready d n b s t (r ∷ rs) h =
+    let x : Step = stepIn d b s r t in
+    let g : Ready d (x .store) = step-in-ready d t h b s r in
+    by-test (λ (z : Run). Ready d (z .store)) (stops (x .outcome)) _ _
+    (λ e. g)
+    (λ e. run-in-ready d (n + 1) (numbersAfter b r x) (x .state) (x .store) rs g)
 
 pub load-ready : (d : Desk) (t stream : List ℕ) → Ready d t → Ready d (loadOf d t stream .store)
 unfolding loadOf
-load-ready d t stream h = run-ready d 0 nothingOpen t (recordsOf stream) h
+load-ready d t stream h =
+    subst (λ (x : Run). Ready d (x .store)) (run-given d 0 asGiven nothingOpen t (recordsOf stream) refl)
+    (run-in-ready d 0 asGiven nothingOpen t (recordsOf stream) h)
 
 -- ---- a fault has two fields, but for the last
 module _ (d : Desk) (s : State) (n : ℕ) (t : List ℕ) where
@@ -150,12 +163,12 @@ module _ (d : Desk) (s : State) (n : ℕ) (t : List ℕ) where
   deed-few (patching p w es f l) = items-few es l
   deed-few (clearing xs f) = omega arith
 
-pub step-few : (d : Desk) (s : State) (ws : List Word) (t : List ℕ) → 2 * length (stepOf d s ws t .faults) ≤ length ws
-unfolding fieldsAsk acted
-step-few d s [] t = omega arith
-step-few d s (w ∷ ws) t =
-    let h : 2 * length (stepOf d s (w ∷ ws) t .faults) ≤ length ws + 1 = deed-few d s (length ws) t (fields-deed d s (w ∷ ws)) in
-    let g : 2 * length (stepOf d s (w ∷ ws) t .faults) ≤ suc (length ws) = omega arith in
+pub step-in-few : (d : Desk) (b : Numbers) (s : State) (ws : List Word) (t : List ℕ) → 2 * length (textStep d b s ws t .faults) ≤ length ws
+unfolding fieldsAskIn acted
+step-in-few d b s [] t = omega arith
+step-in-few d b s (w ∷ ws) t =
+    let h : 2 * length (textStep d b s (w ∷ ws) t .faults) ≤ length ws + 1 = deed-few d s (length ws) t (anew-fields-deed d b s (w ∷ ws)) in
+    let g : 2 * length (textStep d b s (w ∷ ws) t .faults) ≤ suc (length ws) = omega arith in
     g
 
 -- where no field behind the keyword counts there are no items, and so no faults: a primary, and CLEAR
@@ -164,8 +177,8 @@ faultless [] h = refl
 faultless (f ∷ fs) h = absurd (omega arith)
 
 module _ (d : Desk) (s : State) (t : List ℕ) where
-  pub primary-faults : (k : Kind) (w : Word) (ws : List Word) → acted d s t (primaryAsk d k w ws) .faults ≡ []
-  primary-faults k w ws = faultless _ (deed-few d s 0 t (primary-deed d s 0 k w ws))
+  pub primary-in-faults : (b : Numbers) (k : Kind) (w : Word) (ws : List Word) → acted d s t (primaryAskIn d b k w ws) .faults ≡ []
+  primary-in-faults b k w ws = faultless _ (deed-few d s 0 t (primary-in-deed d b s 0 k w ws))
 
   pub item-faults : (i : Item) (w : Word) (ws : List Word) → acted d s t (itemAsk d i w ws) .faults ≡ []
   item-faults i w ws = faultless _ (deed-few d s 0 t (item-deed d s 0 i w ws))
@@ -236,11 +249,11 @@ deed-small d s n t {a} x =
     let y : Step = acted d s t a in
     small-behind (outcomeFaults (y .outcome)) (y .faults) (deed-said d s n t x .small)
 
-pub step-small : (d : Desk) (s : State) (ws : List Word) (t : List ℕ) → Small (stepOf d s ws t .faults)
-step-small d s ws t = deed-small d s (length (tailOf ws)) t (fields-deed d s ws)
+pub step-in-small : (d : Desk) (b : Numbers) (s : State) (ws : List Word) (t : List ℕ) → Small (textStep d b s ws t .faults)
+step-in-small d b s ws t = deed-small d s (length (tailOf ws)) t (anew-fields-deed d b s ws)
 
 -- a record with no field has none
-pub step-said : (d : Desk) (s : State) (ws : List Word) (t : List ℕ) → Modest (length ws) (saidBy (stepOf d s ws t))
-unfolding fieldsAsk acted outcomeFaults
-step-said d s [] t = none-said d s 0 t 0
-step-said d s (w ∷ ws) t = deed-said d s (length ws) t (fields-deed d s (w ∷ ws))
+pub step-in-said : (d : Desk) (b : Numbers) (s : State) (ws : List Word) (t : List ℕ) → Modest (length ws) (saidBy (textStep d b s ws t))
+unfolding fieldsAskIn acted outcomeFaults
+step-in-said d b s [] t = none-said d s 0 t 0
+step-in-said d b s (w ∷ ws) t = deed-said d s (length ws) t (anew-fields-deed d b s (w ∷ ws))

@@ -7,7 +7,7 @@ use mathlib.Core.Bool.{Bool, true, false}
 use mathlib.Core.List.{List, [], _∷_, _++_}
 use Prim.Native.Nat.{ℕ, _≤_, _<_}
 use native.Mathlib.Omega.{arith}
-use lib.Dec.{ltb, lit<}
+use lib.Dec.{ltb, leb, lit<}
 use lib.ListN.{length}
 use borrow.Author.Tests.{ltb-true, lt-ltb}
 use Rattle.cells.specs.Search.{Found, at, nowhere}
@@ -53,6 +53,9 @@ use Rattle.load.specs.declared.Secondary.the-variants.{Chan, Up, Down, F
 use Rattle.load.specs.declared.Family.{Family}
 use Rattle.load.specs.declared.Family.the-variants.{Primary, Augments, Basic as Basically}
 use Rattle.load.specs.declared.Basic.the-variants.{Ident, Clear, Patch, Enddata, Passed as PassedOver, Local, Unknown}
+use Rattle.load.specs.declared.Named.{Named}
+use Rattle.load.specs.declared.Named.the-variants.{Refused as NotNamed, Name as IsNamed}
+use Rattle.load.specs.declared.Numbers.{Numbers}
 use Rattle.load.specs.declared.Numeral.{Numeral}
 use Rattle.load.specs.declared.Numeral.the-variants.{Wrong, Number}
 use Rattle.load.specs.declared.Reading.{Reading}
@@ -63,12 +66,14 @@ use Rattle.load.specs.Item.{blame, blameNone, faultsOf}
 use Rattle.load.specs.Ask.{Wipe, table, dimmers, Ask, rests, skips, opens, edits, items, clears, name}
 use Rattle.load.specs.Ask.{numberedBy, subBy, numeralOf, pageAt, namedBy, namedOf, namedAsk, primaryAsk, augments, onTime, delayOf, fadeOf, linkBy, timesOf}
 use Rattle.load.specs.Ask.{changeAsk, obeyedAsk, secondaryAsk, pagedAsk, kindAsk, dimmersAsk, allWipes, wipesAsk, tablesAsk, allAsk, itemAsk, triplesAsk}
-use Rattle.load.specs.Ask.{isThree, identOutcome, familyOf, basicAsk, familyAsk, fieldsAsk, isOverLong, askOf}
-use Rattle.load.specs.Step.{Step, ended, skipping, openedBy, acted, stepOf, recordStep, oneIf, ignoredIn, outcomeFaults, reportedOf}
-use Rattle.load.proofs.Faulted.{Blamed, AllBlamed, blamed-join, FieldOf, Fields, behind-fields, head-field, tail-fields}
+use Rattle.load.specs.Ask.{isThree, identOutcome, familyOf, basicAsk, familyAsk, isOverLong}
+use Rattle.load.specs.Anew.{nextKey, acceptedOf, beyondOf, nextNamed, anewPrimaryAsk, asksLink, isClear, anewFamilyAsk, familyAskIn, fieldsAskIn, askIn}
+use Rattle.load.specs.Step.{Step, ended, skipping, openedBy, acted, oneIf, ignoredIn, outcomeFaults, reportedOf}
+use Rattle.load.proofs.Faulted.{Blamed, AllBlamed, blamed-join, FieldOf, Fields, behind-fields, missing-field, head-field, tail-fields}
 use Rattle.load.proofs.Faulted.{field-blamed, keyword-blamed, none-blamed}
 use Rattle.load.proofs.Entries.{EntriesTold, pairs-told, triples-told}
-use Rattle.load.specs.Fits.{Near}
+use Rattle.load.specs.Translated.{stepIn}
+use Rattle.load.specs.Fits.{Near, textStep}
 use Rattle.load.proofs.Steps.{saidBy}
 
 -- ---- what holds of it
@@ -223,6 +228,24 @@ module _ (d : Desk) (w : Word) (ws : List Word) where
       (numeral-told d (w ∷ ws) k (headOf ws) (head-field (w ∷ ws) ws o)))
       (λ e. unsupported-told k e)
 
+  -- beyond the last page: none is blamed, or the number
+  beyond-told : (k : Kind) → Blamed (w ∷ ws) (beyondOf k (headOf ws))
+  unfolding beyondOf fullOf blamesKeyword blamesNone has
+  beyond-told Cue = none-blamed (w ∷ ws) 21 (lit< tt, refl)
+  beyond-told Group = none-blamed (w ∷ ws) 22 (lit< tt, refl)
+  beyond-told Sub = field-blamed (w ∷ ws) (headOf ws) badSub (head-field (w ∷ ws) ws (behind-fields w ws)) (lit< tt, refl, refl)
+
+  anew-primary-told : (b : Numbers) (k : Kind) → AskTold d (w ∷ ws) (anewPrimaryAsk d b k w ws)
+  unfolding anewPrimaryAsk nextNamed namedAsk
+  anew-primary-told b k =
+      let y : Key = nextKey d k (acceptedOf b k) in
+      by-test (AskTold d (w ∷ ws)) (supported d k) (namedAsk k (nextNamed d b k ws)) (skips (Dropped (blame w (unsupportedOf k))))
+      (λ e.
+      by-test (λ (x : Named). AskTold d (w ∷ ws) (namedAsk k x)) (leb (y .page) (pagesOf d k)) (IsNamed y) (NotNamed (beyondOf k (headOf ws)))
+      (λ h. tt)
+      (λ h c. beyond-told k))
+      (λ e. unsupported-told k e)
+
   unknown-blamed : Blamed (w ∷ ws) (blame w unknownKeyword)
   unfolding blamesNone has
   unknown-blamed = keyword-blamed w ws unknownKeyword (lit< tt, refl)
@@ -363,21 +386,41 @@ module _ (d : Desk) (cues : 0 < d .cues) (s : State) (t : List ℕ) where
   unfolding outcomeFaults AllBlamed
   passed-blamed fs x p e = subst (λ (y : Step). AllBlamed fs (saidBy y)) (sym e) tt
 
-  fields-blamed : (fs : List Word) → AllBlamed fs (saidBy (stepOf d s fs t))
-  unfolding fieldsAsk acted outcomeFaults AllBlamed
-  fields-blamed [] = tt
-  fields-blamed (w ∷ ws) =
-      let f : Family = familyOf (keywordOf (w .chars)) in
+  family-blamed : (w : Word) (ws : List Word) (f : Family) → AllBlamed (w ∷ ws) (saidBy (acted d s t (familyAsk d s f w ws)))
+  family-blamed w ws f =
       by-family d w ws s f
       (λ e. passed-blamed (w ∷ ws) _ s (over-passed d s t w ws e))
       (λ e. passed-blamed (w ∷ ws) _ skipping (local-passed d s t w ws e))
       (λ x e o. passed-blamed (w ∷ ws) _ s (skipped-passed d s t w ws x e o))
       (λ h. ask-blamed (w ∷ ws) (familyAsk d s f w ws) h)
 
+  -- a load with translation blames as every load does, but for a primary beyond the last page
+  anew-blamed : (b : Numbers) (w : Word) (ws : List Word) (f : Family) → AllBlamed (w ∷ ws) (saidBy (acted d s t (anewFamilyAsk d b s f w ws)))
+  unfolding anewFamilyAsk familyAsk
+  anew-blamed b w ws (Primary k) = ask-blamed (w ∷ ws) (anewPrimaryAsk d b k w ws) (anew-primary-told d w ws b k)
+  anew-blamed b w ws (Augments e) =
+      by-test (λ (a : Ask). AllBlamed (w ∷ ws) (saidBy (acted d s t a))) (asksLink (s .«open») e) (rests Obeyed) (secondaryAsk d (s .key) (s .«open») e w ws)
+      (λ h. ask-blamed (w ∷ ws) (rests Obeyed) tt)
+      (λ h. family-blamed w ws (Augments e))
+  anew-blamed b w ws (Basically x) =
+      let i : Item = itemOf (headOf ws .chars) in
+      by-test (λ (a : Ask). AllBlamed (w ∷ ws) (saidBy (acted d s t a))) (isClear x) (itemAsk d i w []) (basicAsk d x w ws)
+      (λ h. ask-blamed (w ∷ ws) (itemAsk d i w []) (item-told d w ws i [] (λ n. missing-field (w ∷ ws))))
+      (λ h. family-blamed w ws (Basically x))
+
+  fields-blamed : (b : Numbers) (fs : List Word) → AllBlamed fs (saidBy (textStep d b s fs t))
+  unfolding fieldsAskIn familyAskIn acted outcomeFaults AllBlamed
+  fields-blamed b [] = tt
+  fields-blamed b (w ∷ ws) =
+      let f : Family = familyOf (keywordOf (w .chars)) in
+      by-test (λ (a : Ask). AllBlamed (w ∷ ws) (saidBy (acted d s t a))) (b .anew) (anewFamilyAsk d b s f w ws) (familyAsk d s f w ws)
+      (λ e. anew-blamed b w ws f)
+      (λ e. family-blamed w ws f)
+
   -- so that no place is past the text
-  pub said-near : (text : List ℕ) → Near (length text) (saidBy (stepOf d s (wordsOf 0 text) t))
+  pub said-in-near : (b : Numbers) (text : List ℕ) → Near (length text) (saidBy (textStep d b s (wordsOf 0 text) t))
   unfolding AllBlamed Near
-  said-near text = near (saidBy (stepOf d s (wordsOf 0 text) t)) (fields-blamed (wordsOf 0 text))
+  said-in-near b text = near (saidBy (textStep d b s (wordsOf 0 text) t)) (fields-blamed b (wordsOf 0 text))
     where
       near : (xs : List Fault) → AllBlamed (wordsOf 0 text) xs → Near (length text) xs
       near [] h = tt
@@ -394,11 +437,11 @@ module _ (d : Desk) (cues : 0 < d .cues) (s : State) (t : List ℕ) where
   unfolding AllBlamed blamesKeyword has
   long-blamed fs = (none-blamed fs overLongRecord (lit< tt, refl), tt)
 
-  pub record-blamed : (r : List ℕ) → AllBlamed (fieldsOf r) (reportedOf r (recordStep d s r t))
-  unfolding reportedOf recordStep askOf
-  record-blamed r =
+  pub step-in-blamed : (b : Numbers) (r : List ℕ) → AllBlamed (fieldsOf r) (reportedOf r (stepIn d b s r t))
+  unfolding reportedOf stepIn askIn
+  step-in-blamed b r =
       by-bool (isOverLong r)
       (λ e. unfold acted outcomeFaults in rw e (long-blamed (fieldsOf r)))
       (λ e.
       rw e
-      (blamed-join (fieldsOf r) (ignoredIn r) (saidBy (stepOf d s (fieldsOf r) t)) (ignored-blamed (fieldsOf r) r) (fields-blamed (fieldsOf r))))
+      (blamed-join (fieldsOf r) (ignoredIn r) (saidBy (textStep d b s (fieldsOf r) t)) (ignored-blamed (fieldsOf r) r) (fields-blamed b (fieldsOf r))))

@@ -58,6 +58,15 @@ settleBy d s (Memory k) t = onFound (find d t (name k (s .key))) (λ i. s) nothi
 abbrev pub settle : Desk → State → List ℕ → State
 settle d s t = settleBy d s (s .«open») t
 
+-- the slot that keeps the open memory; 0 where none is open
+unfoldable pub slotBy : Desk → List ℕ → Key → Open → ℕ
+slotBy d t key Nothing = 0
+slotBy d t key Skipping = 0
+slotBy d t key (Memory k) = onFound (find d t (name k key)) (λ i. i) 0
+
+abbrev pub slotOf : Desk → List ℕ → State → ℕ
+slotOf d t s = slotBy d t (s .key) (s .«open»)
+
 -- what CLEAR removes, one after the other
 unfoldable pub wiped : Desk → List Wipe → List ℕ → List ℕ
 wiped d [] t = t

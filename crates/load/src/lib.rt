@@ -138,6 +138,23 @@ pub enum Ranged {
     Wrong(u32),
 }
 
+// How a load names its memories: by the numbers that the stream has; or anew, after how many that it accepted of each kind (C-13).
+pub struct Numbers {
+    pub anew: bool,
+    pub cues: u32,
+    pub groups: u32,
+    pub subs: u32,
+}
+
+// What a load with translation hears of a record beside what it asks for: a primary, accepted or refused, or a LINK that was obeyed, with the
+// number that it asks for.
+pub enum Heard {
+    Other,
+    Accepted(Kind),
+    Refused(Kind),
+    Link(u32),
+}
+
 // What a load is told as: the count of its reports, stored or not, the four tallies, and the closing number.
 pub struct Totals {
     pub reports: u32,
