@@ -1,11 +1,12 @@
 -- CLEAR: its page, the tables that have it, what is left open, and the item by which it goes. By cases on the page and the item.
 -- Assumes nothing.
 use mathlib.Core.Path.{_≡_, sym, ap, _∙_, subst}
-use mathlib.Core.Bool.{Bool, true, false}
+use mathlib.Core.Bool.{Bool, true, false, cond}
 use mathlib.Core.List.{List, [], _∷_, _++_}
 use Prim.Native.Nat.{ℕ, _+_, _≤_, _<_}
 use native.Mathlib.Omega.{arith}
 use lib.ListN.{length}
+use borrow.Author.Tests.{le-ltb}
 use Rattle.cells.proofs.Split.{by-test, cond-true, cond-false}
 use Rattle.store_desk.specs.declared.Desk.{Desk}
 use Rattle.store_desk.specs.declared.Kind.{Kind}
@@ -20,7 +21,7 @@ use Rattle.text_fields.specs.Words.{Word, headOf, tailOf}
 use Rattle.text_fields.specs.Places.{wordsFrom, startAt, endAt}
 use Rattle.text_fields.specs.Keywords.{itemOf}
 use Rattle.text_fields.specs.Tables.{saidItemAt}
-use Rattle.text_fields.proofs.Words.{start-within, end-within, words-tail, said-item-head}
+use Rattle.text_fields.proofs.Words.{start-from, start-within, end-within, words-none, words-tail, said-item-head}
 use Rattle.value.specs.declared.Paged.{Paged}
 use Rattle.value.specs.declared.Paged.the-variants.{Bad, Value as IsPage}
 use Rattle.store.specs.Change.{everyPage, cleared, clearedPatch}
@@ -30,8 +31,8 @@ use Rattle.load.specs.declared.Outcome.the-variants.{Dropped, Obeyed}
 use Rattle.load.specs.Condition.{badPage, unknownItem}
 use Rattle.load.specs.Item.{blame}
 use Rattle.load.specs.Ask.{Wipe, table, dimmers, rests, clears, pageAt, pagedAsk, kindAsk, dimmersAsk, tablePages}
-use Rattle.load.specs.Fits.{highestPage}
-use Rattle.load.specs.Ask.{kindWipes, dimmerWipes, allWipes, allAsk, itemAsk, clearAsk}
+use Rattle.load.specs.Fits.{highestPage, clearAskIn}
+use Rattle.load.specs.Ask.{kindWipes, dimmerWipes, allWipes, allAsk, itemAsk}
 use Rattle.load.proofs.Tables.{kind-has, kind-lacks, dimmers-have as patch-has, dimmers-lack as patch-lacks, all-ask}
 use Rattle.load.specs.Step.{ended, settle, wiped, acted}
 use Rattle.load.proofs.Wiped.{wiped-join}
@@ -146,6 +147,16 @@ module _ (d : Desk) (p : ℕ) (t : List ℕ) where
       ∙ wiped-join d cues (groups ++ subs) _
       ∙ wiped-join d groups subs _)
 
+-- ---- where its page is: behind the item, or, where pages are ignored, at the end of the text, behind which there is no field
+module _ (text : List ℕ) (end : ℕ) {every : Bool} where
+  pub page-ignored : every ≡ true → wordsFrom text (length text) ≡ cond every [] (wordsFrom text end)
+  page-ignored e =
+      words-none text (length text) (le-ltb (startAt text (length text)) (length text) (start-from text (length text)))
+      ∙ sym (cond-true every [] (wordsFrom text end) e)
+
+  pub page-behind : every ≡ false → wordsFrom text end ≡ cond every [] (wordsFrom text end)
+  page-behind e = sym (cond-false every [] (wordsFrom text end) e)
+
 -- ---- by the item
 pub item-start : {text : List ℕ} {place start : ℕ} → start ≡ startAt text place → Line text place → start ≤ length text
 item-start {text} {place} e l = subst (λ (n : ℕ). n ≤ length text) (sym e) (start-within text place (l .within))
@@ -165,9 +176,12 @@ module _ (text : List ℕ) (place : ℕ) {start : ℕ} {said : SaidItem} (e : st
         short = l .short;
       }
 
-  pub clear-as : (d : Desk) {y : Item} → said .item ≡ y → itemAsk d y (keywordIn text) (wordsFrom text (said .end)) ≡ clearAsk d (keywordIn text) (wordsFrom text place)
-  clear-as d k =
+  -- its page is from q on
+  pub clear-as : (d : Desk) (every : Bool) (q : ℕ) → wordsFrom text q ≡ cond every [] (wordsFrom text (said .end)) → {y : Item} → said .item ≡ y
+      → itemAsk d y (keywordIn text) (wordsFrom text q) ≡ clearAskIn every d (keywordIn text) (wordsFrom text place)
+  clear-as d every q p k =
       let a : itemOf (headOf (wordsFrom text place) .chars) ≡ said .item = sym (ap (λ (y : SaidItem). y .item) item-said) in
       let b : tailOf (wordsFrom text place) ≡ wordsFrom text (said .end) =
       words-tail text place ∙ sym (ap (λ (y : SaidItem). wordsFrom text (y .end)) item-said) in
-      sym (λ i. itemAsk d ((a ∙ k) i) (keywordIn text) (b i))
+      let c : wordsFrom text q ≡ cond every [] (tailOf (wordsFrom text place)) = p ∙ sym (ap (λ (ws : List Word). cond every [] ws) b) in
+      λ i. itemAsk d (sym (a ∙ k) i) (keywordIn text) (c i)

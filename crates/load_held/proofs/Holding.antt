@@ -26,9 +26,9 @@ use Rattle.load.specs.declared.State.{State}
 use Rattle.load.specs.declared.Open.{Open}
 use Rattle.load.specs.declared.Open.the-variants.{Nothing, Skipping, Memory}
 use Rattle.load.specs.Ask.{name}
-use Rattle.load.specs.Step.{noKey, nothingOpen, skipping, settleBy, settle}
+use Rattle.load.specs.Step.{noKey, nothingOpen, skipping, settleBy, settle, slotBy, slotOf}
 use Rattle.load_held.specs.declared.Held.{Held}
-use Rattle.load_held.specs.Held.{slotBy, slotOf, heldOf, IsKept, Settled, HeldReady}
+use Rattle.load_held.specs.Held.{heldOf, IsKept, Settled, HeldReady}
 use Rattle.load_held.specs.Parts.{kindIn, openName, IsOpen, resting}
 
 -- ---- the open memory is in its slot

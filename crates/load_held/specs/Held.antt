@@ -10,27 +10,18 @@ use Rattle.store_desk.specs.declared.Desk.{Desk}
 use Rattle.store_desk.specs.declared.Key.{Key}
 use Rattle.store_desk.specs.Name.{KeyFits}
 use Rattle.text_records.specs.Received.{longest}
-use Rattle.store.specs.Slots.{find, onFound}
+use Rattle.store.specs.Slots.{find}
 use Rattle.store_code.specs.Fits.{Fitting}
 use Rattle.load.specs.declared.State.{State}
 use Rattle.load.specs.declared.Open.{Open}
 use Rattle.load.specs.declared.Open.the-variants.{Nothing, Skipping, Memory}
 use Rattle.load_items.specs.Done.{faultsIn, mostFaults}
 use Rattle.load.specs.Ask.{name}
-use Rattle.load.specs.Step.{Step}
+use Rattle.load.specs.Step.{Step, slotBy, slotOf}
 use Rattle.load_held.specs.declared.Held.{Held}
 use Rattle.load_held.specs.declared.Stepped.{Stepped}
 
 -- ---- what is open, with its slot
-
--- the slot that keeps the open memory; 0 where none is open
-unfoldable pub slotBy : Desk → List ℕ → Key → Open → ℕ
-slotBy d t key Nothing = 0
-slotBy d t key Skipping = 0
-slotBy d t key (Memory k) = onFound (find d t (name k key)) (λ i. i) 0
-
-abbrev pub slotOf : Desk → List ℕ → State → ℕ
-slotOf d t s = slotBy d t (s .key) (s .«open»)
 
 unfoldable pub heldOf : Desk → List ℕ → State → Held
 heldOf d t s = record { state = s; slot = slotOf d t s }

@@ -1,10 +1,15 @@
 // What is open while a stream is loaded, with its slot; how a step answers; and CLEAR, which closes a memory that it removes (paper 01,
 // "Keywords and conditions").
 ghost use mathlib.Core.Path.{_≡_};
+ghost use mathlib.Core.Bool.{cond};
+ghost use mathlib.Core.List.{[]};
+ghost use Prim.Native.Nat.{_≤_};
+ghost use lib.ListN.{length};
 ghost use Rattle.store_desk.specs.Name.{KeyFits};
 ghost use Rattle.text_fields.specs.Places.{wordsFrom};
 ghost use Rattle.store_code.specs.Fits.{Fitting};
-ghost use Rattle.load.specs.Ask.{kindAsk, dimmersAsk, kindWipes, dimmerWipes, allWipes, allAsk, clearAsk};
+ghost use Rattle.load.specs.Ask.{kindAsk, dimmersAsk, kindWipes, dimmerWipes, allWipes, allAsk};
+ghost use Rattle.load.specs.Fits.{clearAskIn};
 ghost use Rattle.load.specs.Step.{ended as endedStep, settle, wiped, acted};
 ghost use Rattle.load_naming.specs.Line.{Line};
 ghost use Rattle.load_held.specs.Held.{heldOf, HeldReady, stepping, steppedOf};
@@ -203,14 +208,34 @@ fn clear_all(desk: Desk, held: Held, text: &[u8], at: usize, store: &mut [u8]) -
     }
 }
 
-pub fn clear(desk: Desk, held: Held, text: &[u8], at: usize, store: &mut [u8]) -> Stepped
+// Where CLEAR looks for a page: behind its item, or nowhere where pages are ignored.
+fn page_place(text: &[u8], end: usize, every: bool) -> usize
+    requires { ⌜ end ≤ length (now text) ⌝ }
+    ensures { λ r. ⌜ wordsFrom (now (text .entry)) r ≡ cond every [] (wordsFrom (now (text .entry)) end) ⌝ }
+    ensures { λ r. ⌜ r ≤ length (now (text .entry)) ⌝ }
+{
+    if every {
+        return text.len();
+    }
+    end
+}
+
+// `every`: whatever page it names, every page is cleared.
+pub fn clear(
+    desk: Desk,
+    held: Held,
+    every: bool,
+    text: &[u8],
+    at: usize,
+    store: &mut [u8],
+) -> Stepped
     requires { ⌜ Fitting desk (now store) ⌝ }
     requires { ⌜ Line (now text) at ⌝ }
     requires { ⌜ HeldReady desk (now store) held ⌝ }
-    ensures { λ r. ⌜ stepping r (now (store .exit)) ≡ steppedOf desk (acted desk (held .state) (now (store .entry)) (clearAsk desk (keywordIn (now (text .entry))) (wordsFrom (now (text .entry)) at))) ⌝ }
+    ensures { λ r. ⌜ stepping r (now (store .exit)) ≡ steppedOf desk (acted desk (held .state) (now (store .entry)) (clearAskIn every desk (keywordIn (now (text .entry))) (wordsFrom (now (text .entry)) at))) ⌝ }
 {
     let said = text_fields::item_at(text, text_fields::field_start(text, at));
-    let end = said.end;
+    let end = page_place(text, said.end, every);
     let item = said.item;
     match item {
         Item::All => clear_all(desk, held, text, end, store),

@@ -1,19 +1,26 @@
 // What a record's fields say before the store is asked: a primary's name, a page, and the change that UP, DOWN, FOLLOWON or LINK asks
 // for (paper 01, "Keywords and conditions").
 ghost use mathlib.Core.Path.{_≡_};
-ghost use Prim.Native.Nat.{max};
+ghost use mathlib.Core.Bool.{true};
+ghost use Prim.Native.Nat.{_<_, max};
 ghost use Rattle.store_desk.specs.Size.{InRange};
+ghost use Rattle.store_desk.specs.Name.{supported};
 ghost use Rattle.text_fields.specs.Words.{headOf};
 ghost use Rattle.text_fields.specs.Places.{wordsFrom, wordIn};
 ghost use Rattle.value.specs.Integer.{integerOf};
-ghost use Rattle.value.specs.Number.{numberOf};
+ghost use Rattle.value.specs.Number.{numberOf, borneOf};
 ghost use Rattle.value.specs.Time.{timeOf};
 ghost use Rattle.value.specs.Field.{versionOf};
 ghost use Rattle.load.specs.Condition.{fullOf, unsupportedOf};
-ghost use Rattle.load.specs.Ask.{numberedBy, subBy, numeralOf, pageAt, namedBy, namedOf, delayOf, timesOf, augments as augmentsOf, tablePages};
-ghost use Rattle.load.specs.Fits.{highestPage};
+ghost use Rattle.load.specs.Ask.{numberedBy, subBy, numeralOf, pageAt, namedBy, namedOf, delayOf, timesOf, augments as augmentsOf, tablePages, familyOf};
+ghost use Rattle.load.specs.Anew.{isLink, lastNumber, acceptedOf, nextKey, beyondOf, nextNamed};
+ghost use Rattle.load.specs.Fits.{highestPage, NumbersFit};
 ghost use Rattle.load_naming.specs.Line.{FieldIn, Line};
+use load::Basic;
+use load::Family;
+use load::Fault;
 use load::Named;
+use load::Numbers;
 use load::Numeral;
 use load::Reading;
 use load::Secondary;
@@ -22,6 +29,7 @@ use store_desk::Desk;
 use store_desk::Key;
 use store_desk::Kind;
 use text_fields::Field;
+use text_fields::Keyword;
 use value::Integer;
 use value::Numbered;
 use value::Paged;
@@ -48,6 +56,48 @@ const NO_SUBS: u32 = 52;
 const MALFORMED_SUB: u32 = 171;
 
 const BAD_TIME: u32 = 241;
+
+// ---- what a keyword begins
+
+// What a keyword begins.
+pub fn family_of(k: Keyword) -> Family
+    ensures { λ r. ⌜ r ≡ familyOf k ⌝ }
+{
+    match k {
+        Keyword::Ident => Family::Basic(Basic::Ident),
+        Keyword::Clear => Family::Basic(Basic::Clear),
+        Keyword::Patch => Family::Basic(Basic::Patch),
+        Keyword::Cue => Family::Primary(Kind::Cue),
+        Keyword::Group => Family::Primary(Kind::Group),
+        Keyword::Sub => Family::Primary(Kind::Sub),
+        Keyword::Chan => Family::Augments(Secondary::Chan),
+        Keyword::Up => Family::Augments(Secondary::Up),
+        Keyword::Down => Family::Augments(Secondary::Down),
+        Keyword::Followon => Family::Augments(Secondary::Followon),
+        Keyword::Link => Family::Augments(Secondary::Link),
+        Keyword::Enddata => Family::Basic(Basic::Enddata),
+        Keyword::Manufacturer => Family::Basic(Basic::Passed),
+        Keyword::Console => Family::Basic(Basic::Passed),
+        Keyword::Set => Family::Basic(Basic::Passed),
+        Keyword::Text => Family::Basic(Basic::Passed),
+        Keyword::Part => Family::Basic(Basic::Passed),
+        Keyword::Local => Family::Basic(Basic::Local),
+        Keyword::Comment => Family::Basic(Basic::Passed),
+        Keyword::Unknown => Family::Basic(Basic::Unknown),
+    }
+}
+
+pub fn is_link(e: Secondary) -> bool
+    ensures { λ r. ⌜ r ≡ isLink e ⌝ }
+{
+    match e {
+        Secondary::Chan => false,
+        Secondary::Up => false,
+        Secondary::Down => false,
+        Secondary::Followon => false,
+        Secondary::Link => true,
+    }
+}
 
 // ---- numbers
 
@@ -135,6 +185,67 @@ pub fn name_at(desk: Desk, kind: Kind, text: &[u8], at: usize) -> Named
     key_of(number, page, text, end)
 }
 
+// The last number of a page, in a load with translation.
+fn last_number(desk: Desk, kind: Kind) -> u32
+    ensures { λ r. ⌜ r ≡ lastNumber desk kind ⌝ }
+{
+    match kind {
+        Kind::Cue => value::WHOLE_MAX,
+        Kind::Group => value::WHOLE_MAX,
+        Kind::Sub => desk.subs,
+    }
+}
+
+fn accepted(numbers: Numbers, kind: Kind) -> u32
+    ensures { λ r. ⌜ r ≡ acceptedOf numbers kind ⌝ }
+{
+    match kind {
+        Kind::Cue => numbers.cues,
+        Kind::Group => numbers.groups,
+        Kind::Sub => numbers.subs,
+    }
+}
+
+// The key of the next memory of a kind, after `n` others.
+pub fn next_key(desk: Desk, kind: Kind, n: u32) -> Key
+    requires { ⌜ supported desk kind ≡ true ⌝ }
+    requires { ⌜ n < 4294967295 ⌝ }
+    ensures { λ r. ⌜ r ≡ nextKey desk kind n ⌝ }
+{
+    let last = last_number(desk, kind);
+    Key {
+        page: n / last + 1,
+        whole: n % last + 1,
+        fraction: 0,
+    }
+}
+
+// Beyond the last page: no room for a cue or a group, and a submaster that is too high, which is blamed on its number.
+fn beyond(kind: Kind, text: &[u8], at: usize) -> Fault
+    requires { ⌜ Line (now text) at ⌝ }
+    ensures { λ r. ⌜ r ≡ beyondOf kind (headOf (wordsFrom (now (text .entry)) at)) ⌝ }
+{
+    match kind {
+        Kind::Cue => load::blameless(FULL_CUES),
+        Kind::Group => load::blameless(FULL_GROUPS),
+        Kind::Sub => load::blamed_at(text, at, BAD_SUB),
+    }
+}
+
+// A primary's number and page in a load with translation, whatever its fields say.
+pub fn next_name(desk: Desk, numbers: Numbers, kind: Kind, text: &[u8], at: usize) -> Named
+    requires { ⌜ supported desk kind ≡ true ⌝ }
+    requires { ⌜ NumbersFit numbers ⌝ }
+    requires { ⌜ Line (now text) at ⌝ }
+    ensures { λ r. ⌜ r ≡ nextNamed desk numbers kind (wordsFrom (now (text .entry)) at) ⌝ }
+{
+    let key = next_key(desk, kind, accepted(numbers, kind));
+    if key.page <= store_desk::pages(desk, kind) {
+        return Named::Name(key);
+    }
+    Named::Refused(beyond(kind, text, at))
+}
+
 // No room for a new memory. A submaster has a slot of its own.
 pub fn full(kind: Kind) -> u32
     ensures { λ r. ⌜ r ≡ fullOf kind ⌝ }
@@ -158,6 +269,15 @@ pub fn unsupported(kind: Kind) -> u32
 }
 
 // ---- times and links
+
+// The number that a CUE bears or a LINK asks for in a load with translation: the next field's.
+pub fn borne_at(text: &[u8], at: usize) -> u32
+    requires { ⌜ Line (now text) at ⌝ }
+    ensures { λ r. ⌜ r ≡ borneOf (headOf (wordsFrom (now (text .entry)) at) .chars) ⌝ }
+{
+    let f = text_fields::field_at(text, at);
+    value::read_borne(text_fields::word(text, f))
+}
 
 fn time_in(text: &[u8], f: Field) -> Timed
     requires { ⌜ FieldIn (now text) f ⌝ }

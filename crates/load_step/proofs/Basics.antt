@@ -1,8 +1,8 @@
 -- PATCH's triples, IDENT's version, what a keyword begins, and a record's first field. By cases on each.
 -- Assumes nothing.
 use mathlib.Core.Path.{_≡_, refl, sym, ap, _∙_, subst}
-use mathlib.Core.Bool.{true, false}
-use mathlib.Core.List.{List}
+use mathlib.Core.Bool.{Bool, true, false, cond, _&&_}
+use mathlib.Core.List.{List, []}
 use Prim.Native.Nat.{ℕ, _≤_, _<_}
 use native.Mathlib.Omega.{arith}
 use lib.Dec.{eqb}
@@ -30,19 +30,21 @@ use Rattle.store_code.specs.Fits.{Fitting}
 use Rattle.load_items.specs.declared.Aim.the-variants.{Page}
 use Rattle.load.specs.declared.Entry.{Entry}
 use Rattle.load.specs.declared.Fault.{Fault}
+use Rattle.load.specs.declared.Numbers.{Numbers}
 use Rattle.load.specs.declared.State.{State}
 use Rattle.load.specs.declared.Secondary.{Secondary}
 use Rattle.load.specs.declared.Outcome.{Outcome}
 use Rattle.load.specs.declared.Outcome.the-variants.{Blank, Dropped, Obeyed, Stopped}
 use Rattle.load.specs.Condition.{badPatchPage, identMismatch, unknownKeyword}
 use Rattle.load.specs.Item.{blame, blameNone, triplesOf, page, allDone}
-use Rattle.load.specs.Fits.{blameField}
-use Rattle.load.specs.Ask.{rests, items, triplesAsk, clearAsk, patchAsk, isThree, identOutcome, primaryAsk, secondaryAsk, familyOf, basicAsk, familyAsk, fieldsAsk}
-use Rattle.load.specs.Step.{nothingOpen, acted, stepOf}
+use Rattle.load.specs.Fits.{blameField, primaryAskIn, secondaryAskIn, clearAskIn, basicAskIn, textStep}
+use Rattle.load.specs.Ask.{rests, items, itemAsk, triplesAsk, patchAsk, isThree, identOutcome, secondaryAsk, familyOf, basicAsk, familyAsk}
+use Rattle.load.specs.Anew.{asksLink, isClear, anewFamilyAsk, familyAskIn, fieldsAskIn}
+use Rattle.load.specs.Step.{nothingOpen, acted}
 use Rattle.load.proofs.Entries.{triples-fit}
 use Rattle.load.proofs.Read.{PageIn, page-in}
 use Rattle.load.proofs.Steps.{item-faults}
-use Rattle.load.proofs.Counts.{text-few}
+use Rattle.load.proofs.Counts.{text-in-few}
 use Rattle.load_naming.specs.Line.{Line}
 use Rattle.load_naming.proofs.Fields.{head-at, tail-at}
 use Rattle.load_items.specs.Done.{mostFaults}
@@ -59,6 +61,8 @@ use Rattle.load_held.specs.Held.{heldOf, HeldReady, stepping, steppedOf, ResAll
 use Rattle.load_held.specs.Parts.{keywordIn, withHeld, didOf, DeedsAll, doingAll, didAll}
 use Rattle.load_held.proofs.Holding.{held-stays}
 use Rattle.load_held.proofs.Answers.{step-all, asked-all, held-with}
+use Rattle.load_step.proofs.Primaries.{primary-all}
+use Rattle.load_step.proofs.Secondaries.{secondary-stays}
 
 -- ---- PATCH
 pub patch-page : (limit : ℕ) (w : List ℕ) {x : Paged} {p : ℕ} → x ≡ pageOf limit w → x ≡ IsPage p → Within 1 p limit
@@ -154,11 +158,6 @@ module _ (d : Desk) (w : Word) (ws : List Word) where
   unfolding basicAsk
   basic-unknown e = ap (λ (x : Fault). rests (Dropped x)) e
 
-  pub basic-clear : (s : State) (t fs : List ℕ) {r : Stepped} {u : List ℕ} → stepping r u ≡ steppedOf d (acted d s t (clearAsk d w ws))
-      → steppingAll r u fs ≡ steppedAll d (acted d s t (basicAsk d Clear w ws)) fs
-  unfolding basicAsk
-  basic-clear s t fs z = step-all (acted d s t (clearAsk d w ws)) fs (item-faults d s t (itemOf (headOf ws .chars)) w (tailOf ws)) d z
-
   pub basic-patch : (t fs : List ℕ) {h : Held} → HeldReady d t h → Fitting d t → {r : Did} {q : Stepped} {u us : List ℕ}
       → doingAll r u us ≡ didAll (acted d nothingOpen t (patchAsk d ws)) fs → q ≡ withHeld h r
       → steppingAll q u us ≡ steppedAll d (acted d (h .state) t (basicAsk d Patch w ws)) fs
@@ -166,34 +165,67 @@ module _ (d : Desk) (w : Word) (ws : List Word) where
   basic-patch t fs {h} g f z e =
       held-with d (acted d (h .state) t (patchAsk d ws)) fs (patch-stays d t g f ws) (patch-anew d (h .state) t fs ws z) e
 
-  pub basic-as : (s : State) (t fs : List ℕ) {b c : Basic} {q : ResAll} → b ≡ c
-      → q ≡ steppedAll d (acted d s t (basicAsk d c w ws)) fs → q ≡ steppedAll d (acted d s t (basicAsk d b w ws)) fs
-  basic-as s t fs e z = asked-all d s t fs (sym (ap (λ (x : Basic). basicAsk d x w ws) e)) z
+  -- in either load: CLEAR, and every other
+  clear-in : (anew : Bool) → clearAskIn anew d w ws ≡ basicAskIn anew d Clear w ws
+  unfolding basicAsk isClear
+  clear-in true = refl
+  clear-in false = refl
 
--- ---- what a keyword begins
-module _ (d : Desk) (s : State) (k : Keyword) (w : Word) (ws : List Word) {x : Family} (e : x ≡ familyOf k) where
-  family-as : {y : Family} → x ≡ y → familyAsk d s y w ws ≡ familyAsk d s (familyOf k) w ws
-  family-as h = ap (λ (z : Family). familyAsk d s z w ws) (sym h ∙ e)
+  module _ (s : State) (t fs : List ℕ) (anew : Bool) {b : Basic} where
+    pub basic-clear : b ≡ Clear → {r : Stepped} {u : List ℕ} → stepping r u ≡ steppedOf d (acted d s t (clearAskIn anew d w ws))
+        → steppingAll r u fs ≡ steppedAll d (acted d s t (basicAskIn anew d b w ws)) fs
+    basic-clear e z =
+        asked-all d s t fs (clear-in anew ∙ ap (λ (x : Basic). basicAskIn anew d x w ws) (sym e))
+        (step-all (acted d s t (clearAskIn anew d w ws)) fs (item-faults d s t (itemOf (headOf ws .chars)) w (cond anew [] (tailOf ws))) d z)
 
-  pub family-primary : {kind : Kind} → x ≡ Primary kind → primaryAsk d kind w ws ≡ familyAsk d s (familyOf k) w ws
-  unfolding familyAsk
-  family-primary h = family-as h
+    pub basic-as : {c : Basic} {q : ResAll} → b ≡ c → isClear c ≡ false → q ≡ steppedAll d (acted d s t (basicAsk d c w ws)) fs
+        → q ≡ steppedAll d (acted d s t (basicAskIn anew d b w ws)) fs
+    basic-as {c} e n z =
+        asked-all d s t fs
+        (sym (cond-false (anew && isClear c) _ _ (and-false-right anew (isClear c) n)) ∙ ap (λ (x : Basic). basicAskIn anew d x w ws) (sym e))
+        z
 
-  pub family-secondary : {y : Secondary} → x ≡ Augments y → secondaryAsk d (s .key) (s .«open») y w ws ≡ familyAsk d s (familyOf k) w ws
-  unfolding familyAsk
-  family-secondary h = family-as h
+-- ---- what a keyword begins, in either load
+cond-and : {A : Type 0} (a b : Bool) (x y : A) → cond (a && b) x y ≡ cond a (cond b x y) y
+cond-and true b x y = refl
+cond-and false b x y = refl
 
-  pub family-basic : {b : Basic} → x ≡ BasicOf b → basicAsk d b w ws ≡ familyAsk d s (familyOf k) w ws
-  unfolding familyAsk
-  family-basic h = family-as h
+module _ (d : Desk) (m : Numbers) (s : State) (k : Keyword) (w : Word) (ws : List Word) {x : Family} (e : x ≡ familyOf k) where
+  family-as : {y : Family} → x ≡ y → familyAskIn d m s y w ws ≡ familyAskIn d m s (familyOf k) w ws
+  family-as h = ap (λ (z : Family). familyAskIn d m s z w ws) (sym h ∙ e)
+
+  pub family-primary : (t fs : List ℕ) {kind : Kind} → x ≡ Primary kind → {r : Stepped} {u : List ℕ}
+      → stepping r u ≡ steppedOf d (acted d nothingOpen t (primaryAskIn d m kind w ws))
+      → steppingAll r u fs ≡ steppedAll d (acted d s t (familyAskIn d m s (familyOf k) w ws)) fs
+  unfolding familyAskIn anewFamilyAsk familyAsk
+  family-primary t fs {kind} h z = asked-all d s t fs (family-as h) (primary-all d s t m kind w ws fs z)
+
+  secondary-as : {y : Secondary} → x ≡ Augments y → secondaryAskIn (m .anew) d s y w ws ≡ familyAskIn d m s (familyOf k) w ws
+  unfolding familyAskIn anewFamilyAsk familyAsk
+  secondary-as {y} h =
+      cond-and (m .anew) (asksLink (s .«open») y) (rests Obeyed) (secondaryAsk d (s .key) (s .«open») y w ws) ∙ family-as h
+
+  pub family-basic : {b : Basic} → x ≡ BasicOf b → basicAskIn (m .anew) d b w ws ≡ familyAskIn d m s (familyOf k) w ws
+  unfolding familyAskIn anewFamilyAsk familyAsk
+  family-basic {b} h =
+      cond-and (m .anew) (isClear b) (itemAsk d (itemOf (headOf ws .chars)) w []) (basicAsk d b w ws) ∙ family-as h
+
+-- a secondary leaves open what was open
+pub family-secondary : (d : Desk) (m : Numbers) (k : Keyword) (w : Word) (ws : List Word) {x : Family} → x ≡ familyOf k → (t fs : List ℕ) {h : Held}
+    → HeldReady d t h → Fitting d t → {y : Secondary} → x ≡ Augments y → {r : Did} {q : Stepped} {u us : List ℕ}
+    → doingAll r u us ≡ didAll (acted d (h .state) t (secondaryAskIn (m .anew) d (h .state) y w ws)) fs → q ≡ withHeld h r
+    → steppingAll q u us ≡ steppedAll d (acted d (h .state) t (familyAskIn d m (h .state) (familyOf k) w ws)) fs
+family-secondary d m k w ws e t fs {h} g f {y} c z v =
+    asked-all d (h .state) t fs (secondary-as d m (h .state) k w ws e c)
+    (held-with d (acted d (h .state) t (secondaryAskIn (m .anew) d (h .state) y w ws)) fs (secondary-stays d t g f (m .anew) y w ws) z v)
 
 -- ---- a record's first field
-pub step-blank : (d : Desk) (s : State) (text : List ℕ) {start : ℕ} → start ≡ startAt text 0 → length text ≤ start
-    → rests Blank ≡ fieldsAsk d s (wordsOf 0 text)
-unfolding fieldsAsk
-step-blank d s text e h =
-    let m : isMore text 0 ≡ false = le-ltb (startAt text 0) (length text) (subst (λ (n : ℕ). length text ≤ n) e h) in
-    sym (ap (λ (ws : List Word). fieldsAsk d s ws) (words-none text 0 m))
+pub step-blank : (d : Desk) (m : Numbers) (s : State) (text : List ℕ) {start : ℕ} → start ≡ startAt text 0 → length text ≤ start
+    → rests Blank ≡ fieldsAskIn d m s (wordsOf 0 text)
+unfolding fieldsAskIn
+step-blank d m s text e h =
+    let q : isMore text 0 ≡ false = le-ltb (startAt text 0) (length text) (subst (λ (n : ℕ). length text ≤ n) e h) in
+    sym (ap (λ (ws : List Word). fieldsAskIn d m s ws) (words-none text 0 q))
 
 module _ (text : List ℕ) {start : ℕ} (e : start ≡ startAt text 0) {said : Said} (g : said ≡ saidAt text start) where
   keyword-said : said ≡ record { keyword = keywordOf (headOf (wordsFrom text 0) .chars); end = endAt text 0 }
@@ -206,22 +238,22 @@ module _ (text : List ℕ) {start : ℕ} (e : start ≡ startAt text 0) {said : 
         short = h;
       }
 
-  pub step-as : (d : Desk) (s : State) → start < length text
-      → familyAsk d s (familyOf (said .keyword)) (keywordIn text) (wordsFrom text (said .end)) ≡ fieldsAsk d s (wordsOf 0 text)
-  unfolding fieldsAsk
-  step-as d s h =
-      let m : isMore text 0 ≡ true = lt-ltb (startAt text 0) (length text) (subst (λ (n : ℕ). n < length text) e h) in
+  pub step-as : (d : Desk) (m : Numbers) (s : State) → start < length text
+      → familyAskIn d m s (familyOf (said .keyword)) (keywordIn text) (wordsFrom text (said .end)) ≡ fieldsAskIn d m s (wordsOf 0 text)
+  unfolding fieldsAskIn
+  step-as d m s h =
+      let q : isMore text 0 ≡ true = lt-ltb (startAt text 0) (length text) (subst (λ (n : ℕ). n < length text) e h) in
       let w : keywordIn text ≡ wordAt text 0 = words-head text 0 in
-      ap (λ (y : Said). familyAsk d s (familyOf (y .keyword)) (keywordIn text) (wordsFrom text (y .end))) keyword-said
-      ∙ (λ i. familyAsk d s (familyOf (keywordOf (w i .chars))) (w i) (wordsFrom text (endAt text 0)))
-      ∙ sym (ap (λ (ws : List Word). fieldsAsk d s ws) (words-some text 0 m))
+      ap (λ (y : Said). familyAskIn d m s (familyOf (y .keyword)) (keywordIn text) (wordsFrom text (y .end))) keyword-said
+      ∙ (λ i. familyAskIn d m s (familyOf (keywordOf (w i .chars))) (w i) (wordsFrom text (endAt text 0)))
+      ∙ sym (ap (λ (ws : List Word). fieldsAskIn d m s ws) (words-some text 0 q))
 
 -- and at most forty faults
-pub step-told : (d : Desk) (s : State) (t text fs : List ℕ) → length text ≤ longest → {r : Stepped} {u us : List ℕ}
-    → steppingAll r u us ≡ steppedAll d (stepOf d s (wordsOf 0 text) t) fs
-    → (steppingAll r u us ≡ steppedAll d (stepOf d s (wordsOf 0 text) t) fs) × (r .faults ≤ mostFaults)
+pub step-told : (d : Desk) (m : Numbers) (s : State) (t text fs : List ℕ) → length text ≤ longest → {r : Stepped} {u us : List ℕ}
+    → steppingAll r u us ≡ steppedAll d (textStep d m s (wordsOf 0 text) t) fs
+    → (steppingAll r u us ≡ steppedAll d (textStep d m s (wordsOf 0 text) t) fs) × (r .faults ≤ mostFaults)
 unfolding steppedAll steppedOf
-step-told d s t text fs h {r} e =
-    let a : r .faults ≡ length (stepOf d s (wordsOf 0 text) t .faults) = ap (λ (y : ResAll). y .res .stepped .faults) e in
-    let b : length (stepOf d s (wordsOf 0 text) t .faults) ≤ mostFaults = text-few d s text t h in
+step-told d m s t text fs h {r} e =
+    let a : r .faults ≡ length (textStep d m s (wordsOf 0 text) t .faults) = ap (λ (y : ResAll). y .res .stepped .faults) e in
+    let b : length (textStep d m s (wordsOf 0 text) t .faults) ≤ mostFaults = text-in-few d m s text t h in
     (e, (let z : r .faults ≤ mostFaults = omega arith in z))

@@ -22,6 +22,7 @@ use Rattle.store.proofs.Places.{put-length}
 use Rattle.store.proofs.Start.{blank-length, started-at, start-own, found-used}
 use Rattle.store.proofs.Edits.{in-time-fits}
 use Rattle.store_code.specs.Fits.{Fitting}
+use Rattle.load.specs.declared.Numbers.{Numbers}
 use Rattle.load.specs.declared.State.{State}
 use Rattle.load.specs.declared.Open.{Open}
 use Rattle.load.specs.declared.Open.the-variants.{Memory}
@@ -30,11 +31,13 @@ use Rattle.load.specs.declared.Outcome.the-variants.{Dropped}
 use Rattle.load.specs.Condition.{fullOf}
 use Rattle.load.specs.Item.{blameNone, memory, page, allDone}
 use Rattle.load.specs.Ask.{Ask, name}
-use Rattle.load.specs.Step.{Step, ended, skipping as skippingState, wiped, openedBy, acted, recordStep}
-use Rattle.load.proofs.Deed.{Deed, resting, skipping, opening, editing, setting, patching, clearing, record-deed}
+use Rattle.load.specs.Step.{Step, ended, skipping as skippingState, slotBy, wiped, openedBy, acted}
+use Rattle.load.specs.Translated.{stepIn}
+use Rattle.load.proofs.Deed.{Deed, resting, skipping, opening, editing, setting, patching, clearing}
+use Rattle.load.proofs.Anew.{anew-record-deed}
 use Rattle.load.proofs.Wiped.{wiped-length}
 use Rattle.load_items.proofs.Done.{slot-find, slot-length, page-find, page-length}
-use Rattle.load_held.specs.Held.{slotBy, IsKept, Settled}
+use Rattle.load_held.specs.Held.{IsKept, Settled}
 use Rattle.load_held.proofs.Holding.{skipping-settled, memory-settled, settle-settled, settled-stays, edited-find, edited-length}
 
 -- ---- what is kept
@@ -94,7 +97,7 @@ module _ (d : Desk) (t : List ℕ) (f : Fitting d t) where
         record { settled = settled-stays d t (allDone d (page p) t es) (page-find d t f p w es h) g; long = page-length d t f p w es h }
     deed-keeps n (clearing xs h) = record { settled = settle-settled d (wiped d xs t) s (g .fits); long = wiped-length d xs h t (f .long) }
 
-    -- a record as received, over-long or not
-    pub record-keeps : (r : List ℕ) → Keeps d t (recordStep d s r t)
-    unfolding recordStep
-    record-keeps r = deed-keeps (length (tailOf (fieldsOf r))) (record-deed d s r)
+    -- a record as received, over-long or not, in either load
+    pub step-keeps : (b : Numbers) (r : List ℕ) → Keeps d t (stepIn d b s r t)
+    unfolding stepIn
+    step-keeps b r = deed-keeps (length (tailOf (fieldsOf r))) (anew-record-deed d b s r)

@@ -1,11 +1,12 @@
--- A primary: its memory started at a seat, no room; refused, not supported; what was open plays no part. By cases on the seat and the name.
+-- A primary in either load: its memory started at a seat, no room; refused, not supported; what was open plays no part. By cases on the seat
+-- and the name.
 -- Assumes nothing.
-use mathlib.Core.Path.{_≡_, refl, sym, ap, _∙_}
-use mathlib.Core.Bool.{Bool, true, false}
+use mathlib.Core.Path.{_≡_, refl, sym, ap, _∙_, subst}
+use mathlib.Core.Bool.{Bool, true, false, cond}
 use mathlib.Core.List.{List}
 use Prim.Native.Nat.{ℕ}
 use Rattle.cells.specs.Search.{Found, at, nowhere}
-use Rattle.cells.proofs.Split.{by-test, cond-true, cond-false}
+use Rattle.cells.proofs.Split.{by-test, by-bool, cond-true, cond-false, cond-ap}
 use Rattle.store_desk.specs.declared.Desk.{Desk}
 use Rattle.store_desk.specs.declared.Key.{Key}
 use Rattle.store_desk.specs.declared.Kind.{Kind}
@@ -23,18 +24,22 @@ use Rattle.store_code.proofs.Found.{place-at, place-nowhere}
 use Rattle.load.specs.declared.Fault.{Fault}
 use Rattle.load.specs.declared.Named.{Named}
 use Rattle.load.specs.declared.Named.the-variants.{Refused, Name as Accepted}
+use Rattle.load.specs.declared.Numbers.{Numbers}
 use Rattle.load.specs.declared.State.{State}
 use Rattle.load.specs.declared.Open.the-variants.{Skipping}
 use Rattle.load.specs.declared.Outcome.the-variants.{Dropped, Obeyed}
 use Rattle.load.specs.Condition.{fullOf, unsupportedOf}
 use Rattle.load.specs.Item.{blame, blameNone}
 use Rattle.load.specs.Ask.{Ask, skips, opens, name, namedOf, namedAsk, primaryAsk}
-use Rattle.load.specs.Step.{Step, ended, nothingOpen, skipping, opened, openedBy, acted}
-use Rattle.load.proofs.Read.{accepted-ok}
-use Rattle.load.proofs.Steps.{primary-faults}
+use Rattle.load.specs.Anew.{nextNamed, anewPrimaryAsk}
+use Rattle.load.specs.Fits.{namedIn, primaryAskIn}
+use Rattle.load.specs.Step.{Step, ended, nothingOpen, skipping, opened, slotBy, openedBy, acted}
+use Rattle.load.proofs.Read.{NamedOk, accepted-ok}
+use Rattle.load.proofs.Anew.{next-named-ok}
+use Rattle.load.proofs.Steps.{primary-in-faults}
 use Rattle.load_held.specs.declared.Held.{Held}
 use Rattle.load_held.specs.declared.Stepped.{Stepped}
-use Rattle.load_held.specs.Held.{slotBy, heldOf, stepping, steppedOf, steppingAll, steppedAll}
+use Rattle.load_held.specs.Held.{heldOf, stepping, steppedOf, steppingAll, steppedAll}
 use Rattle.load_held.specs.Parts.{resting, endedAs}
 use Rattle.load_held.proofs.Answers.{ended-as, step-all, skips-as}
 
@@ -75,48 +80,63 @@ module _ (d : Desk) (k : Kind) (key : Key) (t : List ℕ) {p : Place} {u : List 
       ∙ ap (λ (x : Fault). steppedOf d (ended skipping (Dropped x) t)) (b ∙ ap (λ (x : ℕ). blameNone x) g)
       ∙ ap (λ (x : Step). steppedOf d x) (opened-by a)
 
--- ---- support, then the name
-module _ (d : Desk) (k : Kind) (w : Word) (ws : List Word) {b : Bool} (s : b ≡ supported d k) where
-  pub primary-unsupported : b ≡ false → {c : ℕ} {f : Fault} → c ≡ unsupportedOf k → f ≡ blame w c → skips (Dropped f) ≡ primaryAsk d k w ws
-  unfolding primaryAsk
-  primary-unsupported h g e =
-      ap (λ (x : Fault). skips (Dropped x)) (e ∙ ap (λ (x : ℕ). blame w x) g) ∙ sym (cond-false (supported d k) _ _ (sym s ∙ h))
+-- ---- support, then the name, in either load
+module _ (d : Desk) (m : Numbers) (k : Kind) (w : Word) (ws : List Word) where
+  abbrev by-name : Named → Ask
+  by-name n = cond (supported d k) (namedAsk k n) (skips (Dropped (blame w (unsupportedOf k))))
 
-  module _ (h : b ≡ true) {n : Named} (g : n ≡ namedOf d k ws) where
-    named-by : {m : Named} → n ≡ m → namedAsk k m ≡ primaryAsk d k w ws
-    unfolding primaryAsk
-    named-by e = ap (λ (x : Named). namedAsk k x) (sym e ∙ g) ∙ sym (cond-true (supported d k) _ _ (sym s ∙ h))
+  primary-is : by-name (namedIn d m k ws) ≡ primaryAskIn d m k w ws
+  unfolding anewPrimaryAsk primaryAsk
+  primary-is = cond-ap by-name (m .anew) (nextNamed d m k ws) (namedOf d k ws)
 
-    pub primary-refused : {f : Fault} → n ≡ Refused f → skips (Dropped f) ≡ primaryAsk d k w ws
-    unfolding namedAsk
-    primary-refused {f} e = named-by {m = Refused f} e
+  module _ {b : Bool} (s : b ≡ supported d k) where
+    pub primary-unsupported : b ≡ false → {c : ℕ} {f : Fault} → c ≡ unsupportedOf k → f ≡ blame w c → skips (Dropped f) ≡ primaryAskIn d m k w ws
+    primary-unsupported h g e =
+        ap (λ (x : Fault). skips (Dropped x)) (e ∙ ap (λ (x : ℕ). blame w x) g) ∙ sym (cond-false (supported d k) _ _ (sym s ∙ h)) ∙ primary-is
 
-    pub primary-opened : {key : Key} → n ≡ Accepted key → opens k key ≡ primaryAsk d k w ws
-    unfolding namedAsk
-    primary-opened {key} e = named-by {m = Accepted key} e
+    module _ (h : b ≡ true) {n : Named} (g : n ≡ namedIn d m k ws) where
+      named-by : {x : Named} → n ≡ x → namedAsk k x ≡ primaryAskIn d m k w ws
+      named-by e = ap (λ (x : Named). namedAsk k x) (sym e ∙ g) ∙ sym (cond-true (supported d k) _ _ (sym s ∙ h)) ∙ primary-is
 
-module _ (d : Desk) (k : Kind) (ws : List Word) {b : Bool} (s : b ≡ supported d k) (h : b ≡ true) {n : Named} (g : n ≡ namedOf d k ws) where
+      pub primary-refused : {f : Fault} → n ≡ Refused f → skips (Dropped f) ≡ primaryAskIn d m k w ws
+      unfolding namedAsk
+      primary-refused {f} e = named-by {x = Refused f} e
+
+      pub primary-opened : {key : Key} → n ≡ Accepted key → opens k key ≡ primaryAskIn d m k w ws
+      unfolding namedAsk
+      primary-opened {key} e = named-by {x = Accepted key} e
+
+-- an accepted name is one that the desk can have
+module _ (d : Desk) (m : Numbers) (k : Kind) (ws : List Word) {b : Bool} (s : b ≡ supported d k) (h : b ≡ true) {n : Named}
+    (g : n ≡ namedIn d m k ws) where
   pub primary-ok : InRange d → {key : Key} → n ≡ Accepted key → okName d (name k key) ≡ true
-  primary-ok r e = accepted-ok d k r (sym s ∙ h) ws (sym g ∙ e)
+  primary-ok r {key} e =
+      let q : namedIn d m k ws ≡ Accepted key = sym g ∙ e in
+      by-bool (m .anew)
+      (λ a. subst (λ (x : Named). NamedOk d k x) (sym (cond-true (m .anew) _ _ a) ∙ q) (next-named-ok d k (sym s ∙ h) m ws) r)
+      (λ a. accepted-ok d k r (sym s ∙ h) ws (sym (cond-false (m .anew) _ _ a) ∙ q))
 
 -- ---- what was open plays no part
-module _ (d : Desk) (s : State) (t : List ℕ) (k : Kind) where
-  abbrev Anew : Ask → Type 0
-  Anew a = acted d nothingOpen t a ≡ acted d s t a
+module _ (d : Desk) (s : State) (t : List ℕ) (m : Numbers) (k : Kind) where
+  abbrev Alike : Ask → Type 0
+  Alike a = acted d nothingOpen t a ≡ acted d s t a
 
-  named-anew : (n : Named) → Anew (namedAsk k n)
+  named-alike : (n : Named) → Alike (namedAsk k n)
   unfolding namedAsk acted
-  named-anew (Refused f) = refl
-  named-anew (Accepted key) = refl
+  named-alike (Refused f) = refl
+  named-alike (Accepted key) = refl
 
-  primary-anew : (w : Word) (ws : List Word) → Anew (primaryAsk d k w ws)
-  unfolding primaryAsk acted
-  primary-anew w ws =
-      by-test Anew (supported d k) (namedAsk k (namedOf d k ws)) (skips (Dropped (blame w (unsupportedOf k)))) (λ e. named-anew (namedOf d k ws)) (λ e. refl)
+  by-name-alike : (w : Word) (ws : List Word) (n : Named) → Alike (by-name d m k w ws n)
+  unfolding acted
+  by-name-alike w ws n =
+      by-test Alike (supported d k) (namedAsk k n) (skips (Dropped (blame w (unsupportedOf k)))) (λ e. named-alike n) (λ e. refl)
+
+  primary-alike : (w : Word) (ws : List Word) → Alike (primaryAskIn d m k w ws)
+  primary-alike w ws = subst Alike (primary-is d m k w ws) (by-name-alike w ws (namedIn d m k ws))
 
   -- with the lent list of faults
   pub primary-all : (w : Word) (ws : List Word) (fs : List ℕ) {r : Stepped} {u : List ℕ}
-      → stepping r u ≡ steppedOf d (acted d nothingOpen t (primaryAsk d k w ws))
-      → steppingAll r u fs ≡ steppedAll d (acted d s t (primaryAsk d k w ws)) fs
+      → stepping r u ≡ steppedOf d (acted d nothingOpen t (primaryAskIn d m k w ws))
+      → steppingAll r u fs ≡ steppedAll d (acted d s t (primaryAskIn d m k w ws)) fs
   primary-all w ws fs z =
-      step-all (acted d s t (primaryAsk d k w ws)) fs (primary-faults d s t k w ws) d (z ∙ ap (λ (x : Step). steppedOf d x) (primary-anew w ws))
+      step-all (acted d s t (primaryAskIn d m k w ws)) fs (primary-in-faults d s t m k w ws) d (z ∙ ap (λ (x : Step). steppedOf d x) (primary-alike w ws))

@@ -1,12 +1,13 @@
--- A secondary: the change that it asks for can be written, and is made in the slot of the open memory; CHAN's pairs; what does not apply.
+-- A secondary: the change that it asks for can be written, and is made in the slot of the open memory; CHAN's pairs; what does not apply; a
+-- LINK that is only heard.
 -- By cases on what the fields ask for and on what is open.
 -- Assumes nothing.
 use mathlib.Core.Path.{_≡_, refl, sym, ap, _∙_, subst}
-use mathlib.Core.Bool.{Bool, true, false, false≢true}
+use mathlib.Core.Bool.{Bool, true, false, _&&_, false≢true}
 use mathlib.Core.List.{List, []}
 use Prim.Native.Nat.{ℕ}
 use Rattle.cells.specs.Search.{at}
-use Rattle.cells.proofs.Split.{by-test, cond-true, cond-false}
+use Rattle.cells.proofs.Split.{by-test, cond-true, cond-false, and-false-left, and-false-right, and-then}
 use Rattle.store_desk.specs.declared.Desk.{Desk}
 use Rattle.store_desk.specs.declared.Kind.{Kind}
 use Rattle.store_desk.specs.declared.Kind.the-variants.{Cue}
@@ -33,7 +34,9 @@ use Rattle.load.specs.declared.Reading.the-variants.{Wrong as Misread, Change}
 use Rattle.load.specs.Condition.{wrongSecondary}
 use Rattle.load.specs.Item.{blame, pairsOf, memory, allDone}
 use Rattle.load.specs.Ask.{Ask, rests, edits, name, augments, timesOf, changeAsk, obeyedAsk, secondaryAsk}
-use Rattle.load.specs.Step.{acted}
+use Rattle.load.specs.Anew.{isLink, linksIn, asksLink}
+use Rattle.load.specs.Fits.{secondaryAskIn}
+use Rattle.load.specs.Step.{slotBy, acted}
 use Rattle.load.proofs.Entries.{pairs-fit}
 use Rattle.load.proofs.Read.{NoLevel, ChangeOk, ReadingOk, reading-ok}
 use Rattle.load_items.specs.declared.Aim.the-variants.{Slot}
@@ -41,7 +44,7 @@ use Rattle.load_items.specs.Take.{Taken, takenAs, takenOf}
 use Rattle.load_items.proofs.Done.{done-slot, slot-find}
 use Rattle.load_held.specs.declared.Did.{Did}
 use Rattle.load_held.specs.declared.Held.{Held}
-use Rattle.load_held.specs.Held.{slotBy, heldOf, IsKept, HeldReady}
+use Rattle.load_held.specs.Held.{heldOf, IsKept, HeldReady}
 use Rattle.load_held.specs.Parts.{kindIn, openName, IsOpen, didAs, doing, didOf, DeedsAll, doingAll, didAll}
 use Rattle.load_step.specs.Parts.{hasItems, ReadingFits}
 use Rattle.load_held.proofs.Holding.{open-found, held-stays, edited-find}
@@ -164,6 +167,44 @@ module _ (d : Desk) (s : State) (e : Secondary) (w : Word) (ws : List Word) wher
     secondary-obeyed z =
         ap (λ (x : Open). obeyedAsk d (name (kindIn x) (s .key)) e ws) o ∙ sym (cond-true (augments k e) _ _ (sym a ∙ z)) ∙ ap Asked (sym o)
 
+-- ---- a LINK of an open cue, in a load with translation
+module _ (anew : Bool) (e : Secondary) where
+  pub link-given : (o : Open) → anew ≡ false → false ≡ (anew && asksLink o e)
+  link-given o a = sym (and-false-left anew (asksLink o e) a)
+
+  never-links : (o : Open) → asksLink o e ≡ false → false ≡ (anew && asksLink o e)
+  never-links o q = sym (and-false-right anew (asksLink o e) q)
+
+  module _ {o : Open} where
+    pub link-nothing : o ≡ Nothing → false ≡ (anew && asksLink o e)
+    unfolding linksIn
+    link-nothing q = never-links o (ap (λ (x : Open). asksLink x e) q)
+
+    pub link-skipping : o ≡ Skipping → false ≡ (anew && asksLink o e)
+    unfolding linksIn
+    link-skipping q = never-links o (ap (λ (x : Open). asksLink x e) q)
+
+    module _ {k : Kind} (q : o ≡ Memory k) {b : Bool} (h : b ≡ hasLink k) where
+      pub link-none : b ≡ false → false ≡ (anew && asksLink o e)
+      unfolding linksIn
+      link-none f = never-links o (ap (λ (x : Open). asksLink x e) q ∙ and-false-left (hasLink k) (isLink e) (sym h ∙ f))
+
+      pub link-cue : b ≡ true → anew ≡ true → {r : Bool} → r ≡ isLink e → r ≡ (anew && asksLink o e)
+      unfolding linksIn
+      link-cue t a z =
+          z
+          ∙ and-then (hasLink k) (isLink e) (sym h ∙ t)
+          ∙ ap (λ (x : Open). asksLink x e) (sym q)
+          ∙ and-then anew (asksLink o e) a
+
+-- it is heard, and asks for nothing
+module _ (d : Desk) (s : State) (anew : Bool) (e : Secondary) (w : Word) (ws : List Word) {b : Bool} (h : b ≡ (anew && asksLink (s .«open») e)) where
+  pub augment-heard : b ≡ true → rests Obeyed ≡ secondaryAskIn anew d s e w ws
+  augment-heard t = sym (cond-true (anew && asksLink (s .«open») e) (rests Obeyed) (secondaryAsk d (s .key) (s .«open») e w ws) (sym h ∙ t))
+
+  pub augment-obeyed : b ≡ false → secondaryAsk d (s .key) (s .«open») e w ws ≡ secondaryAskIn anew d s e w ws
+  augment-obeyed f = sym (cond-false (anew && asksLink (s .«open») e) (rests Obeyed) (secondaryAsk d (s .key) (s .«open») e w ws) (sym h ∙ f))
+
 -- ---- what is open stays open, in its slot
 module _ (d : Desk) (t : List ℕ) {h : Held} (g : HeldReady d t h) (f : Fitting d t) where
   abbrev Stays : Ask → Type 0
@@ -208,5 +249,8 @@ module _ (d : Desk) (t : List ℕ) {h : Held} (g : HeldReady d t h) (f : Fitting
       (λ a. obeyed-stays k q e a ws)
       (λ a. rests-stay (Dropped (blame w wrongSecondary)))
 
-  pub secondary-stays : (e : Secondary) (w : Word) (ws : List Word) → Stays (secondaryAsk d (h .state .key) (h .state .«open») e w ws)
-  secondary-stays e w ws = open-stays e w ws (h .state .«open») refl
+  pub secondary-stays : (anew : Bool) (e : Secondary) (w : Word) (ws : List Word) → Stays (secondaryAskIn anew d (h .state) e w ws)
+  secondary-stays anew e w ws =
+      by-test Stays (anew && asksLink (h .state .«open») e) (rests Obeyed) (secondaryAsk d (h .state .key) (h .state .«open») e w ws)
+      (λ a. rests-stay Obeyed)
+      (λ a. open-stays e w ws (h .state .«open») refl)

@@ -1,16 +1,18 @@
 // One record's step of the load: what its keyword asks for, done to the store (paper 01, "Keywords and conditions").
 ghost use mathlib.Core.Path.{_≡_};
-ghost use mathlib.Core.Bool.{true};
+ghost use mathlib.Core.Bool.{true, _&&_};
 ghost use Prim.Native.Nat.{_≤_};
-ghost use Rattle.store_desk.specs.Name.{okName};
+ghost use Rattle.store_desk.specs.Name.{supported, okName};
 ghost use Rattle.text_fields.specs.Words.{wordsOf, headOf};
 ghost use Rattle.text_fields.specs.Places.{wordsFrom};
 ghost use Rattle.value.specs.Field.{versionOf};
 ghost use Rattle.store_code.specs.Fits.{Fitting};
-ghost use Rattle.load.specs.Ask.{name, opens, primaryAsk, changeAsk, obeyedAsk, secondaryAsk, patchAsk, identOutcome, familyOf, basicAsk, familyAsk};
+ghost use Rattle.load.specs.Ask.{name, opens, changeAsk, obeyedAsk, secondaryAsk, patchAsk, identOutcome, familyOf};
+ghost use Rattle.load.specs.Anew.{asksLink, familyAskIn};
+ghost use Rattle.load.specs.Fits.{NumbersFit, namedIn, primaryAskIn, secondaryAskIn, basicAskIn, textStep};
 ghost use Rattle.load.specs.Condition.{identMismatch};
 ghost use Rattle.load.specs.Item.{blame};
-ghost use Rattle.load.specs.Step.{nothingOpen, acted, stepOf};
+ghost use Rattle.load.specs.Step.{nothingOpen, acted};
 ghost use Rattle.load_naming.specs.Line.{Line};
 ghost use Rattle.load_items.specs.Done.{mostFaults};
 ghost use Rattle.load_held.specs.Held.{HeldReady, Stepping, Room, stepping, steppedOf, steppingAll, steppedAll};
@@ -20,6 +22,7 @@ use load::Basic;
 use load::Family;
 use load::Fault;
 use load::Named;
+use load::Numbers;
 use load::Open;
 use load::Outcome;
 use load::Reading;
@@ -78,14 +81,35 @@ fn opened(desk: Desk, kind: Kind, key: Key, store: &mut [u8]) -> Stepped
     }
 }
 
-// Support, then number, page, room.
-fn primary(desk: Desk, kind: Kind, text: &[u8], at: usize, store: &mut [u8]) -> Stepped
-    requires { ⌜ Fitting desk (now store) ⌝ }
+// A primary's name: as its fields have it, or the next one.
+fn name_in(desk: Desk, numbers: Numbers, kind: Kind, text: &[u8], at: usize) -> Named
+    requires { ⌜ supported desk kind ≡ true ⌝ }
+    requires { ⌜ NumbersFit numbers ⌝ }
     requires { ⌜ Line (now text) at ⌝ }
-    ensures { λ r. ⌜ stepping r (now (store .exit)) ≡ steppedOf desk (acted desk nothingOpen (now (store .entry)) (primaryAsk desk kind (keywordIn (now (text .entry))) (wordsFrom (now (text .entry)) at))) ⌝ }
+    ensures { λ r. ⌜ r ≡ namedIn desk numbers kind (wordsFrom (now (text .entry)) at) ⌝ }
+{
+    if numbers.anew {
+        return load_naming::next_name(desk, numbers, kind, text, at);
+    }
+    load_naming::name_at(desk, kind, text, at)
+}
+
+// Support, then number, page, room.
+fn primary(
+    desk: Desk,
+    numbers: Numbers,
+    kind: Kind,
+    text: &[u8],
+    at: usize,
+    store: &mut [u8],
+) -> Stepped
+    requires { ⌜ Fitting desk (now store) ⌝ }
+    requires { ⌜ NumbersFit numbers ⌝ }
+    requires { ⌜ Line (now text) at ⌝ }
+    ensures { λ r. ⌜ stepping r (now (store .exit)) ≡ steppedOf desk (acted desk nothingOpen (now (store .entry)) (primaryAskIn desk numbers kind (keywordIn (now (text .entry))) (wordsFrom (now (text .entry)) at))) ⌝ }
 {
     if store_desk::supports(desk, kind) {
-        match load_naming::name_at(desk, kind, text, at) {
+        match name_in(desk, numbers, kind, text, at) {
             Named::Refused(fault) => return refused(fault),
             Named::Name(key) => return opened(desk, kind, key, store),
         }
@@ -192,6 +216,49 @@ fn secondary(
     }
 }
 
+// In a load with translation a LINK of an open cue is obeyed, whatever it asks for.
+fn asks_link(held: Held, anew: bool, e: Secondary) -> bool
+    ensures { λ r. ⌜ r ≡ (anew && asksLink (held .state .«open») e) ⌝ }
+{
+    if !anew {
+        return false;
+    }
+    let state = held.state;
+    let open = state.open;
+    match open {
+        Open::Nothing => false,
+        Open::Skipping => false,
+        Open::Memory(kind) => {
+            if store_code::has_link(kind) {
+                return load_naming::is_link(e);
+            }
+            false
+        }
+    }
+}
+
+fn augmented(
+    desk: Desk,
+    held: Held,
+    anew: bool,
+    e: Secondary,
+    text: &[u8],
+    at: usize,
+    store: &mut [u8],
+    faults: &mut [u32],
+) -> Did
+    requires { ⌜ Fitting desk (now store) ⌝ }
+    requires { ⌜ Line (now text) at ⌝ }
+    requires { ⌜ HeldReady desk (now store) held ⌝ }
+    requires { ⌜ Room (now faults) ⌝ }
+    ensures { λ r. ⌜ doingAll r (now (store .exit)) (now (faults .exit)) ≡ didAll (acted desk (held .state) (now (store .entry)) (secondaryAskIn anew desk (held .state) e (keywordIn (now (text .entry))) (wordsFrom (now (text .entry)) at))) (now (faults .entry)) ⌝ }
+{
+    if asks_link(held, anew, e) {
+        return answered(Outcome::Obeyed);
+    }
+    secondary(desk, held, e, text, at, store, faults)
+}
+
 // ---- PATCH, IDENT
 
 fn patch(desk: Desk, text: &[u8], at: usize, store: &mut [u8], faults: &mut [u32]) -> Did
@@ -239,37 +306,10 @@ fn ident(text: &[u8], at: usize) -> Outcome
 
 // ---- the step
 
-// What a keyword begins; each family has one place that calls it.
-fn family_of(k: Keyword) -> Family
-    ensures { λ r. ⌜ r ≡ familyOf k ⌝ }
-{
-    match k {
-        Keyword::Ident => Family::Basic(Basic::Ident),
-        Keyword::Clear => Family::Basic(Basic::Clear),
-        Keyword::Patch => Family::Basic(Basic::Patch),
-        Keyword::Cue => Family::Primary(Kind::Cue),
-        Keyword::Group => Family::Primary(Kind::Group),
-        Keyword::Sub => Family::Primary(Kind::Sub),
-        Keyword::Chan => Family::Augments(Secondary::Chan),
-        Keyword::Up => Family::Augments(Secondary::Up),
-        Keyword::Down => Family::Augments(Secondary::Down),
-        Keyword::Followon => Family::Augments(Secondary::Followon),
-        Keyword::Link => Family::Augments(Secondary::Link),
-        Keyword::Enddata => Family::Basic(Basic::Enddata),
-        Keyword::Manufacturer => Family::Basic(Basic::Passed),
-        Keyword::Console => Family::Basic(Basic::Passed),
-        Keyword::Set => Family::Basic(Basic::Passed),
-        Keyword::Text => Family::Basic(Basic::Passed),
-        Keyword::Part => Family::Basic(Basic::Passed),
-        Keyword::Local => Family::Basic(Basic::Local),
-        Keyword::Comment => Family::Basic(Basic::Passed),
-        Keyword::Unknown => Family::Basic(Basic::Unknown),
-    }
-}
-
 fn obey_basic(
     desk: Desk,
     held: Held,
+    anew: bool,
     b: Basic,
     text: &[u8],
     at: usize,
@@ -280,11 +320,11 @@ fn obey_basic(
     requires { ⌜ Line (now text) at ⌝ }
     requires { ⌜ HeldReady desk (now store) held ⌝ }
     requires { ⌜ Room (now faults) ⌝ }
-    ensures { λ r. ⌜ steppingAll r (now (store .exit)) (now (faults .exit)) ≡ steppedAll desk (acted desk (held .state) (now (store .entry)) (basicAsk desk b (keywordIn (now (text .entry))) (wordsFrom (now (text .entry)) at))) (now (faults .entry)) ⌝ }
+    ensures { λ r. ⌜ steppingAll r (now (store .exit)) (now (faults .exit)) ≡ steppedAll desk (acted desk (held .state) (now (store .entry)) (basicAskIn anew desk b (keywordIn (now (text .entry))) (wordsFrom (now (text .entry)) at))) (now (faults .entry)) ⌝ }
 {
     match b {
         Basic::Ident => ended(held, ident(text, at)),
-        Basic::Clear => clear(desk, held, text, at, store),
+        Basic::Clear => clear(desk, held, anew, text, at, store),
         Basic::Patch => with_held(held, patch(desk, text, at, store, faults)),
         Basic::Enddata => ended(held, Outcome::Stopped(load::blameless(0))),
         Basic::Passed => ended(held, Outcome::Passed),
@@ -297,6 +337,7 @@ fn obey_basic(
 fn obey(
     desk: Desk,
     held: Held,
+    numbers: Numbers,
     k: Keyword,
     text: &[u8],
     at: usize,
@@ -304,30 +345,42 @@ fn obey(
     faults: &mut [u32],
 ) -> Stepped
     requires { ⌜ Fitting desk (now store) ⌝ }
+    requires { ⌜ NumbersFit numbers ⌝ }
     requires { ⌜ Line (now text) at ⌝ }
     requires { ⌜ HeldReady desk (now store) held ⌝ }
     requires { ⌜ Room (now faults) ⌝ }
-    ensures { λ r. ⌜ steppingAll r (now (store .exit)) (now (faults .exit)) ≡ steppedAll desk (acted desk (held .state) (now (store .entry)) (familyAsk desk (held .state) (familyOf k) (keywordIn (now (text .entry))) (wordsFrom (now (text .entry)) at))) (now (faults .entry)) ⌝ }
+    ensures { λ r. ⌜ steppingAll r (now (store .exit)) (now (faults .exit)) ≡ steppedAll desk (acted desk (held .state) (now (store .entry)) (familyAskIn desk numbers (held .state) (familyOf k) (keywordIn (now (text .entry))) (wordsFrom (now (text .entry)) at))) (now (faults .entry)) ⌝ }
 {
-    match family_of(k) {
-        Family::Primary(kind) => primary(desk, kind, text, at, store),
-        Family::Augments(e) => with_held(held, secondary(desk, held, e, text, at, store, faults)),
-        Family::Basic(b) => obey_basic(desk, held, b, text, at, store, faults),
+    match load_naming::family_of(k) {
+        Family::Primary(kind) => primary(desk, numbers, kind, text, at, store),
+        Family::Augments(e) => {
+            let did = augmented(desk, held, numbers.anew, e, text, at, store, faults);
+            with_held(held, did)
+        }
+        Family::Basic(b) => obey_basic(desk, held, numbers.anew, b, text, at, store, faults),
     }
 }
 
 // One record. A record with no field is blank.
-pub fn step(desk: Desk, held: Held, text: &[u8], store: &mut [u8], faults: &mut [u32]) -> Stepped
+pub fn step(
+    desk: Desk,
+    held: Held,
+    numbers: Numbers,
+    text: &[u8],
+    store: &mut [u8],
+    faults: &mut [u32],
+) -> Stepped
     requires { ⌜ Stepping desk held (now text) (now store) ⌝ }
+    requires { ⌜ NumbersFit numbers ⌝ }
     requires { ⌜ Room (now faults) ⌝ }
-    ensures { λ r. ⌜ steppingAll r (now (store .exit)) (now (faults .exit)) ≡ steppedAll desk (stepOf desk (held .state) (wordsOf 0 (now (text .entry))) (now (store .entry))) (now (faults .entry)) ⌝ }
+    ensures { λ r. ⌜ steppingAll r (now (store .exit)) (now (faults .exit)) ≡ steppedAll desk (textStep desk numbers (held .state) (wordsOf 0 (now (text .entry))) (now (store .entry))) (now (faults .entry)) ⌝ }
     ensures { λ r. ⌜ r .faults ≤ mostFaults ⌝ }
 {
     let start = text_fields::field_start(text, 0);
     if start < text.len() {
         let said = text_fields::keyword_at(text, start);
         let k = said.keyword;
-        return obey(desk, held, k, text, said.end, store, faults);
+        return obey(desk, held, numbers, k, text, said.end, store, faults);
     }
     ended(held, Outcome::Blank)
 }

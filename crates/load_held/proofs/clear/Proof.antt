@@ -4,7 +4,8 @@ use mathlib.Core.Path.{_≡_, _∙_}
 use Rattle.text_fields.specs.declared.Item.{Item}
 use Rattle.text_fields.specs.Places.{wordsFrom}
 use Rattle.store_code.specs.Fits.{Fitting}
-use Rattle.load.specs.Ask.{itemAsk, clearAsk}
+use Rattle.load.specs.Ask.{itemAsk}
+use Rattle.load.specs.Fits.{clearAskIn}
 use Rattle.load_naming.specs.Line.{Line}
 use Rattle.load_held.specs.Held.{HeldReady}
 use Rattle.load_held.specs.Parts.{keywordIn}
@@ -19,23 +20,28 @@ abbrev began : tie.After-field-start → tie.Start
 began f = f .before .before .before
 
 -- what each item may ask of: the store, the rest of the record, what is open
-ready : (i : tie.After-item-at)
-    → let s = began (i .before) in Fitting (s .args .desk) (s .args .store .now) × (Line (s .args .text .now) (i .item-at .result .end) × HeldReady (s .args .desk) (s .args .store .now) (s .args .held))
+ready : (i : tie.After-page-place)
+    → let s = began (i .before .before) in Fitting (s .args .desk) (s .args .store .now) × (Line (s .args .text .now) (i .page-place .result) × HeldReady (s .args .desk) (s .args .store .now) (s .args .held))
 ready i =
-    let f = i .before in
-    let s = began f in
-    (s .pre .0, (item-line _ _ (f .field-start .ensures) (i .item-at .ensures) (s .pre .1 .0), s .pre .1 .1))
+    let s = began (i .before .before) in
+    (s .pre .0, (record { within = i .page-place .ensures .1; short = s .pre .1 .0 .short }, s .pre .1 .1))
 
 -- what CLEAR asks for, by its item
-asks : (i : tie.After-item-at) {y : Item} → i .item-at .result .item ≡ y
-    → let s = began (i .before) in itemAsk (s .args .desk) y (keywordIn (s .args .text .now)) (wordsFrom (s .args .text .now) (i .item-at .result .end)) ≡ clearAsk (s .args .desk) (keywordIn (s .args .text .now)) (wordsFrom (s .args .text .now) (s .args .at))
-asks i e = clear-as _ _ (i .before .field-start .ensures) (i .item-at .ensures) _ e
+asks : (i : tie.After-page-place) {y : Item} → i .before .item-at .result .item ≡ y
+    → let s = began (i .before .before) in itemAsk (s .args .desk) y (keywordIn (s .args .text .now)) (wordsFrom (s .args .text .now) (i .page-place .result)) ≡ clearAskIn (s .args .every) (s .args .desk) (keywordIn (s .args .text .now)) (wordsFrom (s .args .text .now) (s .args .at))
+asks i e =
+    let s = began (i .before .before) in
+    clear-as _ _ (i .before .before .field-start .ensures) (i .before .item-at .ensures) _ (s .args .every) _ (i .page-place .ensures .0) e
 
 field-start-requires : tie.Need-field-start-requires
 field-start-requires c κs = search needs
 
 item-at-requires : tie.Need-item-at-requires
 item-at-requires c κs = item-start (c .field-start .ensures) (began c .pre .1 .0)
+
+page-place-requires : tie.Need-page-place-requires
+page-place-requires c κs =
+    item-line _ _ (c .before .field-start .ensures) (c .item-at .ensures) (began (c .before) .pre .1 .0) .within
 
 enum-told : tie.Need-enum-told
 enum-told c = search needs
@@ -150,6 +156,7 @@ clear-spec =
     (tie.spec
     field-start-requires
     item-at-requires
+    page-place-requires
     enum-told
     clear-all-requires
     enum-told-2

@@ -1,5 +1,10 @@
 -- `primary` meets its contract: support, then the name.
 -- Assumes nothing.
+use mathlib.Core.Path.{sym, _∙_}
+use mathlib.Core.List.{List}
+use Rattle.text_fields.specs.Words.{Word}
+use Rattle.text_fields.specs.Places.{wordsFrom}
+use Rattle.load_held.specs.Parts.{keywordIn}
 use Rattle.load_held.proofs.Answers.{asked-as, skips-as}
 use Rattle.load_step.proofs.Primaries.{primary-unsupported, primary-refused, primary-opened, primary-ok}
 use borrow.Author.Needs.{needs}
@@ -7,17 +12,30 @@ use Rattle.load_step.proofs.primary.Statement.{statement}
 use Rattle.load_step.proofs.primary.Tie as tie
 
 -- the places that the answers speak of, each from a later one: the kind supported, the name known
-abbrev supported : tie.After-name-at → tie.Then1
+abbrev supported : tie.After-name-in → tie.Then1
 supported n = n .before
 
 abbrev known : tie.After-opened-arg → tie.After-key
 known c = c .before .before
 
+-- the start, and there the keyword and the fields behind it
+abbrev began : tie.After-supports → tie.Start
+began u = u .before .before .before
+
+abbrev keyword : tie.Start → Word
+keyword s = keywordIn (s .args .text .now)
+
+abbrev words : tie.Start → List Word
+words s = wordsFrom (s .args .text .now) (s .args .at)
+
 supports-requires : tie.Need-supports-requires
 supports-requires c κs = search needs
 
-name-at-requires : tie.Need-name-at-requires
-name-at-requires c κs = search needs
+name-in-requires : tie.Need-name-in-requires
+name-in-requires c κs =
+    let u = c .before in
+    let s = began u in
+    (sym (u .supports .ensures) ∙ c .if1 .taken, (s .pre .1 .0, s .pre .1 .1))
 
 enum-known-fault : tie.Need-enum-known-fault
 enum-known-fault c = search needs
@@ -30,7 +48,8 @@ returns c =
     let f = c .before .before in
     let n = f .before .before in
     let y = supported n in
-    asked-as _ _ _ (primary-refused _ _ _ _ (y .before .supports .ensures) (y .if1 .taken) (n .name-at .ensures) (f .fault .given .1)) (skips-as _ _ _ _ (c .refused .ensures))
+    let s = began (y .before) in
+    asked-as _ _ _ (primary-refused _ (s .args .numbers) _ (keyword s) (words s) (y .before .supports .ensures) (y .if1 .taken) (n .name-in .ensures) (f .fault .given .1)) (skips-as _ _ _ _ (c .refused .ensures))
 
 enum-known-key : tie.Need-enum-known-key
 enum-known-key c = search needs
@@ -41,8 +60,8 @@ opened-requires c κs =
     let n = k .before .before in
     let y = supported n in
     let u = y .before in
-    let s = u .before .before .before in
-    (s .pre .0, primary-ok _ _ _ (u .supports .ensures) (y .if1 .taken) (n .name-at .ensures) (s .pre .0 .range) (k .key .given .1))
+    let s = began u in
+    (s .pre .0, primary-ok _ (s .args .numbers) _ (words s) (u .supports .ensures) (y .if1 .taken) (n .name-in .ensures) (s .pre .0 .range) (k .key .given .1))
 
 same-length : tie.Need-same-length
 same-length c = search needs
@@ -53,7 +72,8 @@ returns-2 c =
     let k = known (o .before) in
     let n = k .before .before in
     let y = supported n in
-    asked-as _ _ _ (primary-opened _ _ _ _ (y .before .supports .ensures) (y .if1 .taken) (n .name-at .ensures) (k .key .given .1)) (o .opened .ensures)
+    let s = began (y .before) in
+    asked-as _ _ _ (primary-opened _ (s .args .numbers) _ (keyword s) (words s) (y .before .supports .ensures) (y .if1 .taken) (n .name-in .ensures) (k .key .given .1)) (o .opened .ensures)
 
 unsupported-requires : tie.Need-unsupported-requires
 unsupported-requires c κs = search needs
@@ -68,14 +88,15 @@ returns-3 : tie.Need-returns-3
 returns-3 c =
     let b = c .before in
     let l = b .before .before in
-    asked-as _ _ _ (primary-unsupported _ _ _ _ (l .before .supports .ensures) (l .if1 .left) (b .before .unsupported .ensures) (b .blamed-at .ensures)) (skips-as _ _ _ _ (c .refused2 .ensures))
+    let s = began (l .before) in
+    asked-as _ _ _ (primary-unsupported _ (s .args .numbers) _ (keyword s) (words s) (l .before .supports .ensures) (l .if1 .left) (b .before .unsupported .ensures) (b .blamed-at .ensures)) (skips-as _ _ _ _ (c .refused2 .ensures))
 
 pub primary-spec : {M : Type 1} → statement M
 primary-spec =
     tie.close
     (tie.spec
     supports-requires
-    name-at-requires
+    name-in-requires
     enum-known-fault
     refused-requires
     returns

@@ -30,7 +30,7 @@ obey-requires c κs =
     let k = said c in
     let f = k .before .before in
     let s = began f in
-    (s .pre .0 .fitting, (step-line _ (f .field-start .ensures) (k .keyword-at .ensures) (s .pre .0 .short), (s .pre .0 .ready, s .pre .1)))
+    (s .pre .0 .fitting, (s .pre .1 .0, (step-line _ (f .field-start .ensures) (k .keyword-at .ensures) (s .pre .0 .short), (s .pre .0 .ready, s .pre .1 .1))))
 
 same-length : tie.Need-same-length
 same-length c = search needs
@@ -39,7 +39,7 @@ same-length-2 : tie.Need-same-length-2
 same-length-2 c = search needs
 
 returns : tie.Need-returns
-returns c = step-told _ _ _ _ _ (began (heard c .before .before) .pre .0 .short) (asked-all _ _ _ _ (step-as _ (heard c .before .before .field-start .ensures) (heard c .keyword-at .ensures) _ _ (heard c .before .if1 .taken)) (did c .obey .ensures))
+returns c = step-told _ _ _ _ _ _ (began (heard c .before .before) .pre .0 .short) (asked-all _ _ _ _ (step-as _ (heard c .before .before .field-start .ensures) (heard c .keyword-at .ensures) _ _ _ (heard c .before .if1 .taken)) (did c .obey .ensures))
 
 ended-requires : tie.Need-ended-requires
 ended-requires c κs = search needs
@@ -48,7 +48,7 @@ returns-2 : tie.Need-returns-2
 returns-2 c =
     let f = c .before .before in
     let s = began f in
-    step-told _ _ _ _ _ (s .pre .0 .short) (asked-all _ _ _ _ (step-blank _ _ _ (f .field-start .ensures) (c .before .if1 .left)) (rests-all _ _ _ (s .pre .0 .ready) (c .ended .ensures) _))
+    step-told _ _ _ _ _ _ (s .pre .0 .short) (asked-all _ _ _ _ (step-blank _ _ _ _ (f .field-start .ensures) (c .before .if1 .left)) (rests-all _ _ _ (s .pre .0 .ready) (c .ended .ensures) _))
 
 pub step-spec : {M : Type 1} → statement M
 step-spec =

@@ -2,8 +2,8 @@
 -- Assumes nothing.
 use Rattle.load.specs.Ask.{familyOf}
 use borrow.Author.Needs.{needs}
-use Rattle.load_step.proofs.family_of.Statement.{statement}
-use Rattle.load_step.proofs.family_of.Tie as tie
+use Rattle.load_naming.proofs.family_of.Statement.{statement}
+use Rattle.load_naming.proofs.family_of.Tie as tie
 
 enum-told : tie.Need-enum-told
 enum-told c = search needs
