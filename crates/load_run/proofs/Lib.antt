@@ -1,3 +1,4 @@
 pub mod Taking
 pub mod Kept
 pub mod Turn
+pub mod Closing

@@ -2,7 +2,7 @@
 -- By unfolding the definitions along those equations.
 -- Assumes nothing.
 use mathlib.Core.Path.{_≡_, refl, sym, ap, _∙_, subst}
-use mathlib.Core.Bool.{Bool, true, false, not, _||_}
+use mathlib.Core.Bool.{Bool, true, false, cond, not, _||_}
 use mathlib.Core.List.{List, [], _∷_, _++_}
 use Prim.Native.Nat.{ℕ, _+_, _-_, _≤_}
 use native.Mathlib.Omega.{arith}
@@ -24,17 +24,23 @@ use Rattle.text_fields.specs.Words.{wordsOf, fieldsOf}
 use Rattle.store_code.specs.Fits.{Fitting}
 use Rattle.text_fields.proofs.Counts.{words-few}
 use Rattle.load.specs.declared.Fault.{Fault}
+use Rattle.load.specs.declared.Heard.{Heard}
+use Rattle.load.specs.declared.Heard.the-variants.{Other}
+use Rattle.load.specs.declared.Numbers.{Numbers}
 use Rattle.load.specs.declared.State.{State}
 use Rattle.load.specs.declared.Outcome.the-variants.{Stopped, Blank}
 use Rattle.load.specs.Condition.{overLongRecord}
 use Rattle.load.specs.Item.{blameNone}
-use Rattle.load.specs.Ask.{isOverLong, askOf}
-use Rattle.load.specs.Step.{Step, ended, acted, stepOf, recordStep, ignoredIn, outcomeFaults, reportedOf}
+use Rattle.load.specs.Ask.{isOverLong}
+use Rattle.load.specs.Anew.{askIn, fieldsHeard, heardIn, numbered}
+use Rattle.load.specs.Step.{Step, ended, acted, ignoredIn, outcomeFaults, reportedOf}
+use Rattle.load.specs.Translated.{stepIn}
 use Rattle.load.specs.Run.{stops}
-use Rattle.load.specs.Fits.{Small, Near}
-use Rattle.load.proofs.Steps.{Modest, saidBy, step-said}
-use Rattle.load.proofs.Counts.{blank-step, blank-said}
-use Rattle.load.proofs.Told.{said-near}
+use Rattle.load.specs.Fits.{Small, Near, mostRecords, textStep}
+use Rattle.load.proofs.Anew.{heard-empty, heard-long}
+use Rattle.load.proofs.Steps.{Modest, saidBy, step-in-said}
+use Rattle.load.proofs.Counts.{blank-step-in, blank-said}
+use Rattle.load.proofs.Told.{said-in-near}
 use Rattle.load_items.specs.Done.{faultsIn, mostFaults}
 use Rattle.load_items.proofs.Faults.{faults-back}
 use Rattle.load_held.specs.declared.Held.{Held}
@@ -42,7 +48,7 @@ use Rattle.load_held.specs.declared.Stepped.{Stepped}
 use Rattle.load_held.specs.Held.{heldOf, HeldReady, Room, ResAll, steppingAll, steppedOf, steppedAll}
 use Rattle.load_tell.specs.declared.Count.{Count}
 use Rattle.load_run.specs.declared.Progress.{Progress}
-use Rattle.load_tell.specs.Count.{tallied, told, toldAs, toldAll, ignoredBy, faultsAs, mostRecords, Tellable, Countable}
+use Rattle.load_tell.specs.Count.{tallied, told, toldAs, toldAll, ignoredBy, faultsAs, Tellable, Countable}
 use Rattle.load_run.specs.Take.{taken, takenBy, textTaken, recordTaken, blankTaken, TextOf, Spans, Taking}
 use Rattle.load_tell.proofs.Telling.{near-more, none-told, told-single, said-room}
 
@@ -80,18 +86,24 @@ module _ (d : Desk) (x : Step) (fs : List ℕ) {s : Stepped} {t ws : List ℕ} (
     said-same ig = λ i. ig ++ (outcomeFaults (stepped-outcome i) ++ stepped-faults i)
 
     -- the step taken
-    pub step-taken : (n : Count) (r l : List ℕ) (ig : List Fault) {h : Held} {c : Count} {k : List ℕ} {b : Bool}
+    pub step-taken : (n : Count) (b : Numbers) (r text l : List ℕ) (ig : List Fault) {h : Held} {c : Count} {k : List ℕ} {m : Numbers} {a : Heard} {g : Bool}
         → h ≡ s .held
         → told c k ≡ toldAll r (told (tallied n (s .outcome)) l) (ig ++ (outcomeFaults (s .outcome) ++ faultsAs (take (s .faults) ws)))
-        → b ≡ stops (s .outcome)
-        → taken (record { held = h; count = c; stopped = b }) t k ≡ takenBy d n r l x (ig ++ saidBy x)
+        → a ≡ cond (b .anew) (fieldsHeard (wordsOf 0 text) (s .outcome)) Other
+        → m ≡ numbered b a
+        → g ≡ stops (s .outcome)
+        → taken (record { held = h; count = c; numbers = m; heard = a; stopped = g }) t k
+        ≡ takenBy d n b r l x (ig ++ saidBy x) (cond (b .anew) (fieldsHeard (wordsOf 0 text) (x .outcome)) Other)
     unfolding takenBy
-    step-taken n r l ig {h} {c} {k} {b} y f a =
+    step-taken n b r text l ig {h} {c} {k} {m} {a} {g} y f j e z =
         let q : told c k ≡ toldAll r (told (tallied n (x .outcome)) l) (ig ++ saidBy x) =
         f ∙ (λ i. toldAll r (told (tallied n (stepped-outcome i)) l) (said-same ig i)) in
-        let z : b ≡ stops (x .outcome) = a ∙ ap stops stepped-outcome in
+        let u : g ≡ stops (x .outcome) = z ∙ ap stops stepped-outcome in
         let v : h ≡ heldOf d (x .store) (x .state) = y ∙ stepped-held in
-        λ i. taken (record { held = v i; count = q i .count; stopped = z i }) (stepped-store i) (q i .list)
+        let o : a ≡ cond (b .anew) (fieldsHeard (wordsOf 0 text) (x .outcome)) Other =
+        j ∙ (λ i. cond (b .anew) (fieldsHeard (wordsOf 0 text) (stepped-outcome i)) Other) in
+        let w : m ≡ numbered b (cond (b .anew) (fieldsHeard (wordsOf 0 text) (x .outcome)) Other) = e ∙ ap (λ (y : Heard). numbered b y) o in
+        λ i. taken (record { held = v i; count = q i .count; numbers = w i; heard = o i; stopped = u i }) (stepped-store i) (q i .list)
 
     -- there is room for its faults
     pub step-room : (n : Count) (r : List ℕ) (size : ℕ) (high control : Bool) → Countable n → n .reports + size ≤ mostRecords → length r ≤ longest
@@ -102,17 +114,18 @@ module _ (d : Desk) (x : Step) (fs : List ℕ) {s : Stepped} {t ws : List ℕ} (
         (said-room r n (s .outcome) size high control (saidBy x) h k z m q)
 
 -- no more of them than characters of the text
-pub text-said : (d : Desk) (s : State) (text t : List ℕ) → Modest (length text) (saidBy (stepOf d s (wordsOf 0 text) t))
-text-said d s text t =
-    let m = step-said d s (wordsOf 0 text) t in
-    let f : length (saidBy (stepOf d s (wordsOf 0 text) t)) ≤ length (wordsOf 0 text) = m .few in
+pub text-said : (d : Desk) (b : Numbers) (s : State) (text t : List ℕ) → Modest (length text) (saidBy (textStep d b s (wordsOf 0 text) t))
+text-said d b s text t =
+    let m = step-in-said d b s (wordsOf 0 text) t in
+    let f : length (saidBy (textStep d b s (wordsOf 0 text) t)) ≤ length (wordsOf 0 text) = m .few in
     let w : length (wordsOf 0 text) ≤ length text = words-few 0 text in
     record { few = omega arith; small = m .small }
 
 -- and each is within the record
-pub text-near : (d : Desk) (s : State) (r text t : List ℕ) → Fitting d t → length text ≤ length r
-    → Near (length r) (saidBy (stepOf d s (wordsOf 0 text) t))
-text-near d s r text t f l = near-more (length text) (length r) l (saidBy (stepOf d s (wordsOf 0 text) t)) (said-near d (f .range .cues .0) s t text)
+pub text-near : (d : Desk) (b : Numbers) (s : State) (r text t : List ℕ) → Fitting d t → length text ≤ length r
+    → Near (length r) (saidBy (textStep d b s (wordsOf 0 text) t))
+text-near d b s r text t f l =
+    near-more (length text) (length r) l (saidBy (textStep d b s (wordsOf 0 text) t)) (said-in-near d (f .range .cues .0) s t b text)
 
 -- ---- a record's text at the front of some bytes, and the sorts of ignored characters in it
 pub record Texted (xs bytes : List ℕ) (n : ℕ) (high control : Bool) : Type 0 where
@@ -200,11 +213,12 @@ module _ (s : List ℕ) (at end : ℕ) {plain : Bool} (w : Spans s at end plain)
 module _ {xs bytes : List ℕ} {n : ℕ} {high control : Bool} (w : Texted xs bytes n high control) where
   pub text-taken : (d : Desk) (p : Progress) (t l : List ℕ) → isOverLong xs ≡ false
       → textTaken d p xs (take n bytes) high control t l ≡ recordTaken d p xs t l
-  unfolding recordStep askOf reportedOf ignoredIn fieldsOf
+  unfolding stepIn askIn reportedOf ignoredIn fieldsOf heardIn
   text-taken d p t l o =
       rw o (λ i.
-      let x = stepOf d (p .held .state) (wordsOf 0 (w .text i)) t in
-      takenBy d (p .count) xs l x (ignoredBy (w .highs i) (w .controls i) ++ saidBy x))
+      let x = textStep d (p .numbers) (p .held .state) (wordsOf 0 (w .text i)) t in
+      takenBy d (p .count) (p .numbers) xs l x (ignoredBy (w .highs i) (w .controls i) ++ saidBy x)
+      (cond (p .numbers .anew) (fieldsHeard (wordsOf 0 (w .text i)) (x .outcome)) Other))
 
   pub text-room : {d : Desk} {p : Progress} {t : List ℕ} → length xs ≤ longest → Taking d p (length xs) t
       → TextOf xs (take n bytes) high control × Taking d p (length (take n bytes)) t
@@ -213,27 +227,32 @@ module _ {xs bytes : List ℕ} {n : ℕ} {high control : Bool} (w : Texted xs by
       let b : length (keptOf xs) ≤ length xs = kept-length xs in
       let f : p .count .reports + length xs ≤ mostRecords = k .room in (
         record { short = h; within = omega arith; marred = λ i. w .highs i || w .controls i },
-        record { fitting = k .fitting; ready = k .ready; countable = k .countable; room = omega arith },
+        record { fitting = k .fitting; ready = k .ready; numbered = k .numbered; countable = k .countable; room = omega arith },
       )
 
 -- ---- an over-long one
 pub long-taken : (d : Desk) (p : Progress) (r t l : List ℕ) {n : Count} {k : List ℕ} → isOverLong r ≡ true → HeldReady d t (p .held)
     → told n k ≡ toldAs (told (tallied (p .count) (Stopped (blameNone overLongRecord))) l) overLongRecord 0
-    → taken (record { held = p .held; count = n; stopped = true }) t k ≡ recordTaken d p r t l
-unfolding recordStep askOf acted reportedOf outcomeFaults takenBy stops
+    → taken (record { held = p .held; count = n; numbers = p .numbers; heard = Other; stopped = true }) t k ≡ recordTaken d p r t l
+unfolding stepIn askIn acted reportedOf outcomeFaults takenBy stops numbered
 long-taken d p r t l {n} {k} o h e =
     let q : told n k ≡ toldAll r (told (tallied (p .count) (Stopped (blameNone overLongRecord))) l) (blameNone overLongRecord ∷ []) =
     e ∙ none-told r _ overLongRecord ∙ told-single r _ (blameNone overLongRecord) in
-    rw o (λ i. taken (record { held = h .same i; count = q i .count; stopped = true }) t (q i .list))
+    let b = p .numbers in
+    let a : Other ≡ heardIn b r (Stopped (blameNone overLongRecord)) = sym (heard-long b r (Stopped (blameNone overLongRecord)) o) in
+    rw o (λ i. taken (record { held = h .same i; count = q i .count; numbers = numbered b (a i); heard = a i; stopped = true }) t (q i .list))
 
 -- ---- one with no character
 pub blank-taken : (d : Desk) (p : Progress) (r t l : List ℕ) {q : Progress} → r ≡ [] → HeldReady d t (p .held) → q ≡ blankTaken p
     → taken q t l ≡ recordTaken d p r t l
-unfolding takenBy stops toldAll
+unfolding takenBy stops toldAll numbered
 blank-taken d p r t l {q} e h f =
     let s = p .held .state in
+    let b = p .numbers in
+    let a : Other ≡ heardIn b [] Blank = sym (heard-empty b Blank) in
+    let x : ended s Blank t ≡ stepIn d b s [] t = sym (blank-step-in d b s t) in
     (λ i. taken (f i) t l)
-    ∙ (λ i. taken (record { held = h .same i; count = tallied (p .count) Blank; stopped = false }) t l)
-    ∙ (λ i. takenBy d (p .count) [] l (ended s Blank t) (sym (blank-said s t) i))
-    ∙ (λ i. takenBy d (p .count) [] l (sym (blank-step d s t) i) (reportedOf [] (sym (blank-step d s t) i)))
+    ∙ (λ i. taken (record { held = h .same i; count = tallied (p .count) Blank; numbers = numbered b (a i); heard = a i; stopped = false }) t l)
+    ∙ (λ i. takenBy d (p .count) b [] l (ended s Blank t) (sym (blank-said s t) i) (heardIn b [] Blank))
+    ∙ (λ i. takenBy d (p .count) b [] l (x i) (reportedOf [] (x i)) (heardIn b [] (x i .outcome)))
     ∙ (λ i. recordTaken d p (sym e i) t l)

@@ -1,5 +1,5 @@
--- The load's loop: where it starts, a turn, a turn that stops it, and its end, over the definitions. What is read so far stands in
--- front of the run of what is left; by unfolding one record of the run.
+-- The walk's loop: where it starts, a turn, a turn that stops it, and its end, over the definitions. What is read so far stands in
+-- front of the run of what is left, and what was noted of it is in the lent lists; by unfolding one record of the run and of its notes.
 -- Assumes nothing.
 use mathlib.Core.Path.{_≡_, refl, sym, ap, _∙_, subst}
 use mathlib.Core.Bool.{Bool, true, false}
@@ -9,30 +9,36 @@ use native.Mathlib.Omega.{arith}
 use lib.Dec.{eqb}
 use lib.ListN.{length, getD, take, drop, length-append, length-map}
 use Rattle.store_desk.specs.declared.Desk.{Desk}
+use Rattle.store_desk.specs.declared.Kind.the-variants.{Cue, Group, Sub}
 use Rattle.text_records.specs.Stream.{isEnd, recordsOf, recordEnd, nextStart}
-use Rattle.text_records.specs.Cleaning.{columnOf}
 use Rattle.text_records.specs.Window.{plainEnd}
 use Rattle.text_records.proofs.Received.{part-length}
 use Rattle.text_records.proofs.Stream.{records-at, records-end, start-forward, start-within, end-within}
 use Rattle.text_records.proofs.Plain.{plain-within, end-is, end-here}
+use Rattle.value.proofs.Numbers.{borne-most}
 use Rattle.store_code.specs.Fits.{Fitting}
 use Rattle.store_code.proofs.Laws.{fitting-kept}
+use Rattle.load.specs.declared.Heard.{Heard}
+use Rattle.load.specs.declared.Heard.the-variants.{Other, Accepted, Refused, Link as Asked}
+use Rattle.load.specs.declared.Numbers.{Numbers}
 use Rattle.load.specs.declared.State.{State}
 use Rattle.load.specs.declared.Outcome.{Outcome}
-use Rattle.load.specs.declared.Totals.{Totals}
-use Rattle.load.specs.Condition.{noEnddata}
-use Rattle.load.specs.Item.{blameNone}
-use Rattle.load.specs.Step.{Step, recordStep, reportedOf}
-use Rattle.load.specs.Run.{Report, Run, stops, reportsAt, runFrom, loadOf, allReports, storedIn, conditionSpan}
-use Rattle.load.proofs.Counts.{record-said, stored-none}
+use Rattle.load.specs.Anew.{heardIn, numbered}
+use Rattle.load.specs.Step.{Step, nothingOpen, slotOf, reportedOf}
+use Rattle.load.specs.Run.{Report, Run, stops, reportsAt, storedIn}
+use Rattle.load.specs.Translated.{stepIn, numbersAfter, runIn, Note, notesIn, askedAt, askedBy}
+use Rattle.load.specs.Fits.{mostRecords}
+use Rattle.load.proofs.Anew.{by-heard, NumbersAt, numbers-fit, numbered-at}
+use Rattle.load.proofs.Counts.{step-in-record-said, stored-none}
 use Rattle.load_held.specs.declared.Held.{Held}
 use Rattle.load_held.specs.Held.{heldOf, HeldReady}
+use Rattle.load_hear.specs.Marks.{markedAt, triedAt, Noted, noting, notedAt, AskFits, marksBy}
 use Rattle.load_tell.specs.declared.Count.{Count}
 use Rattle.load_run.specs.declared.Progress.{Progress}
-use Rattle.load_tell.specs.Count.{countOf, totalsBy, tallied, Told, told, toldAs, toldAll, Reportable, Countable, mostRecords}
+use Rattle.load_tell.specs.Count.{countOf, tallied, Told, told, toldAll, Countable}
 use Rattle.load_run.specs.Take.{Took, taken, takenBy, recordTaken, blankTaken, Spans, Taking}
-use Rattle.load_run.specs.Loaded.{Loaded, runLoaded, loadedOf, begunOf}
-use Rattle.load_tell.proofs.Counting.{count-record, after, told-one, told-all, totals-same, count-countable, count-reportable}
+use Rattle.load_run.specs.Loaded.{begunOf, FromNone, Walked, walked, walkedBy, walkOf}
+use Rattle.load_tell.proofs.Counting.{count-record, after, told-all, count-countable}
 use Rattle.load_run.proofs.Kept.{ready-begun, ready-record}
 use Rattle.load_run.proofs.Taking.{blank-taken}
 
@@ -43,98 +49,179 @@ runAfter os rs y = record { state = y .state; store = y .store; stopped = y .sto
 abbrev pub runSo : State → List ℕ → Bool → List Outcome → List Report → Run
 runSo s t b os rs = record { state = s; store = t; stopped = b; outcomes = os; reports = rs }
 
-module _ (d : Desk) (n : ℕ) (s : State) (t r : List ℕ) (rest : List (List ℕ)) (os : List Outcome) (rs : List Report) where
-  run-turn : stops (recordStep d s r t .outcome) ≡ false
-      → runAfter os rs (runFrom d n s t (r ∷ rest))
-      ≡ runAfter (os ++ (recordStep d s r t .outcome ∷ [])) (rs ++ reportsAt (n + 1) r (reportedOf r (recordStep d s r t)))
-      (runFrom d (n + 1) (recordStep d s r t .state) (recordStep d s r t .store) rest)
-  unfolding runFrom
-  run-turn e =
-      let x = recordStep d s r t in
-      let y = runFrom d (n + 1) (x .state) (x .store) rest in
-      let cs = reportsAt (n + 1) r (reportedOf r x) in
-      rw e (λ i.
-      record {
-        state = y .state;
-        store = y .store;
-        stopped = y .stopped;
-        outcomes = sym (append-assoc os (x .outcome ∷ []) (y .outcomes)) i;
-        reports = sym (append-assoc rs cs (y .reports)) i;
-      })
+module _ (d : Desk) (b : Numbers) (s : State) (t r : List ℕ) (rest : List (List ℕ)) where
+  abbrev here : Step
+  here = stepIn d b s r t
 
-  run-stop : stops (recordStep d s r t .outcome) ≡ true
-      → runAfter os rs (runFrom d n s t (r ∷ rest))
-      ≡ runSo (recordStep d s r t .state) (recordStep d s r t .store) true (os ++ (recordStep d s r t .outcome ∷ []))
-      (rs ++ reportsAt (n + 1) r (reportedOf r (recordStep d s r t)))
-  unfolding runFrom
-  run-stop e = rw e refl
+  abbrev heard : Heard
+  heard = heardIn b r (here .outcome)
 
-run-end : (d : Desk) (n : ℕ) (s : State) (t : List ℕ) (os : List Outcome) (rs : List Report)
-    → runAfter os rs (runFrom d n s t []) ≡ runSo s t false os rs
-unfolding runFrom
-run-end d n s t os rs = λ i. runSo s t false (append-nil os i) (append-nil rs i)
+  -- what the rest is noted as
+  abbrev notes : List Note
+  notes = notesIn d (numbersAfter b r here) (here .state) (here .store) rest
 
--- ---- what a run is told as, from the counters
-told-loaded : (x : Run) (reps : List ℕ) {n : Count} {l t : List ℕ} → told n l ≡ after (x .outcomes) reps (allReports x) → t ≡ x .store
-    → runLoaded (totalsBy n) t l ≡ loadedOf x reps
-unfolding loadedOf
-told-loaded x reps {n} {l} {t} e f =
-    (λ i. runLoaded (totalsBy (e i .count)) (f i) (e i .list)) ∙ ap (λ (y : Totals). runLoaded y (x .store) (storedIn reps (allReports x))) (totals-same x)
+  module _ (e : stops (here .outcome) ≡ false) where
+    run-turn : (n : ℕ) (os : List Outcome) (rs : List Report)
+        → runAfter os rs (runIn d n b s t (r ∷ rest))
+        ≡ runAfter (os ++ (here .outcome ∷ [])) (rs ++ reportsAt (n + 1) r (reportedOf r here))
+        (runIn d (n + 1) (numbersAfter b r here) (here .state) (here .store) rest)
+    unfolding runIn
+    run-turn n os rs =
+        let x = stepIn d b s r t in
+        let y = runIn d (n + 1) (numbersAfter b r x) (x .state) (x .store) rest in
+        let cs = reportsAt (n + 1) r (reportedOf r x) in
+        rw e (λ i.
+        record {
+          state = y .state;
+          store = y .store;
+          stopped = y .stopped;
+          outcomes = sym (append-assoc os (x .outcome ∷ []) (y .outcomes)) i;
+          reports = sym (append-assoc rs cs (y .reports)) i;
+        })
 
-pub answered : (t l : List ℕ) {r x : Totals} {y : Loaded} → r ≡ x → runLoaded x t l ≡ y → runLoaded r t l ≡ y
-answered t l e f = ap (λ (z : Totals). runLoaded z t l) e ∙ f
+    marks-turn : (ms : List ℕ) (k : ℕ) → marksBy ms k (notesIn d b s t (r ∷ rest)) ≡ marksBy (markedAt ms k heard) (triedAt k heard) notes
+    unfolding notesIn marksBy
+    marks-turn ms k = rw e refl
+
+    asked-turn : (qs : List ℕ) → askedBy qs (notesIn d b s t (r ∷ rest)) ≡ askedBy (askedAt qs (slotOf d (here .store) (here .state)) heard) notes
+    unfolding notesIn askedBy
+    asked-turn qs = rw e refl
+
+  module _ (e : stops (here .outcome) ≡ true) where
+    run-stop : (n : ℕ) (os : List Outcome) (rs : List Report)
+        → runAfter os rs (runIn d n b s t (r ∷ rest))
+        ≡ runSo (here .state) (here .store) true (os ++ (here .outcome ∷ [])) (rs ++ reportsAt (n + 1) r (reportedOf r here))
+    unfolding runIn
+    run-stop n os rs = rw e refl
+
+    marks-stop : (ms : List ℕ) (k : ℕ) → marksBy ms k (notesIn d b s t (r ∷ rest)) ≡ markedAt ms k heard
+    unfolding notesIn marksBy
+    marks-stop ms k = rw e refl
+
+    asked-stop : (qs : List ℕ) → askedBy qs (notesIn d b s t (r ∷ rest)) ≡ askedAt qs (slotOf d (here .store) (here .state)) heard
+    unfolding notesIn askedBy
+    asked-stop qs = rw e refl
+
+module _ (d : Desk) (b : Numbers) (s : State) (t : List ℕ) where
+  run-end : (n : ℕ) (os : List Outcome) (rs : List Report) → runAfter os rs (runIn d n b s t []) ≡ runSo s t false os rs
+  unfolding runIn
+  run-end n os rs = λ i. runSo s t false (append-nil os i) (append-nil rs i)
+
+  marks-end : (ms : List ℕ) (k : ℕ) → marksBy ms k (notesIn d b s t []) ≡ ms
+  unfolding notesIn marksBy
+  marks-end ms k = refl
+
+  asked-end : (qs : List ℕ) → askedBy qs (notesIn d b s t []) ≡ qs
+  unfolding notesIn askedBy
+  asked-end qs = refl
+
+-- ---- what was heard of a record can be noted, and counts one CUE more at most
+heard-fits : (b : Numbers) (r : List ℕ) (o : Outcome) → AskFits (heardIn b r o)
+heard-fits = by-heard AskFits tt (λ k. tt) (λ k. tt) (λ s. borne-most s)
+
+tried-few : (k : ℕ) (h : Heard) → triedAt k h ≤ k + 1
+unfolding triedAt
+tried-few k Other = omega arith
+tried-few k (Accepted Cue) = omega arith
+tried-few k (Accepted Group) = omega arith
+tried-few k (Accepted Sub) = omega arith
+tried-few k (Refused Cue) = omega arith
+tried-few k (Refused Group) = omega arith
+tried-few k (Refused Sub) = omega arith
+tried-few k (Asked m) = omega arith
+
+nothing-noted : (k : ℕ) (ms qs : List ℕ) (slot : ℕ) {h : Heard} → h ≡ Other → noting k ms qs ≡ notedAt k ms qs h slot
+unfolding triedAt markedAt askedAt
+nothing-noted k ms qs slot e = ap (λ (x : Heard). notedAt k ms qs x slot) (sym e)
+
+-- ---- the answer, from its parts
+walked-as : (x : Run) (ns : List Note) (reps ms₀ qs₀ : List ℕ) (p : Progress) {t l ms qs : List ℕ} → told (p .count) l ≡ after (x .outcomes) reps (x .reports)
+    → p .stopped ≡ x .stopped → t ≡ x .store → ms ≡ marksBy ms₀ 0 ns → qs ≡ askedBy qs₀ ns
+    → walked p t l ms qs ≡ walkedBy x ns reps ms₀ qs₀
+unfolding walkedBy
+walked-as x ns reps ms₀ qs₀ p e f g a c = λ i. record { count = e i .count; stopped = f i; store = g i; reports = e i .list; marks = a i; asked = c i }
 
 -- ---- how far the load is
-pub record SoFar (d : Desk) (t₀ reps₀ stream : List ℕ) (p : Progress) (at : ℕ) (t reps : List ℕ) : Type 0 where
+pub record SoFar (d : Desk) (b : Numbers) (t₀ reps₀ ms₀ qs₀ stream : List ℕ) (p : Progress) (tried at : ℕ) (t reps ms qs : List ℕ) : Type 0 where
   pub outcomes : List Outcome
   pub reports : List Report
   pub long : length stream ≤ mostRecords
   pub within : at ≤ length stream
-  pub same : loadOf d t₀ stream ≡ runAfter outcomes reports (runFrom d (length outcomes) (p .held .state) t (recordsOf (drop at stream)))
+  pub going : p .stopped ≡ false
+  pub same :
+      runIn d 0 b nothingOpen t₀ (recordsOf stream)
+      ≡ runAfter outcomes reports (runIn d (length outcomes) (p .numbers) (p .held .state) t (recordsOf (drop at stream)))
+  pub marked :
+      marksBy ms₀ 0 (notesIn d b nothingOpen t₀ (recordsOf stream))
+      ≡ marksBy ms tried (notesIn d (p .numbers) (p .held .state) t (recordsOf (drop at stream)))
+  pub asking :
+      askedBy qs₀ (notesIn d b nothingOpen t₀ (recordsOf stream)) ≡ askedBy qs (notesIn d (p .numbers) (p .held .state) t (recordsOf (drop at stream)))
   pub count : p .count ≡ countOf outcomes reports
   pub list : reps ≡ storedIn reps₀ reports
   pub records-few : length outcomes ≤ at
   pub reports-few : length reports ≤ at
+  pub numbers-few : NumbersAt at (p .numbers)
+  pub tries-few : tried ≤ at
   pub fitting : Fitting d t
   pub ready : HeldReady d t (p .held)
   pub store-length : length t ≡ length t₀
   pub list-length : length reps ≡ length reps₀
+  pub marks-length : length ms ≡ length ms₀
+  pub asked-length : length qs ≡ length qs₀
 
-begun-far : (d : Desk) (t reps stream : List ℕ) → Fitting d t → length stream ≤ mostRecords → SoFar d t reps stream begunOf 0 t reps
-unfolding begunOf loadOf
-begun-far d t reps stream f h =
+begun-far : (d : Desk) (b : Numbers) (t reps ms qs stream : List ℕ) → Fitting d t → length stream ≤ mostRecords → FromNone b
+    → SoFar d b t reps ms qs stream (begunOf b) 0 0 t reps ms qs
+unfolding begunOf
+begun-far d b t reps ms qs stream f h z =
+    let c : b .cues ≡ 0 = z .cues in
+    let g : b .groups ≡ 0 = z .groups in
+    let u : b .subs ≡ 0 = z .subs in
     record {
       outcomes = [];
       reports = [];
       long = h;
       within = zero-le;
+      going = refl;
       same = refl;
+      marked = refl;
+      asking = refl;
       count = refl;
       list = sym (stored-none reps);
       records-few = zero-le;
       reports-few = zero-le;
+      numbers-few = record { cues = omega arith; groups = omega arith; subs = omega arith };
+      tries-few = zero-le;
       fitting = f;
-      ready = ready-begun d t;
+      ready = ready-begun d b t;
       store-length = refl;
       list-length = refl;
+      marks-length = refl;
+      asked-length = refl;
     }
 
-pub loop-start : (d : Desk) (t reps stream : List ℕ) {p : Progress} → Fitting d t → length stream ≤ mostRecords → p ≡ begunOf
-    → SoFar d t reps stream p 0 t reps
-loop-start d t reps stream f h e = subst (λ (q : Progress). SoFar d t reps stream q 0 t reps) (sym e) (begun-far d t reps stream f h)
+pub loop-start : (d : Desk) (b : Numbers) (t reps ms qs stream : List ℕ) {p : Progress} → Fitting d t → length stream ≤ mostRecords → FromNone b
+    → p ≡ begunOf b → SoFar d (p .numbers) t reps ms qs stream p 0 0 t reps ms qs
+unfolding begunOf
+loop-start d b t reps ms qs stream f h z e =
+    subst (λ (q : Progress). SoFar d (q .numbers) t reps ms qs stream q 0 0 t reps ms qs) (sym e) (begun-far d b t reps ms qs stream f h z)
+
+-- the loop knows the numbers that it began with by its first progress
+pub walk-from : (d : Desk) (b : Numbers) (t stream reps ms qs : List ℕ) {p : Progress} {x : Walked} → p ≡ begunOf b
+    → x ≡ walkOf d (p .numbers) t stream reps ms qs → x ≡ walkOf d b t stream reps ms qs
+unfolding begunOf
+walk-from d b t stream reps ms qs e f = f ∙ ap (λ (q : Progress). walkOf d (q .numbers) t stream reps ms qs) e
 
 -- ---- one more record
-module _ {d : Desk} {t₀ reps₀ stream : List ℕ} {p : Progress} {at : ℕ} {t reps : List ℕ} (w : SoFar d t₀ reps₀ stream p at t reps)
-    {end : ℕ} (h : at < length stream) (e : end ≡ recordEnd stream at) where
+module _ {d : Desk} {b : Numbers} {t₀ reps₀ ms₀ qs₀ stream : List ℕ} {p : Progress} {tried at : ℕ} {t reps ms qs : List ℕ}
+    (w : SoFar d b t₀ reps₀ ms₀ qs₀ stream p tried at t reps ms qs) {end : ℕ} (h : at < length stream) (e : end ≡ recordEnd stream at) where
   abbrev chars : List ℕ
   chars = take (end - at) (drop at stream)
 
   abbrev step : Step
-  step = recordStep d (p .held .state) chars t
+  step = stepIn d (p .numbers) (p .held .state) chars t
 
-  -- the run of some records, behind what is read so far
-  abbrev onward : List (List ℕ) → Run
-  onward rs = runAfter (w .outcomes) (w .reports) (runFrom d (length (w .outcomes)) (p .held .state) t rs)
+  abbrev hears : Heard
+  hears = heardIn (p .numbers) chars (step .outcome)
 
   pub end-in : (at ≤ end) × (end ≤ length stream)
   end-in =
@@ -160,6 +247,7 @@ module _ {d : Desk} {t₀ reps₀ stream : List ℕ} {p : Progress} {at : ℕ} {
       record {
         fitting = w .fitting;
         ready = w .ready;
+        numbered = numbers-fit at (omega arith) (w .numbers-few);
         countable = subst Countable (sym (w .count)) (count-countable (w .outcomes) (w .reports) (omega arith));
         room = omega arith;
       }
@@ -184,6 +272,18 @@ module _ {d : Desk} {t₀ reps₀ stream : List ℕ} {p : Progress} {at : ℕ} {
     unfolding heldOf
     left-state = ap (λ (x : Held). x .state) left-held
 
+    left-slot : q .held .slot ≡ slotOf d (step .store) (step .state)
+    unfolding heldOf
+    left-slot = ap (λ (x : Held). x .slot) left-held
+
+    left-numbers : q .numbers ≡ numbersAfter (p .numbers) chars step
+    unfolding takenBy
+    left-numbers = ap (λ (x : Took). x .done .numbers) f
+
+    left-heard : q .heard ≡ hears
+    unfolding takenBy
+    left-heard = ap (λ (x : Took). x .done .heard) f
+
     left-store : u ≡ step .store
     unfolding takenBy
     left-store = ap (λ (x : Took). x .store) f
@@ -204,79 +304,143 @@ module _ {d : Desk} {t₀ reps₀ stream : List ℕ} {p : Progress} {at : ℕ} {
         ∙ told-all outcomes' reps₀ chars rs fs
         ∙ ap (λ (k : ℕ). after outcomes' reps₀ (rs ++ reportsAt k chars fs)) outcomes-length
 
-    module _ {next : ℕ} (g : next ≡ nextStart stream end) where
-      left : List (List ℕ)
-      left = recordsOf (drop next stream)
+    -- what was heard of it can be noted
+    pub note-room : (tried ≤ mostRecords) × AskFits (q .heard)
+    note-room =
+        let a : at ≤ length stream = w .within in
+        let g : length stream ≤ mostRecords = w .long in
+        let k : tried ≤ at = w .tries-few in
+        (omega arith, subst AskFits (sym left-heard) (heard-fits (p .numbers) chars (step .outcome)))
 
-      run-here : loadOf d t₀ stream ≡ onward (chars ∷ left)
-      unfolding left
-      run-here = w .same ∙ ap onward (records-at stream h e g)
+    -- and is noted
+    module _ {tries : ℕ} {ms' qs' : List ℕ} (v : noting tries ms' qs' ≡ notedAt tried ms qs (q .heard) (q .held .slot)) where
+      noted : noting tries ms' qs' ≡ notedAt tried ms qs hears (slotOf d (step .store) (step .state))
+      noted = v ∙ (λ i. notedAt tried ms qs (left-heard i) (left-slot i))
 
-      next-in : (at < next) × (next ≤ length stream)
-      next-in =
-          let i : (at ≤ end) × (end ≤ length stream) = end-in in
-          let a : nextStart stream end ≤ length stream = start-within stream end (i .1) in
-          (start-forward stream h e g, (let k : next ≤ length stream = omega arith in k))
+      module _ {next : ℕ} (g : next ≡ nextStart stream end) where
+        left : List (List ℕ)
+        left = recordsOf (drop next stream)
 
-      pub loop-less : length stream - next < length stream - at
-      loop-less = let i : (at < next) × (next ≤ length stream) = next-in in omega arith
+        run-here : runIn d 0 b nothingOpen t₀ (recordsOf stream)
+            ≡ runAfter (w .outcomes) (w .reports) (runIn d (length (w .outcomes)) (p .numbers) (p .held .state) t (chars ∷ left))
+        unfolding left
+        run-here =
+            w .same
+            ∙ ap (λ (rs : List (List ℕ)). runAfter (w .outcomes) (w .reports) (runIn d (length (w .outcomes)) (p .numbers) (p .held .state) t rs))
+            (records-at stream h e g)
 
-      reports-length : length reports' ≤ next
-      unfolding reports'
-      reports-length =
-          let fs = reportedOf chars step in
-          let rs' = reportsAt (length (w .outcomes) + 1) chars fs in
-          let a : length (w .reports ++ rs') ≡ length (w .reports) + length rs' = length-append (w .reports) rs' in
-          let b : length rs' ≡ length fs = length-map fs _ in
-          let c : length fs ≤ length chars = record-said d (p .held .state) chars t .few in
-          let k : length chars ≡ end - at = chars-length in
-          let l : length (w .reports) ≤ at = w .reports-few in
-          let i : (at ≤ end) × (end ≤ length stream) = end-in in
-          omega arith
+        marks-here : marksBy ms₀ 0 (notesIn d b nothingOpen t₀ (recordsOf stream))
+            ≡ marksBy ms tried (notesIn d (p .numbers) (p .held .state) t (chars ∷ left))
+        unfolding left
+        marks-here = w .marked ∙ ap (λ (rs : List (List ℕ)). marksBy ms tried (notesIn d (p .numbers) (p .held .state) t rs)) (records-at stream h e g)
 
-      -- the load goes on after it
-      pub loop-turn : q .stopped ≡ false → length u ≡ length t → length l ≡ length reps → SoFar d t₀ reps₀ stream q next u l
-      unfolding outcomes' reports' left
-      loop-turn z y v =
-          let i : (at < next) × (next ≤ length stream) = next-in in
-          let k : length (w .outcomes) ≤ at = w .records-few in
-          let m : length outcomes' ≡ length (w .outcomes) + 1 = outcomes-length in
-          let long-store : length u ≡ length t₀ = y ∙ w .store-length in
-          record {
-            outcomes = outcomes';
-            reports = reports';
-            long = w .long;
-            within = i .1;
-            same =
-                run-here
-                ∙ run-turn d (length (w .outcomes)) (p .held .state) t chars left (w .outcomes) (w .reports) (sym left-stopped ∙ z)
-                ∙ (λ j. runAfter outcomes' reports' (runFrom d (sym outcomes-length j) (sym left-state j) (sym left-store j) left));
-            count = ap (λ (x : Told). x .count) left-told;
-            list = ap (λ (x : Told). x .list) left-told;
-            records-few = omega arith;
-            reports-few = reports-length;
-            fitting = fitting-kept d t u y (w .fitting);
-            ready =
-                subst (λ (x : Held). HeldReady d u x) (sym left-held)
-                (subst (λ (x : List ℕ). HeldReady d x (heldOf d (step .store) (step .state))) (sym left-store)
-                (ready-record d (p .held) chars t (w .fitting) (w .ready)));
-            store-length = long-store;
-            list-length = v ∙ w .list-length;
-          }
+        asked-here : askedBy qs₀ (notesIn d b nothingOpen t₀ (recordsOf stream)) ≡ askedBy qs (notesIn d (p .numbers) (p .held .state) t (chars ∷ left))
+        unfolding left
+        asked-here = w .asking ∙ ap (λ (rs : List (List ℕ)). askedBy qs (notesIn d (p .numbers) (p .held .state) t rs)) (records-at stream h e g)
 
-    -- the record stops it
-    pub loop-stop : q .stopped ≡ true → runLoaded (totalsBy (q .count)) u l ≡ loadedOf (loadOf d t₀ stream) reps₀
-    unfolding outcomes' reports' left allReports
-    loop-stop z =
-        let x = runSo (step .state) (step .store) true outcomes' reports' in
-        let s : loadOf d t₀ stream ≡ x =
-        run-here refl
-        ∙ run-stop d (length (w .outcomes)) (p .held .state) t chars (left refl) (w .outcomes) (w .reports) (sym left-stopped ∙ z) in
-        told-loaded x reps₀ left-told left-store ∙ ap (λ (y : Run). loadedOf y reps₀) (sym s)
+        next-in : (at < next) × (next ≤ length stream)
+        next-in =
+            let i : (at ≤ end) × (end ≤ length stream) = end-in in
+            let a : nextStart stream end ≤ length stream = start-within stream end (i .1) in
+            (start-forward stream h e g, (let k : next ≤ length stream = omega arith in k))
+
+        pub loop-less : length stream - next < length stream - at
+        loop-less = let i : (at < next) × (next ≤ length stream) = next-in in omega arith
+
+        reports-length : length reports' ≤ next
+        unfolding reports'
+        reports-length =
+            let fs = reportedOf chars step in
+            let rs' = reportsAt (length (w .outcomes) + 1) chars fs in
+            let a : length (w .reports ++ rs') ≡ length (w .reports) + length rs' = length-append (w .reports) rs' in
+            let z : length rs' ≡ length fs = length-map fs _ in
+            let c : length fs ≤ length chars = step-in-record-said d (p .numbers) (p .held .state) chars t .few in
+            let k : length chars ≡ end - at = chars-length in
+            let l : length (w .reports) ≤ at = w .reports-few in
+            let i : (at ≤ end) × (end ≤ length stream) = end-in in
+            let o : (at < next) × (next ≤ length stream) = next-in in
+            omega arith
+
+        numbers-left : NumbersAt next (q .numbers)
+        numbers-left =
+            let i : (at < next) × (next ≤ length stream) = next-in in
+            let x = numbered-at at (p .numbers) hears (w .numbers-few) in
+            let c : numbered (p .numbers) hears .cues ≤ at + 1 = x .cues in
+            let o : numbered (p .numbers) hears .groups ≤ at + 1 = x .groups in
+            let s : numbered (p .numbers) hears .subs ≤ at + 1 = x .subs in
+            subst (λ (z : Numbers). NumbersAt next z) (sym left-numbers) (record { cues = omega arith; groups = omega arith; subs = omega arith })
+
+        tries-left : tries ≤ next
+        tries-left =
+            let i : (at < next) × (next ≤ length stream) = next-in in
+            let k : tries ≡ triedAt tried hears = ap (λ (x : Noted). x .tried) noted in
+            let a : triedAt tried hears ≤ tried + 1 = tried-few tried hears in
+            let c : tried ≤ at = w .tries-few in
+            omega arith
+
+        -- the load goes on after it
+        pub loop-turn : q .stopped ≡ false → length u ≡ length t → length l ≡ length reps → length ms' ≡ length ms → length qs' ≡ length qs
+            → SoFar d b t₀ reps₀ ms₀ qs₀ stream q tries next u l ms' qs'
+        unfolding outcomes' reports' left
+        loop-turn z y v x c =
+            let i : (at < next) × (next ≤ length stream) = next-in in
+            let k : length (w .outcomes) ≤ at = w .records-few in
+            let m : length outcomes' ≡ length (w .outcomes) + 1 = outcomes-length in
+            let o : stops (step .outcome) ≡ false = sym left-stopped ∙ z in
+            let s = p .held .state in
+            record {
+              outcomes = outcomes';
+              reports = reports';
+              long = w .long;
+              within = i .1;
+              going = z;
+              same =
+                  run-here
+                  ∙ run-turn d (p .numbers) s t chars left o (length (w .outcomes)) (w .outcomes) (w .reports)
+                  ∙ (λ j. runAfter outcomes' reports' (runIn d (sym outcomes-length j) (sym left-numbers j) (sym left-state j) (sym left-store j) left));
+              marked =
+                  marks-here
+                  ∙ marks-turn d (p .numbers) s t chars left o ms tried
+                  ∙ (λ j. marksBy (sym noted j .marks) (sym noted j .tried) (notesIn d (sym left-numbers j) (sym left-state j) (sym left-store j) left));
+              asking =
+                  asked-here
+                  ∙ asked-turn d (p .numbers) s t chars left o qs
+                  ∙ (λ j. askedBy (sym noted j .asked) (notesIn d (sym left-numbers j) (sym left-state j) (sym left-store j) left));
+              count = ap (λ (x : Told). x .count) left-told;
+              list = ap (λ (x : Told). x .list) left-told;
+              records-few = omega arith;
+              reports-few = reports-length;
+              numbers-few = numbers-left;
+              tries-few = tries-left;
+              fitting = fitting-kept d t u y (w .fitting);
+              ready =
+                  subst (λ (x : Held). HeldReady d u x) (sym left-held)
+                  (subst (λ (x : List ℕ). HeldReady d x (heldOf d (step .store) (step .state))) (sym left-store)
+                  (ready-record d (p .numbers) (p .held) chars t (w .fitting) (w .ready)));
+              store-length = y ∙ w .store-length;
+              list-length = v ∙ w .list-length;
+              marks-length = x ∙ w .marks-length;
+              asked-length = c ∙ w .asked-length;
+            }
+
+      -- the record stops it
+      pub loop-stop : q .stopped ≡ true → walked q u l ms' qs' ≡ walkOf d b t₀ stream reps₀ ms₀ qs₀
+      unfolding outcomes' reports' left walkOf
+      loop-stop z =
+          let o : stops (step .outcome) ≡ true = sym left-stopped ∙ z in
+          let s = p .held .state in
+          let x : runIn d 0 b nothingOpen t₀ (recordsOf stream) ≡ runSo (step .state) (step .store) true outcomes' reports' =
+          run-here refl ∙ run-stop d (p .numbers) s t chars (left refl) o (length (w .outcomes)) (w .outcomes) (w .reports) in
+          walked-as (runIn d 0 b nothingOpen t₀ (recordsOf stream)) (notesIn d b nothingOpen t₀ (recordsOf stream)) reps₀ ms₀ qs₀ q
+          (left-told ∙ (λ i. after (sym x i .outcomes) reps₀ (sym x i .reports)))
+          (z ∙ ap (λ (y : Run). y .stopped) (sym x))
+          (left-store ∙ ap (λ (y : Run). y .store) (sym x))
+          (ap (λ (y : Noted). y .marks) noted ∙ sym (marks-here refl ∙ marks-stop d (p .numbers) s t chars (left refl) o ms tried))
+          (ap (λ (y : Noted). y .asked) noted ∙ sym (asked-here refl ∙ asked-stop d (p .numbers) s t chars (left refl) o qs))
 
 -- ---- a record that has a character: its end is looked for behind its plain characters
-module _ {d : Desk} {t₀ reps₀ stream : List ℕ} {p : Progress} {at : ℕ} {t reps : List ℕ} (w : SoFar d t₀ reps₀ stream p at t reps)
-    {first : ℕ} (e : first ≡ plainEnd stream at) where
+module _ {d : Desk} {b : Numbers} {t₀ reps₀ ms₀ qs₀ stream : List ℕ} {p : Progress} {tried at : ℕ} {t reps ms qs : List ℕ}
+    (w : SoFar d b t₀ reps₀ ms₀ qs₀ stream p tried at t reps ms qs) {first : ℕ} (e : first ≡ plainEnd stream at) where
   pub first-in : first ≤ length stream
   first-in = let h : plainEnd stream at ≤ length stream = plain-within stream at (w .within) in omega arith
 
@@ -284,8 +448,8 @@ module _ {d : Desk} {t₀ reps₀ stream : List ℕ} {p : Progress} {at : ℕ} {
   loop-spans {end} f = record { ends = end-is stream at e f; within = w .within; told = ap (λ (k : ℕ). eqb k end) e }
 
 -- ---- one that has none
-module _ {d : Desk} {t₀ reps₀ stream : List ℕ} {p : Progress} {at : ℕ} {t reps : List ℕ} (w : SoFar d t₀ reps₀ stream p at t reps)
-    (h : at < length stream) {b : Bool} (e : b ≡ isEnd (getD stream at 0)) (f : b ≡ true) where
+module _ {d : Desk} {b : Numbers} {t₀ reps₀ ms₀ qs₀ stream : List ℕ} {p : Progress} {tried at : ℕ} {t reps ms qs : List ℕ}
+    (w : SoFar d b t₀ reps₀ ms₀ qs₀ stream p tried at t reps ms qs) (h : at < length stream) {r : Bool} (e : r ≡ isEnd (getD stream at 0)) (f : r ≡ true) where
   ends-here : at ≡ recordEnd stream at
   ends-here = sym (end-here stream at h (sym e ∙ f))
 
@@ -298,33 +462,32 @@ module _ {d : Desk} {t₀ reps₀ stream : List ℕ} {p : Progress} {at : ℕ} {
         let z : at - at ≡ 0 = omega arith in
         blank-taken d p (take (at - at) (drop at stream)) t reps (ap (λ (n : ℕ). take n (drop at stream)) z) (w .ready) g
 
-    pub blank-less : length stream - next < length stream - at
-    blank-less = loop-less w h ends-here blank-took k
+    blank-noted : noting tried ms qs ≡ notedAt tried ms qs (q .heard) (q .held .slot)
+    blank-noted = nothing-noted tried ms qs (q .held .slot) (ap (λ (x : Progress). x .heard) g)
 
-    pub blank-turn : SoFar d t₀ reps₀ stream q next t reps
-    blank-turn = loop-turn w h ends-here blank-took k (ap (λ (x : Progress). x .stopped) g) refl refl
+    pub blank-less : length stream - next < length stream - at
+    blank-less = loop-less w h ends-here blank-took blank-noted k
+
+    pub blank-turn : SoFar d b t₀ reps₀ ms₀ qs₀ stream q tried next t reps ms qs
+    blank-turn = loop-turn w h ends-here blank-took blank-noted k (ap (λ (x : Progress). x .stopped) g) refl refl refl refl
 
 -- ---- the end of the stream
-module _ {d : Desk} {t₀ reps₀ stream : List ℕ} {p : Progress} {at : ℕ} {t reps : List ℕ} (w : SoFar d t₀ reps₀ stream p at t reps) where
-  pub end-room : (c : ℕ) → c < conditionSpan → Reportable (p .count) c 0
-  end-room c h =
-      let k : length (w .outcomes) ≤ at = w .records-few in
-      let l : length (w .reports) ≤ at = w .reports-few in
-      let i : at ≤ length stream = w .within in
-      let g : length stream ≤ mostRecords = w .long in
-      subst (λ (n : Count). Reportable n c 0) (sym (w .count)) (count-reportable (w .outcomes) (w .reports) c 0 (omega arith) (omega arith) h (omega arith))
-
-  pub loop-end : length stream ≤ at → {n : Count} {l : List ℕ} → told n l ≡ toldAs (told (p .count) reps) noEnddata 0
-      → runLoaded (totalsBy n) t l ≡ loadedOf (loadOf d t₀ stream) reps₀
-  unfolding allReports columnOf
-  loop-end h {n} {l} f =
+module _ {d : Desk} {b : Numbers} {t₀ reps₀ ms₀ qs₀ stream : List ℕ} {p : Progress} {tried at : ℕ} {t reps ms qs : List ℕ}
+    (w : SoFar d b t₀ reps₀ ms₀ qs₀ stream p tried at t reps ms qs) where
+  pub loop-end : length stream ≤ at → walked p t reps ms qs ≡ walkOf d b t₀ stream reps₀ ms₀ qs₀
+  unfolding walkOf
+  loop-end h =
       let os = w .outcomes in
       let rs = w .reports in
-      let x = runSo (p .held .state) t false os rs in
-      let s : loadOf d t₀ stream ≡ x =
+      let s = p .held .state in
+      let z : recordsOf (drop at stream) ≡ [] = records-end stream at h in
+      let x : runIn d 0 b nothingOpen t₀ (recordsOf stream) ≡ runSo s t false os rs =
       w .same
-      ∙ ap (λ (z : List (List ℕ)). runAfter os rs (runFrom d (length os) (p .held .state) t z)) (records-end stream at h)
-      ∙ run-end d (length os) (p .held .state) t os rs in
-      let y : told n l ≡ after os reps₀ (rs ++ (record { number = length os; condition = noEnddata; column = 0 } ∷ [])) =
-      f ∙ (λ i. toldAs (told (w .count i) (w .list i)) noEnddata 0) ∙ told-one os reps₀ [] rs (blameNone noEnddata) in
-      told-loaded x reps₀ y refl ∙ ap (λ (z : Run). loadedOf z reps₀) (sym s)
+      ∙ ap (λ (xs : List (List ℕ)). runAfter os rs (runIn d (length os) (p .numbers) s t xs)) z
+      ∙ run-end d (p .numbers) s t (length os) os rs in
+      walked-as (runIn d 0 b nothingOpen t₀ (recordsOf stream)) (notesIn d b nothingOpen t₀ (recordsOf stream)) reps₀ ms₀ qs₀ p
+      ((λ i. told (w .count i) (w .list i)) ∙ (λ i. after (sym x i .outcomes) reps₀ (sym x i .reports)))
+      (w .going ∙ ap (λ (y : Run). y .stopped) (sym x))
+      (ap (λ (y : Run). y .store) (sym x))
+      (sym (w .marked ∙ ap (λ (xs : List (List ℕ)). marksBy ms tried (notesIn d (p .numbers) s t xs)) z ∙ marks-end d (p .numbers) s t ms tried))
+      (sym (w .asking ∙ ap (λ (xs : List (List ℕ)). askedBy qs (notesIn d (p .numbers) s t xs)) z ∙ asked-end d (p .numbers) s t qs))

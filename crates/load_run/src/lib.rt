@@ -4,11 +4,15 @@ ghost use mathlib.Core.Path.{_≡_};
 ghost use Prim.Native.Nat.{_-_, _≤_};
 ghost use lib.ListN.{length, take, drop};
 ghost use Rattle.store_code.specs.Fits.{Fitting};
+ghost use Rattle.load.specs.Condition.{noEnddata};
 ghost use Rattle.load.specs.Run.{loadOf};
 ghost use Rattle.load_held.specs.Held.{Room};
-ghost use Rattle.load_tell.specs.Count.{mostRecords, Countable};
+ghost use Rattle.load_tell.specs.Count.{Reportable, Countable};
+ghost use Rattle.load.specs.Fits.{mostRecords};
 ghost use Rattle.load_run.specs.Take.{taken, textTaken, recordTaken, blankTaken, TextOf, Taking, Spans};
-ghost use Rattle.load_run.specs.Loaded.{runLoaded, loadedOf, begunOf};
+ghost use Rattle.load_run.specs.Loaded.{runLoaded, loadedOf, begunOf, FromNone, walked, walkOf, closed, closeOf};
+use load::Heard;
+use load::Numbers;
 use load::Open;
 use load::Outcome;
 use load::State;
@@ -17,10 +21,13 @@ use load_held::Held;
 use load_tell::Count;
 use store_desk::Desk;
 
-// How far a load is: what is open, what was counted, and whether the last record stopped it.
+// How far a load is: what is open, what was counted, how memories are numbered, what was heard of the last record, and whether it stopped the
+// load.
 pub struct Progress {
     pub held: Held,
     pub count: Count,
+    pub numbers: Numbers,
+    pub heard: Heard,
     pub stopped: bool,
 }
 
@@ -65,7 +72,8 @@ fn take_text(
     ensures { λ r. ⌜ taken r (now (store .exit)) (now (reports .exit)) ≡ textTaken desk done (now (received .entry)) (now (text .entry)) high control (now (store .entry)) (now (reports .entry)) ⌝ }
 {
     let held = done.held;
-    let s = load_step::step(desk, held, text, store, &mut *faults);
+    let numbers = done.numbers;
+    let s = load_step::step(desk, held, numbers, text, store, &mut *faults);
     let count = done.count;
     let outcome = s.outcome;
     let n = s.faults;
@@ -79,9 +87,13 @@ fn take_text(
         &faults[..n],
     );
     let held = parted(s.held);
+    let heard = load_hear::hear(numbers, text, outcome);
+    let numbers = load_hear::renumbered(numbers, heard);
     Progress {
         held,
         count,
+        numbers,
+        heard,
         stopped: load_tell::stops(outcome),
     }
 }
@@ -109,9 +121,12 @@ fn take_record(
     if text_records::over_long(r) {
         let held = done.held;
         let count = done.count;
+        let numbers = done.numbers;
         return Progress {
             held,
             count: load_tell::tell_long(reports, count),
+            numbers,
+            heard: Heard::Other,
             stopped: true,
         };
     }
@@ -144,9 +159,12 @@ fn take_blank(done: Progress) -> Progress
 {
     let held = done.held;
     let count = done.count;
+    let numbers = done.numbers;
     Progress {
         held,
         count: load_tell::tally(count, Outcome::Blank),
+        numbers,
+        heard: Heard::Other,
         stopped: false,
     }
 }
@@ -154,8 +172,8 @@ fn take_blank(done: Progress) -> Progress
 // ---- the load
 
 // Nothing is open, and nothing was read.
-fn begun() -> Progress
-    ensures { λ r. ⌜ r ≡ begunOf ⌝ }
+fn begun(numbers: Numbers) -> Progress
+    ensures { λ r. ⌜ r ≡ begunOf numbers ⌝ }
 {
     let key = store_desk::Key {
         page: 0,
@@ -171,18 +189,31 @@ fn begun() -> Progress
     Progress {
         held,
         count,
+        numbers,
+        heard: Heard::Other,
         stopped: false,
     }
 }
 
-// Loads a stream: record after record until one stops the load; a stream that ends before gives 0100.
-pub fn run(desk: Desk, store: &mut [u8], stream: &[u8], reports: &mut [u64]) -> Totals
+// Every record of a stream in its turn, until one stops the load. In a load with translation CUE records are marked where they are accepted, and
+// what the cue of each slot asked for is noted; in a normal load both lists stay as they are.
+pub fn walk(
+    desk: Desk,
+    numbers: Numbers,
+    store: &mut [u8],
+    stream: &[u8],
+    reports: &mut [u64],
+    marks: &mut [u8],
+    asked: &mut [u32],
+) -> Progress
     requires { ⌜ Fitting desk (now store) ⌝ }
     requires { ⌜ length (now stream) ≤ mostRecords ⌝ }
-    ensures { λ r. ⌜ runLoaded r (now (store .exit)) (now (reports .exit)) ≡ loadedOf (loadOf desk (now (store .entry)) (now (stream .entry))) (now (reports .entry)) ⌝ }
+    requires { ⌜ FromNone numbers ⌝ }
+    ensures { λ r. ⌜ walked r (now (store .exit)) (now (reports .exit)) (now (marks .exit)) (now (asked .exit)) ≡ walkOf desk numbers (now (store .entry)) (now (stream .entry)) (now (reports .entry)) (now (marks .entry)) (now (asked .entry)) ⌝ }
 {
     let mut faults = [0u32; 40];
-    let mut done = begun();
+    let mut done = begun(numbers);
+    let mut tried = 0;
     let mut at = 0;
     while at < stream.len() {
         if text_records::is_end(stream[at]) {
@@ -203,12 +234,51 @@ pub fn run(desk: Desk, store: &mut [u8], stream: &[u8], reports: &mut [u64]) -> 
             reports,
             &mut faults,
         );
+        let heard = done.heard;
+        let held = done.held;
+        tried = load_hear::note(marks, asked, tried, heard, held.slot);
         if done.stopped {
-            let count = done.count;
-            return load_tell::totals(count);
+            return done;
         }
         at = text_records::next_start(stream, end);
     }
-    let count = done.count;
+    done
+}
+
+// A stream that ends before a record stops the load gives 0100.
+pub fn close(reports: &mut [u64], count: Count, stopped: bool) -> Totals
+    requires { ⌜ Reportable count noEnddata 0 ⌝ }
+    ensures { λ r. ⌜ closed r (now (reports .exit)) ≡ closeOf count stopped (now (reports .entry)) ⌝ }
+{
+    if stopped {
+        return load_tell::totals(count);
+    }
     load_tell::totals(load_tell::report(reports, count, NO_ENDDATA, 0))
+}
+
+// Loads a stream, under the numbers that it has.
+pub fn run(desk: Desk, store: &mut [u8], stream: &[u8], reports: &mut [u64]) -> Totals
+    requires { ⌜ Fitting desk (now store) ⌝ }
+    requires { ⌜ length (now stream) ≤ mostRecords ⌝ }
+    ensures { λ r. ⌜ runLoaded r (now (store .exit)) (now (reports .exit)) ≡ loadedOf (loadOf desk (now (store .entry)) (now (stream .entry))) (now (reports .entry)) ⌝ }
+{
+    let mut marks = [0u8; 1];
+    let mut asked = [0u32; 1];
+    let numbers = Numbers {
+        anew: false,
+        cues: 0,
+        groups: 0,
+        subs: 0,
+    };
+    let done = walk(
+        desk,
+        numbers,
+        store,
+        stream,
+        reports,
+        &mut marks,
+        &mut asked,
+    );
+    let count = done.count;
+    close(reports, count, done.stopped)
 }

@@ -19,7 +19,8 @@ use Rattle.load.specs.Run.{Report, Run, Class, blank, passed, dropped, obeyed, 
 use Rattle.load.specs.Run.{allReports, closingOf, totalsOf, conditionSpan}
 use Rattle.load.proofs.Counts.{tally-few}
 use Rattle.load_tell.specs.Count.{countOf, closingBy, totalsBy, withOne, tallied, counted, Told, told, toldAs, toldOne, toldAll}
-use Rattle.load_tell.specs.Count.{mostRecords, mostReports, Reportable, Countable}
+use Rattle.load_tell.specs.Count.{mostReports, Reportable, Countable}
+use Rattle.load.specs.Fits.{mostRecords}
 
 -- ---- one more record
 both-orders : (a b : Bool) (n : ℕ) → cond a (suc (cond b (n + 1) n)) (cond b (n + 1) n) ≡ cond b (cond a (suc n) n + 1) (cond a (suc n) n)

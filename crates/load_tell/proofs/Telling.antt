@@ -27,7 +27,8 @@ use Rattle.load.proofs.Steps.{Modest}
 use Rattle.load.proofs.Counts.{small-join, ignored-small}
 use Rattle.load_tell.specs.declared.Count.{Count}
 use Rattle.load_tell.specs.Count.{counted, tallied, Told, told, toldAs, toldIf, toldOne, toldAll, ignoredBy, faultsAs}
-use Rattle.load_tell.specs.Count.{mostRecords, mostReports, Reportable, Fit, Tellable, Marred, Countable}
+use Rattle.load_tell.specs.Count.{mostReports, Reportable, Fit, Tellable, Marred, Countable}
+use Rattle.load.specs.Fits.{mostRecords}
 use Rattle.load_tell.proofs.Counting.{told-join}
 
 -- ---- places within so many characters

@@ -16,7 +16,7 @@ use Rattle.load.specs.Condition.{isError, ignoredHigh, ignoredControl}
 use Rattle.load.specs.Item.{blameNone}
 use Rattle.load.specs.Step.{oneIf, outcomeFaults}
 use Rattle.load.specs.Run.{Report, Class, blank, passed, dropped, obeyed, classOf, eqClass, tallyOf, lastOf, conditionSpan, reportWord}
-use Rattle.load.specs.Fits.{faultIn}
+use Rattle.load.specs.Fits.{mostRecords, faultIn}
 use Rattle.load_tell.specs.declared.Count.{Count}
 
 -- ---- what the counters are after the outcomes and the reports so far
@@ -118,9 +118,6 @@ abbrev pub saidOf : Bool → Bool → Outcome → List ℕ → List Fault
 saidOf high control o ws = ignoredBy high control ++ (outcomeFaults o ++ faultsAs ws)
 
 -- ---- what fits 64 bits: a record number has 18 bits, a condition 14, a column 7
-abbrev pub mostRecords : ℕ
-mostRecords = 262143
-
 -- far above what a stream of that many bytes can give
 abbrev pub mostReports : ℕ
 mostReports = 1048576

@@ -1,201 +1,46 @@
--- `run` meets its contract: what is read so far stands in front of the run of what is left of the stream. The lent list of faults keeps its
--- length.
+-- `run` meets its contract: the walk with the numbers as given is the run of a normal load, and its end is what that run is told as. What was
+-- noted meanwhile is not asked for.
 -- Assumes nothing.
-use Rattle.load_run.proofs.Turn as turn
-use Rattle.load_run.proofs.Turn.{SoFar, answered, loop-start, end-in, loop-room, loop-turn, loop-stop, loop-end, end-room}
-use Rattle.load_run.proofs.Turn.{first-in, loop-spans, blank-room, blank-less, blank-turn}
-use Rattle.load_items.specs.Done.{mostFaults}
-use Rattle.load_run.specs.Take.{Spans}
-use native.Mathlib.Omega.{arith}
-use lib.Dec.{eqb}
-use lib.ListN.{length}
-use Prim.Native.Nat.{_-_}
-use mathlib.Core.Path.{_≡_, refl, sym, _∙_}
+use Rattle.load_run.proofs.Closing.{close-room, run-loaded}
+use mathlib.Core.Path.{refl}
 use borrow.Author.Needs.{needs}
 use Rattle.load_run.proofs.run.Statement.{statement}
 use Rattle.load_run.proofs.run.Tie as tie
 
-abbrev Inv-loop : tie.InvT-loop
-Inv-loop desk store₀ stream reports₀ faults₀ done₀ at₀ store reports faults done at =
-    SoFar desk store₀ reports₀ stream done at store reports × (length faults ≡ mostFaults)
+-- the places that the answers speak of, each from a later one
+abbrev began : tie.After-asked → tie.Start
+began c = c .before .before .before .before .before .before .before
 
-abbrev μ-loop : tie.MeasureT-loop
-μ-loop desk store₀ stream reports₀ faults₀ done₀ at₀ store reports faults done at = length stream - at
+abbrev walked : tie.After-close-arg → tie.After-walk
+walked c = c .before .before .before .before .before .before .before .before
 
--- the places that the answers speak of, each from a later one: the turn, its record's end, the record taken; the end of the stream, 0100 told
-abbrev began : tie.After-slice-known2 Inv-loop μ-loop → tie.Start Inv-loop μ-loop
-began c = c .before .before .before
+slice-aggregate-walk : tie.Need-slice-aggregate-walk
+slice-aggregate-walk c = search needs
 
-abbrev turned : tie.After-is-end Inv-loop μ-loop → tie.In-loop Inv-loop μ-loop
-turned c = c .before .before
+slice-aggregate-walk-2 : tie.Need-slice-aggregate-walk-2
+slice-aggregate-walk-2 c = search needs
 
-abbrev ended : tie.After-faults Inv-loop μ-loop → tie.After-record-end Inv-loop μ-loop
-ended c = c .before .before .before
+walk-requires : tie.Need-walk-requires
+walk-requires c κs = search needs
 
-abbrev took : tie.After-faults2 Inv-loop μ-loop → tie.After-take-record Inv-loop μ-loop
-took c = c .before .before .before .before .before
+close-requires : tie.Need-close-requires
+close-requires c κs =
+    let w = walked c in
+    close-room _ _ _ _ _ _ _ (w .walk .result) (w .walk .ensures) (began (w .before) .pre .1)
 
-abbrev over : tie.After-report-arg Inv-loop μ-loop → tie.After-loop Inv-loop μ-loop
-over c = c .before .before
+same-length : tie.Need-same-length
+same-length c = search needs
 
-abbrev closed : tie.After-totals2 Inv-loop μ-loop → tie.After-report Inv-loop μ-loop
-closed c = c .before .before .before
+same-length-2 : tie.Need-same-length-2
+same-length-2 c = search needs
 
--- the turn of a record that has characters, and where the record stands
-abbrev reached : tie.After-record-end Inv-loop μ-loop → tie.In-loop Inv-loop μ-loop
-reached e = turned (e .before .before .before)
-
-spans : (e : tie.After-record-end Inv-loop μ-loop)
-    → let l = reached e .before in Spans (began (l .before .before) .args .stream .now) (l .loop .at) (e .record-end .result) (eqb (e .before .plain-end .result) (e .record-end .result))
-spans e = loop-spans (reached e .before .loop .inv .0) (e .before .plain-end .ensures) (e .record-end .ensures)
-
-begun-requires : tie.Need-begun-requires Inv-loop μ-loop
-begun-requires c κs = search needs
-
-loop-holds : tie.Need-loop-holds Inv-loop μ-loop
-loop-holds c = let s = began (c .before) in (loop-start _ _ _ _ (s .pre .0) (s .pre .1) (c .begun .ensures), refl)
-
-shared-slice-read-is-end : tie.Need-shared-slice-read-is-end Inv-loop μ-loop
-shared-slice-read-is-end c = search needs
-
-is-end-requires : tie.Need-is-end-requires Inv-loop μ-loop
-is-end-requires c κs = search needs
-
-take-blank-requires : tie.Need-take-blank-requires Inv-loop μ-loop
-take-blank-requires c κs =
-    let i = c .before in
-    let t = turned i in
-    blank-room (t .before .loop .inv .0) (t .loop-test .taken) (i .is-end .ensures) (c .if1 .taken)
-
-next-start-requires : tie.Need-next-start-requires Inv-loop μ-loop
-next-start-requires c κs = turned (c .before .before) .before .loop .inv .0 .within
-
-loop-less : tie.Need-loop-less Inv-loop μ-loop
-loop-less c =
-    let b = c .before in
-    let y = b .before in
-    let i = y .before in
-    let t = turned i in
-    blank-less (t .before .loop .inv .0) (t .loop-test .taken) (i .is-end .ensures) (y .if1 .taken) (b .take-blank .ensures) (c .next-start .ensures)
-
-loop-again : tie.Need-loop-again Inv-loop μ-loop
-loop-again c =
-    let b = c .before in
-    let y = b .before in
-    let i = y .before in
-    let t = turned i in
-    let w = t .before .loop .inv in
-    (blank-turn (w .0) (t .loop-test .taken) (i .is-end .ensures) (y .if1 .taken) (b .take-blank .ensures) (c .next-start .ensures), w .1)
-
-plain-end-requires : tie.Need-plain-end-requires Inv-loop μ-loop
-plain-end-requires c κs = turned (c .before) .before .loop .inv .0 .within
-
-record-end-requires : tie.Need-record-end-requires Inv-loop μ-loop
-record-end-requires c κs = first-in (turned (c .before .before) .before .loop .inv .0) (c .plain-end .ensures)
-
-slice-aggregate-take-record : tie.Need-slice-aggregate-take-record Inv-loop μ-loop
-slice-aggregate-take-record c = sym (reached (ended c) .before .loop .inv .1)
-
-take-record-requires : tie.Need-take-record-requires Inv-loop μ-loop
-take-record-requires c κs =
-    let e = ended c in
-    let t = reached e in
-    let w = t .before .loop .inv in
-    let m = w .1 in
-    (spans e, (loop-room (w .0) (t .loop-test .taken) (spans e .ends), omega arith))
-
-totals-requires : tie.Need-totals-requires Inv-loop μ-loop
-totals-requires c κs = search needs
-
-same-length : tie.Need-same-length Inv-loop μ-loop
-same-length c =
-    let k = took (c .before .before .before) in
-    k .take-record .kept .1 .1 .1 .1 .1 .1 .0 ∙ reached (ended (k .before)) .before .loop .inv .0 .store-length
-
-same-length-2 : tie.Need-same-length-2 Inv-loop μ-loop
-same-length-2 c =
-    let k = took (c .before .before .before) in
-    k .take-record .kept .1 .1 .1 .1 .1 .1 .1 .0 ∙ reached (ended (k .before)) .before .loop .inv .0 .list-length
-
-returns : tie.Need-returns Inv-loop μ-loop
+returns : tie.Need-returns
 returns c =
-    let y = c .before .before in
-    let k = took (y .before) in
-    let e = ended (k .before) in
-    let t = reached e in
-    answered _ _ (c .totals .ensures) (loop-stop (t .before .loop .inv .0) (t .loop-test .taken) (spans e .ends) (k .take-record .ensures) (y .if2 .taken))
-
-next-start-requires-2 : tie.Need-next-start-requires-2 Inv-loop μ-loop
-next-start-requires-2 c κs =
-    let e = ended (took (c .before) .before) in
-    let t = reached e in
-    let i = end-in (t .before .loop .inv .0) (t .loop-test .taken) (spans e .ends) in
-    omega (arith, i .1)
-
-loop-less-2 : tie.Need-loop-less-2 Inv-loop μ-loop
-loop-less-2 c =
-    let k = took (c .before .before) in
-    let e = ended (k .before) in
-    let t = reached e in
-    turn.loop-less (t .before .loop .inv .0) (t .loop-test .taken) (spans e .ends) (k .take-record .ensures) (c .next-start2 .ensures)
-
-loop-again-2 : tie.Need-loop-again-2 Inv-loop μ-loop
-loop-again-2 c =
-    let n = c .before in
-    let k = took (n .before) in
-    let e = ended (k .before) in
-    let t = reached e in
-    let w = t .before .loop .inv in (
-      loop-turn (w .0) (t .loop-test .taken) (spans e .ends) (k .take-record .ensures) (c .next-start2 .ensures) (n .if2 .left)
-          (k .take-record .kept .1 .1 .1 .1 .1 .1 .0) (k .take-record .kept .1 .1 .1 .1 .1 .1 .1 .0),
-      k .take-record .kept .1 .1 .1 .1 .1 .1 .1 .1 .0 ∙ w .1,
-    )
-
-report-requires : tie.Need-report-requires Inv-loop μ-loop
-report-requires c κs = end-room (over c .before .loop .inv .0) _ (omega arith)
-
-totals-requires-2 : tie.Need-totals-requires-2 Inv-loop μ-loop
-totals-requires-2 c κs = search needs
-
-same-length-3 : tie.Need-same-length-3 Inv-loop μ-loop
-same-length-3 c = over (closed c .before) .before .loop .inv .0 .store-length
-
-same-length-4 : tie.Need-same-length-4 Inv-loop μ-loop
-same-length-4 c = let r = closed c in r .report .kept .0 ∙ over (r .before) .before .loop .inv .0 .list-length
-
-returns-2 : tie.Need-returns-2 Inv-loop μ-loop
-returns-2 c =
-    let r = closed c in
-    let o = over (r .before) in
-    answered _ _ (c .totals2 .ensures) (loop-end (o .before .loop .inv .0) (o .loop-test .left) (r .report .ensures))
+    let e = c .before .before in
+    let w = walked (e .before) in
+    run-loaded _ _ _ _ _ _ _ (w .walk .result) (w .walk .ensures) refl (e .close .ensures)
 
 pub run-spec : {M : Type 1} → statement M
 run-spec =
     tie.close
-    (tie.spec
-    Inv-loop
-    μ-loop
-    begun-requires
-    loop-holds
-    shared-slice-read-is-end
-    is-end-requires
-    take-blank-requires
-    next-start-requires
-    loop-less
-    loop-again
-    plain-end-requires
-    record-end-requires
-    slice-aggregate-take-record
-    take-record-requires
-    totals-requires
-    same-length
-    same-length-2
-    returns
-    next-start-requires-2
-    loop-less-2
-    loop-again-2
-    report-requires
-    totals-requires-2
-    same-length-3
-    same-length-4
-    returns-2)
+    (tie.spec slice-aggregate-walk slice-aggregate-walk-2 walk-requires close-requires same-length same-length-2 returns)

@@ -19,7 +19,7 @@ abbrev received : tie.After-over-long → tie.After-receive
 received c = c .before .before
 
 abbrev long : tie.After-tell-long → tie.Then1
-long c = c .before .before .before .before
+long c = c .before .before .before .before .before
 
 abbrev joined : tie.After-take-text-arg4 → tie.Joined2
 joined c = c .before .before .before .before .before
