@@ -3,12 +3,13 @@
 use mathlib.Core.Path.{_≡_, refl, sym, ap, _∙_, subst}
 use mathlib.Core.Bool.{Bool, true, false, not}
 use mathlib.Core.List.{List, [], _∷_}
+use mathlib.Core.Logic.{_⊎_, inl, inr}
 use Prim.Native.Nat.{ℕ, _+_, _*_, _≤_, _<_}
 use native.Mathlib.Nat.{zero-add}
 use native.Mathlib.Omega.{arith}
-use lib.Dec.{ltb, leb}
+use lib.Dec.{eqb, ltb, leb}
 use lib.ListN.{length}
-use borrow.Author.Tests.{lt-ltb, le-ltb, le-leb, lt-leb, leb-true, leb-false, not-true, not-false}
+use borrow.Author.Tests.{lt-ltb, le-ltb, le-leb, lt-leb, leb-true, leb-false, eq-eqb, ne-eqb, eqb-true, eqb-false, not-true, not-false}
 use Rattle.cells.specs.Put.{put}
 use Rattle.cells.specs.Search.{Found, at, nowhere, IsFirst}
 use Rattle.cells.proofs.Split.{by-test, clash}
@@ -29,15 +30,16 @@ use Rattle.store.proofs.Start.{found-ok}
 use Rattle.store_code.specs.Fits.{Fitting}
 use Rattle.store_code.specs.Answer.{LevelsOf}
 use Rattle.load.specs.declared.Totals.{Totals}
-use Rattle.load.specs.Run.{loadOf}
+use Rattle.load.specs.Run.{Run, loadOf}
+use Rattle.load.specs.Translated.{translatedOf}
 use Rattle.load_run.specs.Loaded.{Loaded as Ran, loadedOf, runLoaded as ran}
 use Rattle.text_room.specs.Wrote.{Wrote, wrote, wroteAt}
 use Rattle.store_desk.specs.declared.Refusal.{Refusal}
 use Rattle.store_desk.specs.Refusal.{Reply, replied, refused, mostPlaces}
-use Rattle.store_desk.specs.declared.Refusal.the-variants.{R1, R2, R3, R4a, R4b, R4c, R5, R6}
+use Rattle.store_desk.specs.declared.Refusal.the-variants.{R1, R2, R3, R4a, R4b, R4c, R5, R6, R7}
 use Rattle.show.specs.declared.Admission.{Admission}
 use Rattle.show.specs.declared.Admission.the-variants.{Admitted, Away}
-use Rattle.show.specs.Calls.{mostBytes, formAdmission, lentAdmission, thenAdmission, admissionOf, totalsTold, loadedAs, loadBy, loadCall, writtenAs, putCall, writeBy, writeCall, emptiedAs, emptyBy, emptyCall}
+use Rattle.show.specs.Calls.{mostBytes, formAdmission, lentAdmission, thenAdmission, admissionOf, totalsTold, loadedAs, loadBy, streamCall, loadCall, kindsAdmission, translateAdmission, translateCall, writtenAs, putCall, writeBy, writeCall, emptiedAs, emptyBy, emptyCall}
 use Rattle.show.specs.Calls.{keptWord, notKeptWord, Look, look, cueName, cueKey, lookAt, lookBy, lookCall, LookedUp}
 use Rattle.show.specs.Calls.{findReply, placedAt, findBy, findCall}
 use Rattle.show.specs.declared.Placed.the-variants.{NotKept, At as PlacedAt}
@@ -185,21 +187,108 @@ lent-mute d s = by-lent d s (λ (a : Admission). awayReply a .told ≡ []) (λ h
 
 -- ---- load
 
+-- of either load: what turns it away, and the run that it comes to
+module _ (a : Admission) (x : Run) (s reps stream : List ℕ) where
+  pub stream-long : mostBytes < length stream → loadedAs (refused R1) s reps ≡ streamCall a x s reps stream
+  unfolding streamCall
+  stream-long h = let f : ltb mostBytes (length stream) ≡ true = lt-ltb _ _ h in rw f
+
+  pub stream-by : (b : Admission) → b ≡ a → length stream ≤ mostBytes → loadBy b x s reps ≡ streamCall a x s reps stream
+  unfolding streamCall
+  stream-by b e h =
+      let f : ltb mostBytes (length stream) ≡ false = le-ltb _ _ h in
+      rw f (ap (λ (c : Admission). loadBy c x s reps) e)
+
+  pub stream-done : {r : Totals} {t q : List ℕ} → Admitted ≡ a → length stream ≤ mostBytes → ran r t q ≡ loadedOf x reps
+      → loadedAs (replied (totalsTold r)) t q ≡ streamCall a x s reps stream
+  unfolding loadBy loadedOf
+  stream-done e h g = ap (λ (l : Ran). loadedAs (replied (totalsTold (l .totals))) (l .store) (l .reports)) g ∙ stream-by Admitted e h
+
 module _ (d : Desk) (s reps stream : List ℕ) where
   pub load-long : mostBytes < length stream → loadedAs (refused R1) s reps ≡ loadCall d s reps stream
   unfolding loadCall
-  load-long h = let f : ltb mostBytes (length stream) ≡ true = lt-ltb _ _ h in rw f
+  load-long h = stream-long (admissionOf d s) (loadOf d s stream) s reps stream h
 
-  pub load-by : (a : Admission) → a ≡ admissionOf d s → length stream ≤ mostBytes → loadBy a d s reps stream ≡ loadCall d s reps stream
+  pub load-by : (a : Admission) → a ≡ admissionOf d s → length stream ≤ mostBytes → loadBy a (loadOf d s stream) s reps ≡ loadCall d s reps stream
   unfolding loadCall
-  load-by a e h =
-      let f : ltb mostBytes (length stream) ≡ false = le-ltb _ _ h in
-      rw f (ap (λ (b : Admission). loadBy b d s reps stream) e)
+  load-by a e h = stream-by (admissionOf d s) (loadOf d s stream) s reps stream a e h
 
   pub load-done : {r : Totals} {t q : List ℕ} → Admitted ≡ admissionOf d s → length stream ≤ mostBytes
       → ran r t q ≡ loadedOf (loadOf d s stream) reps → loadedAs (replied (totalsTold r)) t q ≡ loadCall d s reps stream
-  unfolding loadBy loadedOf
-  load-done e h g = ap (λ (l : Ran). loadedAs (replied (totalsTold (l .totals))) (l .store) (l .reports)) g ∙ load-by Admitted e h
+  unfolding loadCall
+  load-done e h g = stream-done (admissionOf d s) (loadOf d s stream) s reps stream e h g
+
+  pub translate-long : mostBytes < length stream → loadedAs (refused R1) s reps ≡ translateCall d s reps stream
+  unfolding translateCall
+  translate-long h = stream-long (translateAdmission d s) (translatedOf d s stream) s reps stream h
+
+  pub translate-by : (a : Admission) → a ≡ translateAdmission d s → length stream ≤ mostBytes
+      → loadBy a (translatedOf d s stream) s reps ≡ translateCall d s reps stream
+  unfolding translateCall
+  translate-by a e h = stream-by (translateAdmission d s) (translatedOf d s stream) s reps stream a e h
+
+  pub translate-done : {r : Totals} {t q : List ℕ} → Admitted ≡ translateAdmission d s → length stream ≤ mostBytes
+      → ran r t q ≡ loadedOf (translatedOf d s stream) reps → loadedAs (replied (totalsTold r)) t q ≡ translateCall d s reps stream
+  unfolding translateCall
+  translate-done e h g = stream-done (translateAdmission d s) (translatedOf d s stream) s reps stream e h g
+
+-- ---- what turns a load with translation away
+pub by-kinds : (d : Desk) (P : Admission → Type 0) → ((d .groups ≡ 0) ⊎ (d .subs ≡ 0) → P (Away R7))
+    → ((d .groups ≡ 0 → ⊥) → (d .subs ≡ 0 → ⊥) → P Admitted) → P (kindsAdmission d)
+unfolding kindsAdmission
+by-kinds d P seven good =
+    by-test P (eqb (d .groups) 0) _ _ (λ e. seven (inl (eqb-true (d .groups) 0 e)))
+    (λ e.
+    by-test P (eqb (d .subs) 0) _ _ (λ f. seven (inr (eqb-true (d .subs) 0 f)))
+    (λ f. good (eqb-false (d .groups) 0 e) (eqb-false (d .subs) 0 f)))
+
+module _ (d : Desk) (s : List ℕ) where
+  pub seven-away : {r : Refusal} → Away r ≡ admissionOf d s → Away r ≡ translateAdmission d s
+  unfolding translateAdmission thenAdmission
+  seven-away e = ap (λ (a : Admission). thenAdmission a (kindsAdmission d)) e
+
+  seven-kinds : {a : Admission} → Admitted ≡ admissionOf d s → a ≡ kindsAdmission d → a ≡ translateAdmission d s
+  unfolding translateAdmission thenAdmission
+  seven-kinds e f = f ∙ ap (λ (a : Admission). thenAdmission a (kindsAdmission d)) e
+
+  pub seven-groups : Admitted ≡ admissionOf d s → d .groups ≡ 0 → Away R7 ≡ translateAdmission d s
+  unfolding kindsAdmission
+  seven-groups e z = seven-kinds e (rw (eq-eqb (d .groups) 0 z))
+
+  pub seven-subs : Admitted ≡ admissionOf d s → (d .groups ≡ 0 → ⊥) → d .subs ≡ 0 → Away R7 ≡ translateAdmission d s
+  unfolding kindsAdmission
+  seven-subs e n z = seven-kinds e (rw (ne-eqb (d .groups) 0 n, eq-eqb (d .subs) 0 z))
+
+  pub seven-none : Admitted ≡ admissionOf d s → (d .groups ≡ 0 → ⊥) → (d .subs ≡ 0 → ⊥) → Admitted ≡ translateAdmission d s
+  unfolding kindsAdmission
+  seven-none e n m = seven-kinds e (rw (ne-eqb (d .groups) 0 n, ne-eqb (d .subs) 0 m))
+
+  -- by what turns it away: as any call on a store, and then R7
+  pub by-translate : (P : Admission → Type 0)
+      → ((r : Refusal) → Away r ≡ admissionOf d s → P (Away r))
+      → (Ready d s → (d .groups ≡ 0) ⊎ (d .subs ≡ 0) → P (Away R7))
+      → (Ready d s → (d .groups ≡ 0 → ⊥) → (d .subs ≡ 0 → ⊥) → P Admitted)
+      → P (translateAdmission d s)
+  unfolding translateAdmission thenAdmission
+  by-translate P away seven good = first (admissionOf d s) refl
+    where
+      first : (a : Admission) → a ≡ admissionOf d s → P (thenAdmission a (kindsAdmission d))
+      first Admitted e = by-kinds d P (seven (let-in d s e)) (good (let-in d s e))
+      first (Away r) e = away r e
+
+  -- it tells nothing beside number and place
+  pub translate-mute : awayReply (translateAdmission d s) .told ≡ []
+  translate-mute =
+      by-translate (λ (a : Admission). awayReply a .told ≡ [])
+      (λ r e. ap (λ (a : Admission). awayReply a .told) e ∙ store-away d s .mute) (λ r h. refl) (λ r n m. refl)
+
+  pub translate-taken : Admitted ≡ translateAdmission d s → Fitting d s
+  translate-taken =
+      by-translate (λ (a : Admission). Admitted ≡ a → Fitting d s) (λ r h e. away-clash e) (λ r h e. away-clash e)
+      (λ r n m e. record { range = r .range; long = r .long })
+    where
+      away-clash : {r : Refusal} → Admitted ≡ Away r → Fitting d s
+      away-clash q = absurd (let z : _≡_ {A = ℕ} 0 1 = cc in omega arith)
 
 -- ---- write
 

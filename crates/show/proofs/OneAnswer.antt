@@ -18,6 +18,8 @@ use Rattle.store_desk.specs.Refusal.{refusalNumber, Reply, replied, refused}
 use Rattle.store_desk.proofs.Reply.{refusal-most, refused-apart, refused-no-reply}
 use Rattle.store.specs.Slots.{find}
 use Rattle.load.specs.declared.Totals.{Totals}
+use Rattle.load.specs.Run.{Run, loadOf}
+use Rattle.load.specs.Translated.{translatedOf}
 use Rattle.save.specs.Lines.{streamOf}
 use Rattle.show.specs.declared.Admission.{Admission}
 use Rattle.show.specs.declared.Admission.the-variants.{Admitted, Away}
@@ -29,10 +31,11 @@ use Rattle.show.specs.declared.Emptied.{Emptied}
 use Rattle.show.specs.declared.Emptied.the-variants.{Away as EmptyAway, Done as EmptyDone}
 use Rattle.show.specs.declared.Placed.{Placed}
 use Rattle.show.specs.declared.Placed.the-variants.{Away as FindAway, NotKept, At as PlacedAt}
-use Rattle.show.specs.Calls.{mostBytes, lentAdmission, admissionOf, LoadCall, loadReply, loadBy, loadCall, LoadPromise}
+use Rattle.show.specs.Calls.{mostBytes, lentAdmission, admissionOf, LoadCall, loadReply, loadBy, streamCall, loadCall, LoadPromise}
+use Rattle.show.specs.Calls.{translateAdmission, translateCall, TranslatePromise}
 use Rattle.show.specs.Calls.{WriteCall, writeReply, putCall, writeBy, writeCall, WritePromise}
 use Rattle.show.specs.Calls.{EmptyCall, emptyReply, emptyBy, emptyCall, EmptyPromise, LookPromise, cueName, cueKey, notKept, findReply, placedAt, findBy, findCall, FindPromise}
-use Rattle.show.proofs.Laws.{awayReply, StoreAway, store-away}
+use Rattle.show.proofs.Laws.{awayReply, StoreAway, store-away, translate-mute}
 
 -- ---- answers that tell the same are the same
 
@@ -96,6 +99,12 @@ one-load d s reps stream {a} {b} e f =
     let g = e ∙ sym f in
     (load-apart a b (ap (λ (y : LoadCall). y .reply) g), ap (λ (y : LoadCall). y .store) g, ap (λ (y : LoadCall). y .reports) g)
 
+pub one-translate : (d : Desk) (s reps stream : List ℕ) {a b : Loaded} {t u q p : List ℕ}
+    → TranslatePromise d s reps stream a t q → TranslatePromise d s reps stream b u p → (a ≡ b) × (t ≡ u) × (q ≡ p)
+one-translate d s reps stream {a} {b} e f =
+    let g = e ∙ sym f in
+    (load-apart a b (ap (λ (y : LoadCall). y .reply) g), ap (λ (y : LoadCall). y .store) g, ap (λ (y : LoadCall). y .reports) g)
+
 pub one-write : (d : Desk) (s out : List ℕ) {a b : Written} {o p : List ℕ} → WritePromise d s out a o → WritePromise d s out b p → (a ≡ b) × (o ≡ p)
 one-write d s out {a} {b} e f =
     let g = e ∙ sym f in
@@ -123,22 +132,36 @@ one-find d s page whole tenths {a} {b} e f = find-apart a b (e ∙ sym f)
 LoadKept : List ℕ → List ℕ → LoadCall → Type 0
 LoadKept s reps x = (x .reply .number ≡ 0 → ⊥) → (x .store ≡ s) × (x .reports ≡ reps) × (x .reply .told ≡ [])
 
-load-by-kept : (a : Admission) → awayReply a .told ≡ [] → (d : Desk) (s reps stream : List ℕ) → LoadKept s reps (loadBy a d s reps stream)
+load-by-kept : (a : Admission) → awayReply a .told ≡ [] → (x : Run) (s reps : List ℕ) → LoadKept s reps (loadBy a x s reps)
 unfolding LoadKept loadBy
-load-by-kept Admitted m d s reps stream h = absurd (h refl)
-load-by-kept (Away r) m d s reps stream h = (refl, refl, m)
+load-by-kept Admitted m x s reps h = absurd (h refl)
+load-by-kept (Away r) m x s reps h = (refl, refl, m)
+
+stream-kept : (a : Admission) → awayReply a .told ≡ [] → (x : Run) (s reps stream : List ℕ) → LoadKept s reps (streamCall a x s reps stream)
+unfolding LoadKept streamCall
+stream-kept a m x s reps stream =
+    by-test (LoadKept s reps) (ltb mostBytes (length stream)) _ (loadBy a x s reps) (λ e h. (refl, refl, refl)) (λ e. load-by-kept a m x s reps)
 
 pub load-kept : (d : Desk) (s reps stream : List ℕ) → (loadCall d s reps stream .reply .number ≡ 0 → ⊥)
     → (loadCall d s reps stream .store ≡ s) × (loadCall d s reps stream .reports ≡ reps) × (loadCall d s reps stream .reply .told ≡ [])
 unfolding LoadKept loadCall
-load-kept d s reps stream =
-    by-test (LoadKept s reps) (ltb mostBytes (length stream)) _ (loadBy (admissionOf d s) d s reps stream) (λ e h. (refl, refl, refl))
-    (λ e. load-by-kept (admissionOf d s) (store-away d s .mute) d s reps stream)
+load-kept d s reps stream = stream-kept (admissionOf d s) (store-away d s .mute) (loadOf d s stream) s reps stream
+
+pub translate-kept : (d : Desk) (s reps stream : List ℕ) → (translateCall d s reps stream .reply .number ≡ 0 → ⊥)
+    → (translateCall d s reps stream .store ≡ s) × (translateCall d s reps stream .reports ≡ reps) × (translateCall d s reps stream .reply .told ≡ [])
+unfolding LoadKept translateCall
+translate-kept d s reps stream = stream-kept (translateAdmission d s) (translate-mute d s) (translatedOf d s stream) s reps stream
 
 pub untouched-load : (d : Desk) (s reps stream : List ℕ) (a : Loaded) {t q : List ℕ}
     → LoadPromise d s reps stream a t q → (loadReply a .number ≡ 0 → ⊥) → (t ≡ s) × (q ≡ reps)
 untouched-load d s reps stream a e h =
     let k = load-kept d s reps stream (λ z. h (ap (λ (y : LoadCall). y .reply .number) e ∙ z)) in
+    (ap (λ (y : LoadCall). y .store) e ∙ k .0, ap (λ (y : LoadCall). y .reports) e ∙ k .1)
+
+pub untouched-translate : (d : Desk) (s reps stream : List ℕ) (a : Loaded) {t q : List ℕ}
+    → TranslatePromise d s reps stream a t q → (loadReply a .number ≡ 0 → ⊥) → (t ≡ s) × (q ≡ reps)
+untouched-translate d s reps stream a e h =
+    let k = translate-kept d s reps stream (λ z. h (ap (λ (y : LoadCall). y .reply .number) e ∙ z)) in
     (ap (λ (y : LoadCall). y .store) e ∙ k .0, ap (λ (y : LoadCall). y .reports) e ∙ k .1)
 
 -- of a write: R6 tells the length of the stream, every other refusal nothing beside its number

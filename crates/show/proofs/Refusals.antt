@@ -5,7 +5,7 @@
 use mathlib.Core.Path.{_≡_, refl, sym, ap, _∙_, subst}
 use mathlib.Core.Bool.{Bool, true, false, not, _&&_}
 use mathlib.Core.List.{List, [], _∷_}
-use mathlib.Core.Logic.{_⊎_, inl, inr}
+use mathlib.Core.Logic.{_⊎_, inl, inr, ⊎-elim}
 use Prim.Native.Nat.{ℕ, _+_, _/_, _%_, _≤_, _<_}
 use native.Mathlib.Omega.{arith}
 use lib.Dec.{eqb, ltb, leb}
@@ -30,6 +30,8 @@ use Rattle.store.proofs.Repeats.{by-repeats}
 use Rattle.store.proofs.Find.{kept-absent}
 use Rattle.store.proofs.Start.{absent-at, kept-memory}
 use Rattle.store_code.specs.Fits.{Fitting}
+use Rattle.load.specs.Run.{Run, loadOf}
+use Rattle.load.specs.Translated.{translatedOf}
 use Rattle.save.specs.Lines.{streamOf}
 use Rattle.show.specs.declared.Admission.{Admission}
 use Rattle.show.specs.declared.Admission.the-variants.{Admitted, Away}
@@ -37,13 +39,14 @@ use Rattle.show.specs.declared.Loaded.{Loaded}
 use Rattle.show.specs.declared.Written.{Written}
 use Rattle.show.specs.declared.Emptied.{Emptied}
 use Rattle.show.specs.declared.Placed.{Placed}
-use Rattle.show.specs.Calls.{mostBytes, lentAdmission, admissionOf, LoadCall, loadReply, loadBy, loadCall, LoadPromise}
+use Rattle.show.specs.Calls.{mostBytes, lentAdmission, admissionOf, LoadCall, loadReply, loadBy, streamCall, loadCall, LoadPromise}
+use Rattle.show.specs.Calls.{thenAdmission, kindsAdmission, translateAdmission, translateCall, TranslatePromise}
 use Rattle.show.specs.Calls.{WriteCall, writeReply, putCall, writeBy, writeCall, WritePromise}
 use Rattle.show.specs.Calls.{EmptyCall, emptyReply, emptyBy, emptyCall, EmptyPromise, notKeptWord, cueName, cueKey, lookAt, lookBy, lookCall, LookPromise}
 use Rattle.show.specs.Calls.{notKept, findReply, placedAt, findBy, findCall, FindPromise}
-use Rattle.show.specs.Refusals.{Line, Told, r1, r2, r3, SlotUnfit, r4a, SlotTwice, r4b, EntryUnfit, r4c, r5, r6, lacking}
-use Rattle.show.specs.Refusals.{PlaceTold, WordTold, LoadRefused, WriteRefused, EmptyRefused, NeededRefused, FindRefused}
-use Rattle.show.proofs.Laws.{by-lent, by-admission, awayReply}
+use Rattle.show.specs.Refusals.{Line, Told, r1, r2, r3, SlotUnfit, r4a, SlotTwice, r4b, EntryUnfit, r4c, r5, r6, r7, lacking}
+use Rattle.show.specs.Refusals.{PlaceTold, WordTold, LoadRefused, TranslateRefused, WriteRefused, EmptyRefused, NeededRefused, FindRefused}
+use Rattle.show.proofs.Laws.{by-lent, by-admission, by-kinds, by-translate, awayReply}
 
 -- ---- the first line that holds
 
@@ -136,15 +139,32 @@ store-first d s ls number away rest =
       inr (none-twice d s (r .form .single), inr (none-entry d s (r .form .entries), rest r)),
     )))
 
+-- of either load
+stream-first : (a : Admission) (x : Run) (s reps stream : List ℕ) (ls : List Line) → First ls (loadBy a x s reps .reply .number)
+    → First (r1 stream ∷ ls) (streamCall a x s reps stream .reply .number)
+unfolding First streamCall
+stream-first a x s reps stream ls f =
+    by-test (λ (y : LoadCall). First (r1 stream ∷ ls) (y .reply .number)) (ltb mostBytes (length stream)) _ (loadBy a x s reps)
+    (λ e. inl (ltb-true mostBytes (length stream) e, refl))
+    (λ e. let l = ltb-false mostBytes (length stream) e in inr (λ h. omega arith, f))
+
 load-first : (d : Desk) (s reps stream : List ℕ) → First (r1 stream ∷ storeLines d s []) (loadCall d s reps stream .reply .number)
 unfolding First loadCall loadBy
 load-first d s reps stream =
-    by-test (λ (x : LoadCall). First (r1 stream ∷ storeLines d s []) (x .reply .number)) (ltb mostBytes (length stream)) _
-    (loadBy (admissionOf d s) d s reps stream)
-    (λ e. inl (ltb-true mostBytes (length stream) e, refl))
-    (λ e.
-    let l = ltb-false mostBytes (length stream) e in
-    inr (λ h. omega arith, store-first d s [] (λ a. loadBy a d s reps stream .reply .number) (λ r. refl) (λ h. refl)))
+    stream-first (admissionOf d s) (loadOf d s stream) s reps stream (storeLines d s [])
+    (store-first d s [] (λ a. loadBy a (loadOf d s stream) s reps .reply .number) (λ r. refl) (λ h. refl))
+
+translate-first : (d : Desk) (s reps stream : List ℕ)
+    → First (r1 stream ∷ storeLines d s (r7 d ∷ [])) (translateCall d s reps stream .reply .number)
+unfolding First translateCall loadBy translateAdmission thenAdmission
+translate-first d s reps stream =
+    let x = translatedOf d s stream in
+    let number : Admission → ℕ = λ a. loadBy (thenAdmission a (kindsAdmission d)) x s reps .reply .number in
+    stream-first (translateAdmission d s) x s reps stream (storeLines d s (r7 d ∷ []))
+    (store-first d s (r7 d ∷ []) number (λ r. refl)
+    (λ h.
+    by-kinds d (λ (a : Admission). First (r7 d ∷ []) (loadBy a x s reps .reply .number)) (λ z. inl (z, refl))
+    (λ n m. inr (λ z. ⊎-elim n m z, refl))))
 
 put-first : (d : Desk) (s out : List ℕ) → First (r5 d s ∷ r6 d s out ∷ []) (putCall (streamOf d s) out .reply .number)
 unfolding First putCall
@@ -195,6 +215,10 @@ pub load-lines : (d : Desk) (s reps stream : List ℕ) → LoadRefused d s strea
 unfolding apart other
 load-lines d s reps stream = told _ _ refl (load-first d s reps stream)
 
+pub translate-lines : (d : Desk) (s reps stream : List ℕ) → TranslateRefused d s stream (translateCall d s reps stream .reply .number)
+unfolding apart other
+translate-lines d s reps stream = told _ _ refl (translate-first d s reps stream)
+
 pub write-lines : (d : Desk) (s out : List ℕ) → WriteRefused d s out (writeCall d s out .reply .number)
 unfolding apart other writeCall writeBy
 write-lines d s out =
@@ -239,7 +263,7 @@ plain-said d s n l a b c h =
       below = h;
     }
 
-pub small-said : (d : Desk) (s : List ℕ) (n : ℕ) (l : List ℕ) → n ≤ 6 → Said d s (record { number = n; place = 0; told = l })
+pub small-said : (d : Desk) (s : List ℕ) (n : ℕ) (l : List ℕ) → n ≤ 7 → Said d s (record { number = n; place = 0; told = l })
 small-said d s n l h = plain-said d s n l (λ q. omega arith) (λ q. omega arith) (λ q. omega arith) (omega arith)
 
 pub kept-said : (d : Desk) (s : List ℕ) → Said d s notKept
@@ -297,16 +321,30 @@ store-said d s =
 pub away-most : (d : Desk) (s : List ℕ) {r : Refusal} → Away r ≡ admissionOf d s → refusalPlace r ≤ mostPlaces
 away-most d s e = subst (λ (a : Admission). awayReply a .place ≤ mostPlaces) (sym e) (store-said d s .place .most)
 
-load-by-said : (a : Admission) (d : Desk) (s reps stream : List ℕ) → Said d s (awayReply a) → Said d s (loadBy a d s reps stream .reply)
+load-by-said : (a : Admission) (d : Desk) (x : Run) (s reps : List ℕ) → Said d s (awayReply a) → Said d s (loadBy a x s reps .reply)
 unfolding loadBy
-load-by-said Admitted d s reps stream h = small-said d s 0 _ (omega arith)
-load-by-said (Away r) d s reps stream h = h
+load-by-said Admitted d x s reps h = small-said d s 0 _ (omega arith)
+load-by-said (Away r) d x s reps h = h
+
+stream-said : (a : Admission) (d : Desk) (x : Run) (s reps stream : List ℕ) → Said d s (awayReply a) → Said d s (streamCall a x s reps stream .reply)
+unfolding streamCall
+stream-said a d x s reps stream h =
+    by-test (λ (y : LoadCall). Said d s (y .reply)) (ltb mostBytes (length stream)) _ (loadBy a x s reps)
+    (λ e. small-said d s 1 [] (omega arith)) (λ e. load-by-said a d x s reps h)
 
 pub load-said : (d : Desk) (s reps stream : List ℕ) → Said d s (loadCall d s reps stream .reply)
 unfolding loadCall
-load-said d s reps stream =
-    by-test (λ (x : LoadCall). Said d s (x .reply)) (ltb mostBytes (length stream)) _ (loadBy (admissionOf d s) d s reps stream)
-    (λ e. small-said d s 1 [] (omega arith)) (λ e. load-by-said (admissionOf d s) d s reps stream (store-said d s))
+load-said d s reps stream = stream-said (admissionOf d s) d (loadOf d s stream) s reps stream (store-said d s)
+
+kinds-said : (d : Desk) (s : List ℕ) → Said d s (awayReply (translateAdmission d s))
+kinds-said d s =
+    by-translate d s (λ (a : Admission). Said d s (awayReply a))
+    (λ r e. subst (λ (a : Admission). Said d s (awayReply a)) (sym e) (store-said d s)) (λ r z. small-said d s 7 [] (omega arith))
+    (λ r n m. small-said d s 0 [] (omega arith))
+
+pub translate-said : (d : Desk) (s reps stream : List ℕ) → Said d s (translateCall d s reps stream .reply)
+unfolding translateCall
+translate-said d s reps stream = stream-said (translateAdmission d s) d (translatedOf d s stream) s reps stream (kinds-said d s)
 
 pub put-said : (d : Desk) (s stream out : List ℕ) → Said d s (putCall stream out .reply)
 unfolding putCall
@@ -393,6 +431,11 @@ pub load-refused : (d : Desk) (s reps stream : List ℕ) (a : Loaded) {t q : Lis
 load-refused d s reps stream a e =
     subst (LoadRefused d s stream) (sym (ap (λ (y : LoadCall). y .reply .number) e)) (load-lines d s reps stream)
 
+pub translate-refused : (d : Desk) (s reps stream : List ℕ) (a : Loaded) {t q : List ℕ} → TranslatePromise d s reps stream a t q
+    → TranslateRefused d s stream (loadReply a .number)
+translate-refused d s reps stream a e =
+    subst (TranslateRefused d s stream) (sym (ap (λ (y : LoadCall). y .reply .number) e)) (translate-lines d s reps stream)
+
 pub write-refused : (d : Desk) (s out : List ℕ) (a : Written) {o : List ℕ} → WritePromise d s out a o
     → WriteRefused d s out (writeReply a .number)
 write-refused d s out a e =
@@ -424,6 +467,11 @@ pub load-place : (d : Desk) (s reps stream : List ℕ) (a : Loaded) {t q : List 
     → PlaceTold d s (loadReply a .number) (loadReply a .place)
 load-place d s reps stream a e =
     subst (λ (y : Reply). PlaceTold d s (y .number) (y .place)) (sym (ap (λ (y : LoadCall). y .reply) e)) (load-said d s reps stream .place)
+
+pub translate-place : (d : Desk) (s reps stream : List ℕ) (a : Loaded) {t q : List ℕ} → TranslatePromise d s reps stream a t q
+    → PlaceTold d s (loadReply a .number) (loadReply a .place)
+translate-place d s reps stream a e =
+    subst (λ (y : Reply). PlaceTold d s (y .number) (y .place)) (sym (ap (λ (y : LoadCall). y .reply) e)) (translate-said d s reps stream .place)
 
 pub write-place : (d : Desk) (s out : List ℕ) (a : Written) {o : List ℕ} → WritePromise d s out a o
     → PlaceTold d s (writeReply a .number) (writeReply a .place)

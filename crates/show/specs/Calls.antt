@@ -7,14 +7,14 @@ use mathlib.Core.List.{List, [], _∷_}
 use mathlib.Core.Path.{_≡_}
 use Prim.Native.Nat.{ℕ, _+_, _*_}
 use denote.Ref.{RefT, ptr, now}
-use lib.Dec.{ltb, leb}
+use lib.Dec.{eqb, ltb, leb}
 use lib.ListN.{length}
 use Rattle.cells.specs.Put.{put}
 use Rattle.cells.specs.Search.{Found, at, nowhere}
 use Rattle.store_desk.specs.declared.Desk.{Desk}
 use Rattle.store_desk.specs.declared.Key.{Key}
 use Rattle.store_desk.specs.declared.Kind.the-variants.{Cue}
-use Rattle.store_desk.specs.declared.Refusal.the-variants.{R1, R2, R3, R4a, R4b, R4c, R5, R6}
+use Rattle.store_desk.specs.declared.Refusal.the-variants.{R1, R2, R3, R4a, R4b, R4c, R5, R6, R7}
 use Rattle.store_desk.specs.Size.{inRangeOf, storeLength, headLength, slotLength}
 use Rattle.store_desk.specs.Name.{Name}
 use Rattle.store_desk.specs.Refusal.{Reply, replied, refused, refusalWord}
@@ -25,6 +25,7 @@ use Rattle.store.specs.declared.StoreForm.the-variants.{Good, BadSlot, Repeated
 use Rattle.store.specs.Form.{formOf}
 use Rattle.load.specs.declared.Totals.{Totals}
 use Rattle.load.specs.Run.{Run, loadOf, totalsOf, storedIn, allReports}
+use Rattle.load.specs.Translated.{translatedOf}
 use Rattle.save.specs.Lines.{streamOf}
 use Rattle.show.specs.declared.Admission.{Admission}
 use Rattle.show.specs.declared.Admission.the-variants.{Admitted, Away}
@@ -82,18 +83,36 @@ loadedAs a s reps = record { reply = a; store = s; reports = reps }
 abbrev pub loadDone : Run → List ℕ → LoadCall
 loadDone x reps = loadedAs (replied (totalsTold (totalsOf x))) (x .store) (storedIn reps (allReports x))
 
-unfoldable pub loadBy : Admission → Desk → List ℕ → List ℕ → List ℕ → LoadCall
-loadBy Admitted d s reps stream = loadDone (loadOf d s stream) reps
-loadBy (Away r) d s reps stream = loadedAs (refused r) s reps
+-- a call that is let in comes to a run
+unfoldable pub loadBy : Admission → Run → List ℕ → List ℕ → LoadCall
+loadBy Admitted x s reps = loadDone x reps
+loadBy (Away r) x s reps = loadedAs (refused r) s reps
+
+-- R1, a stream that is too long, is tested ahead of all else
+unfoldable pub streamCall : Admission → Run → List ℕ → List ℕ → List ℕ → LoadCall
+streamCall a x s reps stream = let y = loadBy a x s reps in cond (ltb mostBytes (length stream)) (loadedAs (refused R1) s reps) y
 
 unfoldable pub loadCall : Desk → List ℕ → List ℕ → List ℕ → LoadCall
-loadCall d s reps stream =
-    let x = loadBy (admissionOf d s) d s reps stream in
-    cond (ltb mostBytes (length stream)) (loadedAs (refused R1) s reps) x
+loadCall d s reps stream = streamCall (admissionOf d s) (loadOf d s stream) s reps stream
 
 -- of its answer, and the store and the lent list afterwards
 abbrev pub LoadPromise : Desk → List ℕ → List ℕ → List ℕ → Loaded → List ℕ → List ℕ → Type 0
 LoadPromise d s reps stream a t q = loadedAs (loadReply a) t q ≡ loadCall d s reps stream
+
+-- ---- translate: the load with translation (C-13)
+
+-- R7, a desk without groups or without submasters, is tested after the store's form
+unfoldable pub kindsAdmission : Desk → Admission
+kindsAdmission d = cond (eqb (d .groups) 0) (Away R7) (cond (eqb (d .subs) 0) (Away R7) Admitted)
+
+unfoldable pub translateAdmission : Desk → List ℕ → Admission
+translateAdmission d s = thenAdmission (admissionOf d s) (kindsAdmission d)
+
+unfoldable pub translateCall : Desk → List ℕ → List ℕ → List ℕ → LoadCall
+translateCall d s reps stream = streamCall (translateAdmission d s) (translatedOf d s stream) s reps stream
+
+abbrev pub TranslatePromise : Desk → List ℕ → List ℕ → List ℕ → Loaded → List ℕ → List ℕ → Type 0
+TranslatePromise d s reps stream a t q = loadedAs (loadReply a) t q ≡ translateCall d s reps stream
 
 -- ---- write
 

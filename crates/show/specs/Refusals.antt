@@ -1,11 +1,11 @@
 -- Which calls are turned away, with which number, and which place is told (paper 01, "Calls turned away"; paper 02, C-11): for each call the
 -- lines of the paper's table that it tests, in their order. The promises of `Calls` meet them (laws `load-refused`, `write-refused`,
--- `empty-refused`, `needed-refused`, `find-refused`, `look-refused`; of the place `load-place`, `write-place`, `find-place`, `look-place`;
+-- `translate-refused`, `empty-refused`, `needed-refused`, `find-refused`, `look-refused`; of the place `load-place`, `translate-place`, `write-place`, `find-place`, `look-place`;
 -- of a word `word-told`).
 -- Assumes nothing.
 use mathlib.Core.Bool.{Bool, true, false, not}
 use mathlib.Core.List.{List, [], _∷_}
-use mathlib.Core.Logic.{_↔_}
+use mathlib.Core.Logic.{_↔_, _⊎_}
 use mathlib.Core.Path.{_≡_}
 use Prim.Native.Nat.{ℕ, _+_, _/_, _%_, _≤_, _<_}
 use lib.ListN.{length}
@@ -84,6 +84,10 @@ r5 d s = line 5 (mostBytes < length (streamOf d s))
 abbrev pub r6 : Desk → List ℕ → List ℕ → Line
 r6 d s out = line 6 (length out < length (streamOf d s))
 
+-- with translation: the desk has no groups or no submasters
+abbrev pub r7 : Desk → Line
+r7 d = line 7 ((d .groups ≡ 0) ⊎ (d .subs ≡ 0))
+
 -- and of a look-up: no cue of that name is kept
 abbrev pub lacking : Desk → List ℕ → ℕ → ℕ → ℕ → Line
 lacking d s page whole tenths = line notKeptWord (cueMemory d s page whole tenths ≡ absent)
@@ -112,6 +116,9 @@ pub record WordTold (a : Reply) : Type 0 where
 
 abbrev pub LoadRefused : Desk → List ℕ → List ℕ → ℕ → Type 0
 LoadRefused d s stream n = Told (r1 stream ∷ r2 d ∷ r3 d s ∷ r4a d s ∷ r4b d s ∷ r4c d s ∷ []) n
+
+abbrev pub TranslateRefused : Desk → List ℕ → List ℕ → ℕ → Type 0
+TranslateRefused d s stream n = Told (r1 stream ∷ r2 d ∷ r3 d s ∷ r4a d s ∷ r4b d s ∷ r4c d s ∷ r7 d ∷ []) n
 
 abbrev pub WriteRefused : Desk → List ℕ → List ℕ → ℕ → Type 0
 WriteRefused d s out n = Told (r2 d ∷ r3 d s ∷ r4a d s ∷ r4b d s ∷ r4c d s ∷ r5 d s ∷ r6 d s out ∷ []) n

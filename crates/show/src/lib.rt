@@ -12,7 +12,7 @@ ghost use mathlib.Core.Bool.{true};
 ghost use Rattle.store_code.specs.Fits.{Fitting};
 ghost use Rattle.store.specs.Form.{formOf, goodForm};
 ghost use Rattle.save.specs.Lines.{streamOf};
-ghost use Rattle.show.specs.Calls.{formAdmission, lentAdmission, admissionOf, LoadPromise, writeReply, writtenAs, putCall, WritePromise, EmptyPromise, LookedUp, lookAt, LookPromise, cueName, findReply, placedAt, FindPromise};
+ghost use Rattle.show.specs.Calls.{formAdmission, lentAdmission, admissionOf, LoadPromise, translateAdmission, TranslatePromise, writeReply, writtenAs, putCall, WritePromise, EmptyPromise, LookedUp, lookAt, LookPromise, cueName, findReply, placedAt, FindPromise};
 ghost use Rattle.store.specs.Slots.{find as findSlot, placeOf};
 
 // The longest stream that is read or written, in bytes.
@@ -24,7 +24,7 @@ pub enum Admission {
     Away(Refusal),
 }
 
-// What `load` answers: R1 to R4c, or the totals.
+// What `load` and `translate` answer: R1 to R4c, of `translate` R7 too, or the totals.
 pub enum Loaded {
     Away(Refusal),
     Done(Totals),
@@ -88,6 +88,37 @@ pub fn load(desk: Desk, store: &mut [u8], stream: &[u8], reports: &mut [u64]) ->
     match turned_away(desk, &*store) {
         Admission::Away(refusal) => Loaded::Away(refusal),
         Admission::Admitted => Loaded::Done(load_run::run(desk, store, stream, reports)),
+    }
+}
+
+// R2, R3, R4a, R4b, R4c, and R7 where the desk has no groups or no submasters.
+fn untranslated(desk: Desk, store: &[u8]) -> Admission
+    ensures { λ r. ⌜ r ≡ translateAdmission desk (now (store .entry)) ⌝ }
+{
+    match turned_away(desk, store) {
+        Admission::Away(refusal) => Admission::Away(refusal),
+        Admission::Admitted => {
+            if desk.groups == 0 {
+                return Admission::Away(Refusal::R7);
+            }
+            if desk.subs == 0 {
+                return Admission::Away(Refusal::R7);
+            }
+            Admission::Admitted
+        }
+    }
+}
+
+// Reads a stream into a store, its cues, groups and submasters numbered anew.
+pub fn translate(desk: Desk, store: &mut [u8], stream: &[u8], reports: &mut [u64]) -> Loaded
+    ensures { λ r. ⌜ TranslatePromise desk (now (store .entry)) (now (reports .entry)) (now (stream .entry)) r (now (store .exit)) (now (reports .exit)) ⌝ }
+{
+    if MOST_BYTES < stream.len() {
+        return Loaded::Away(Refusal::R1);
+    }
+    match untranslated(desk, &*store) {
+        Admission::Away(refusal) => Loaded::Away(refusal),
+        Admission::Admitted => Loaded::Done(load_translate::run(desk, store, stream, reports)),
     }
 }
 

@@ -23,10 +23,10 @@ use Rattle.show.specs.declared.Emptied.{Emptied}
 use Rattle.show.specs.declared.Emptied.the-variants.{Away as EmptyAway}
 use Rattle.show.specs.declared.Placed.{Placed}
 use Rattle.show.specs.declared.Placed.the-variants.{Away as FindAway, NotKept as PlacedNone, At as PlacedAt}
-use Rattle.show.specs.Calls.{LoadCall, loadReply, loadCall, LoadPromise, WriteCall, writeReply, writtenAs, writeCall, WritePromise}
+use Rattle.show.specs.Calls.{LoadCall, loadReply, loadedAs, loadCall, LoadPromise, translateCall, TranslatePromise, WriteCall, writeReply, writtenAs, writeCall, WritePromise}
 use Rattle.show.specs.Calls.{EmptyCall, emptyReply, emptyCall, EmptyPromise, notKeptWord, findReply, findCall, FindPromise}
-use Rattle.show.proofs.OneAnswer.{load-kept, find-mute}
-use Rattle.show.proofs.Refusals.{Said, load-said, put-said, write-said, empty-said, needed-said, find-said}
+use Rattle.show.proofs.OneAnswer.{load-kept, translate-kept, find-mute}
+use Rattle.show.proofs.Refusals.{Said, load-said, translate-said, put-said, write-said, empty-said, needed-said, find-said}
 use Rattle.show_read.specs.declared.Listed.{Listed}
 use Rattle.show_read.specs.declared.Listed.the-variants.{Away as ListAway}
 use Rattle.show_read.specs.declared.Headed.{Headed}
@@ -125,6 +125,11 @@ pub load-within : (d : Desk) (s reps stream : List ℕ) {a : Loaded} {t q : List
     → a ≡ LoadAway r → refusalPlace r ≤ mostPlaces
 load-within d s reps stream {a} {t} {q} {r} f g =
     within r (sym (ap loadReply g) ∙ ap (λ (x : LoadCall). x .reply) f) (load-said d s reps stream)
+
+pub translate-within : (d : Desk) (s reps stream : List ℕ) {a : Loaded} {t q : List ℕ} {r : Refusal} → TranslatePromise d s reps stream a t q
+    → a ≡ LoadAway r → refusalPlace r ≤ mostPlaces
+translate-within d s reps stream {a} {t} {q} {r} f g =
+    within r (sym (ap loadReply g) ∙ ap (λ (x : LoadCall). x .reply) f) (translate-said d s reps stream)
 
 -- of a write or a text
 pub write-most : (d : Desk) (s out : List ℕ) (a : Written) {o : List ℕ} → WritePromise d s out a o → writeReply a .place ≤ mostPlaces
@@ -226,21 +231,38 @@ module _ (limits : List ℕ) {d : Desk} (e : d ≡ deskOf limits) where
   empty-by s {a} {t} f b g =
       sym (ap (λ (x : Emptied). exported (replyWord (emptyReply x)) (t ∷ [])) g) ∙ ap emptiedIn f ∙ ap (λ (x : Desk). emptiedIn (emptyCall x s)) e
 
-  pub load-by : (s stream reps l : List ℕ) {a : Loaded} {t q k : List ℕ} → LoadPromise d s reps stream a t q → (b : Loaded) → a ≡ b
-      → k ≡ notedFrom 0 l (loadReply b .told) → exported (replyWord (loadReply b)) (t ∷ q ∷ k ∷ []) ≡ loadedIn (loadCall (deskOf limits) s reps stream) l
+  -- either load
+  loaded-by : (l : List ℕ) (call : Desk → LoadCall) {a : Loaded} {t q k : List ℕ} → loadedAs (loadReply a) t q ≡ call d → (b : Loaded) → a ≡ b
+      → k ≡ notedFrom 0 l (loadReply b .told) → exported (replyWord (loadReply b)) (t ∷ q ∷ k ∷ []) ≡ loadedIn (call (deskOf limits)) l
   unfolding loadedIn
-  load-by s stream reps l {a} {t} {q} f b g h =
+  loaded-by l call {a} {t} {q} f b g h =
       ap (λ (m : List ℕ). exported (replyWord (loadReply b)) (t ∷ q ∷ m ∷ [])) h
       ∙ sym (ap (λ (x : Loaded). exported (replyWord (loadReply x)) (t ∷ q ∷ notedFrom 0 l (loadReply x .told) ∷ [])) g)
       ∙ ap (λ (x : LoadCall). loadedIn x l) f
-      ∙ ap (λ (x : Desk). loadedIn (loadCall x s reps stream) l) e
+      ∙ ap (λ (x : Desk). loadedIn (call x) l) e
+
+  loaded-away : (l : List ℕ) (call : Desk → LoadCall) {a : Loaded} {t q : List ℕ} {r : Refusal} → loadedAs (loadReply a) t q ≡ call d → a ≡ LoadAway r
+      → ((call d .reply .number ≡ 0 → ⊥) → call d .reply .told ≡ []) → exported (refusalWord r) (t ∷ q ∷ l ∷ []) ≡ loadedIn (call (deskOf limits)) l
+  loaded-away l call {a} {t} {q} {r} f g mute =
+      let p : refused r ≡ call d .reply = sym (ap loadReply g) ∙ ap (λ (x : LoadCall). x .reply) f in
+      loaded-by l call f (LoadAway r) g (mute-list l (ap (λ (x : Reply). x .told) p ∙ mute (some r p)))
+
+  pub load-by : (s stream reps l : List ℕ) {a : Loaded} {t q k : List ℕ} → LoadPromise d s reps stream a t q → (b : Loaded) → a ≡ b
+      → k ≡ notedFrom 0 l (loadReply b .told) → exported (replyWord (loadReply b)) (t ∷ q ∷ k ∷ []) ≡ loadedIn (loadCall (deskOf limits) s reps stream) l
+  load-by s stream reps l = loaded-by l (λ x. loadCall x s reps stream)
 
   pub load-away : (s stream reps l : List ℕ) {a : Loaded} {t q : List ℕ} {r : Refusal} → LoadPromise d s reps stream a t q → a ≡ LoadAway r
       → exported (refusalWord r) (t ∷ q ∷ l ∷ []) ≡ loadedIn (loadCall (deskOf limits) s reps stream) l
-  load-away s stream reps l {a} {t} {q} {r} f g =
-      let p : refused r ≡ loadCall d s reps stream .reply = sym (ap loadReply g) ∙ ap (λ (x : LoadCall). x .reply) f in
-      load-by s stream reps l f (LoadAway r) g
-      (mute-list l (ap (λ (x : Reply). x .told) p ∙ load-kept d s reps stream (some r p) .2))
+  load-away s stream reps l f g = loaded-away l (λ x. loadCall x s reps stream) f g (λ n. load-kept d s reps stream n .2)
+
+  pub translate-by : (s stream reps l : List ℕ) {a : Loaded} {t q k : List ℕ} → TranslatePromise d s reps stream a t q → (b : Loaded) → a ≡ b
+      → k ≡ notedFrom 0 l (loadReply b .told)
+      → exported (replyWord (loadReply b)) (t ∷ q ∷ k ∷ []) ≡ loadedIn (translateCall (deskOf limits) s reps stream) l
+  translate-by s stream reps l = loaded-by l (λ x. translateCall x s reps stream)
+
+  pub translate-away : (s stream reps l : List ℕ) {a : Loaded} {t q : List ℕ} {r : Refusal} → TranslatePromise d s reps stream a t q → a ≡ LoadAway r
+      → exported (refusalWord r) (t ∷ q ∷ l ∷ []) ≡ loadedIn (translateCall (deskOf limits) s reps stream) l
+  translate-away s stream reps l f g = loaded-away l (λ x. translateCall x s reps stream) f g (λ n. translate-kept d s reps stream n .2)
 
   pub write-by : (s out l : List ℕ) (a : Written) {n : ℕ} {o k : List ℕ} → WritePromise d s out a o
       → exported n (k ∷ []) ≡ repliedIn (writeReply a) l → exported n (o ∷ k ∷ []) ≡ writtenIn (writeCall (deskOf limits) s out) l

@@ -12,12 +12,12 @@ use Rattle.store_desk.specs.Refusal.{Reply, replyWord}
 use Rattle.store_desk.proofs.Reply.{needed-mute}
 use Rattle.save.specs.Lines.{streamOf}
 use Rattle.show.specs.Calls.{writeCall}
-use Rattle.show.proofs.OneAnswer.{load-kept, put-kept, write-kept, empty-kept, find-mute}
-use Rattle.show.proofs.Refusals.{Said, needed-said, empty-said, load-said, put-said, write-said, find-said, word-number, number-word}
+use Rattle.show.proofs.OneAnswer.{load-kept, translate-kept, put-kept, write-kept, empty-kept, find-mute}
+use Rattle.show.proofs.Refusals.{Said, needed-said, empty-said, load-said, translate-said, put-said, write-said, find-said, word-number, number-word}
 use Rattle.show_read.proofs.OneAnswer.{memories-kept, head-mute, levels-mute, patch-mute}
 use Rattle.show_read.proofs.Refusals.{memories-said, head-said, levels-said, patch-said}
 use Rattle.sphairune.specs.Calls.{deskOf, Exported, repliedIn, emptiedIn, loadedIn, writtenIn, listedIn}
-use Rattle.sphairune.specs.Calls.{NeededExport, EmptyExport, LoadExport, WriteExport, FindExport}
+use Rattle.sphairune.specs.Calls.{NeededExport, EmptyExport, LoadExport, TranslateExport, WriteExport, FindExport}
 use Rattle.sphairune.specs.Calls.{MemoriesExport, HeadExport, LevelsExport, PatchExport, TextExport}
 use Rattle.sphairune.proofs.Laws.{mute-list}
 
@@ -39,6 +39,10 @@ one-empty limits s e f = (word-is (e ∙ sym f), list-is 0 (e ∙ sym f))
 pub one-load : (limits s stream reps l : List ℕ) {n p : ℕ} {t u q r m k : List ℕ}
     → LoadExport limits s stream reps l n t q m → LoadExport limits s stream reps l p u r k → (n ≡ p) × (t ≡ u) × (q ≡ r) × (m ≡ k)
 one-load limits s stream reps l e f = (word-is (e ∙ sym f), list-is 0 (e ∙ sym f), list-is 1 (e ∙ sym f), list-is 2 (e ∙ sym f))
+
+pub one-translate : (limits s stream reps l : List ℕ) {n p : ℕ} {t u q r m k : List ℕ}
+    → TranslateExport limits s stream reps l n t q m → TranslateExport limits s stream reps l p u r k → (n ≡ p) × (t ≡ u) × (q ≡ r) × (m ≡ k)
+one-translate limits s stream reps l e f = (word-is (e ∙ sym f), list-is 0 (e ∙ sym f), list-is 1 (e ∙ sym f), list-is 2 (e ∙ sym f))
 
 pub one-write : (limits s out l : List ℕ) {n p : ℕ} {o u m k : List ℕ} → WriteExport limits s out l n o m → WriteExport limits s out l p u k
     → (n ≡ p) × (o ≡ u) × (m ≡ k)
@@ -88,6 +92,13 @@ pub untouched-load : (limits s stream reps l : List ℕ) {n : ℕ} {t q m : List
 unfolding loadedIn
 untouched-load limits s stream reps l e h =
     let k = load-kept (deskOf limits) s reps stream (none-is (load-said (deskOf limits) s reps stream) (word-is e) h) in
+    (list-is 0 e ∙ k .0, list-is 1 e ∙ k .1, list-is 2 e ∙ sym (mute-list l (k .2)))
+
+pub untouched-translate : (limits s stream reps l : List ℕ) {n : ℕ} {t q m : List ℕ} → TranslateExport limits s stream reps l n t q m → (n ≡ 0 → ⊥)
+    → (t ≡ s) × (q ≡ reps) × (m ≡ l)
+unfolding loadedIn
+untouched-translate limits s stream reps l e h =
+    let k = translate-kept (deskOf limits) s reps stream (none-is (translate-said (deskOf limits) s reps stream) (word-is e) h) in
     (list-is 0 e ∙ k .0, list-is 1 e ∙ k .1, list-is 2 e ∙ sym (mute-list l (k .2)))
 
 pub untouched-write : (limits s out l : List ℕ) {n : ℕ} {o m : List ℕ} → WriteExport limits s out l n o m → (n ≡ 0 → ⊥) → (n ≡ 6 → ⊥)

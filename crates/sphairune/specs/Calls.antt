@@ -8,7 +8,7 @@ use lib.ListN.{getD}
 use Rattle.cells.specs.Note.{notedFrom}
 use Rattle.store_desk.specs.declared.Desk.{Desk}
 use Rattle.store_desk.specs.Refusal.{Reply, replyWord, neededCall}
-use Rattle.show.specs.Calls.{LoadCall, loadCall, WriteCall, putCall, writeCall, EmptyCall, emptyCall, findCall}
+use Rattle.show.specs.Calls.{LoadCall, loadCall, translateCall, WriteCall, putCall, writeCall, EmptyCall, emptyCall, findCall}
 use Rattle.show_read.specs.Calls.{ListCall, memoriesCall, headCall, levelsCall, patchCall}
 
 -- a desk is the list of its nine limits; a limit that the list lacks is 0
@@ -61,6 +61,9 @@ EmptyExport limits s n t = exported n (t ∷ []) ≡ emptiedIn (emptyCall (deskO
 
 abbrev pub LoadExport : List ℕ → List ℕ → List ℕ → List ℕ → List ℕ → ℕ → List ℕ → List ℕ → List ℕ → Type 0
 LoadExport limits s stream reps l n t q m = exported n (t ∷ q ∷ m ∷ []) ≡ loadedIn (loadCall (deskOf limits) s reps stream) l
+
+abbrev pub TranslateExport : List ℕ → List ℕ → List ℕ → List ℕ → List ℕ → ℕ → List ℕ → List ℕ → List ℕ → Type 0
+TranslateExport limits s stream reps l n t q m = exported n (t ∷ q ∷ m ∷ []) ≡ loadedIn (translateCall (deskOf limits) s reps stream) l
 
 abbrev pub WriteExport : List ℕ → List ℕ → List ℕ → List ℕ → ℕ → List ℕ → List ℕ → Type 0
 WriteExport limits s out l n o m = exported n (o ∷ m ∷ []) ≡ writtenIn (writeCall (deskOf limits) s out) l

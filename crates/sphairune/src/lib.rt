@@ -19,7 +19,7 @@ ghost use mathlib.Core.List.{[], _∷_};
 ghost use Prim.Native.Nat.{_≤_};
 ghost use lib.ListN.{getD};
 ghost use Rattle.cells.specs.Note.{notedFrom};
-ghost use Rattle.sphairune.specs.Calls.{deskOf, exported, repliedIn, NeededExport, EmptyExport, LoadExport, WriteExport, FindExport};
+ghost use Rattle.sphairune.specs.Calls.{deskOf, exported, repliedIn, NeededExport, EmptyExport, LoadExport, TranslateExport, WriteExport, FindExport};
 ghost use Rattle.sphairune.specs.Fits.{Telling};
 ghost use Rattle.sphairune.specs.Calls.{MemoriesExport, HeadExport, LevelsExport, PatchExport, TextExport};
 ghost use Rattle.store_desk.specs.Refusal.{refusalTold, mostPlaces};
@@ -72,6 +72,7 @@ fn note_told(list: &mut [usize], refusal: Refusal)
         Refusal::R4b(_) => {}
         Refusal::R4c(_) => {}
         Refusal::R5 => {}
+        Refusal::R7 => {}
     }
 }
 
@@ -153,6 +154,28 @@ pub extern "C" fn sphairune_load(
         r (now (store .exit)) (now (reports .exit)) (now (totals .exit)) ⌝ }
 {
     match show::load(desk_of(limits), store, stream, reports) {
+        Loaded::Away(refusal) => refusal.word(),
+        Loaded::Done(t) => {
+            cells::note_all(totals, &totals_told(t));
+            0
+        }
+    }
+}
+
+// Reads a stream into a store as `sphairune_load` does, with its cues, groups and submasters numbered anew; or 1, 2, 3, 4A to 4C, and 7 for a desk
+// without groups or without submasters.
+#[no_mangle]
+pub extern "C" fn sphairune_translate(
+    limits: &[u32],
+    store: &mut [u8],
+    stream: &[u8],
+    reports: &mut [u64],
+    totals: &mut [u32],
+) -> u32
+    ensures { λ r. ⌜ TranslateExport (now (limits .entry)) (now (store .entry)) (now (stream .entry)) (now (reports .entry)) (now (totals .entry))
+        r (now (store .exit)) (now (reports .exit)) (now (totals .exit)) ⌝ }
+{
+    match show::translate(desk_of(limits), store, stream, reports) {
         Loaded::Away(refusal) => refusal.word(),
         Loaded::Done(t) => {
             cells::note_all(totals, &totals_told(t));

@@ -60,7 +60,7 @@ module _ (d : Desk) (s reps stream : List ℕ) where
   unfolding loadBy
   load-answers r h = sym (load-by d s reps stream Admitted (not-away d s r) h)
 
-  load-admitted : (a : Admission) → a ≡ admissionOf d s → loadBy a d s reps stream .reply .number ≡ 0 → Admitted ≡ admissionOf d s
+  load-admitted : (a : Admission) → a ≡ admissionOf d s → loadBy a (loadOf d s stream) s reps .reply .number ≡ 0 → Admitted ≡ admissionOf d s
   unfolding loadBy
   load-admitted Admitted e z = e
   load-admitted (Away r) e z = none-refused r refl z

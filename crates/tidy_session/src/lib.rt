@@ -39,6 +39,7 @@ fn put_shown(out: &mut [u8], at: usize, store: &[u8]) -> usize
             Refusal::R4b(_) => at,
             Refusal::R4c(_) => at,
             Refusal::R5 => at,
+            Refusal::R7 => at,
         },
     }
 }

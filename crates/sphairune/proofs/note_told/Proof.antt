@@ -1,7 +1,7 @@
 -- `note_told` meets its contract: R6 tells the length needed, and every other refusal leaves the list.
 -- Assumes nothing.
 use Rattle.sphairune.proofs.Laws.{told-length, told-none}
-use Rattle.store_desk.specs.declared.Refusal.the-variants.{R1, R2, R3, R4a, R4b, R4c, R5}
+use Rattle.store_desk.specs.declared.Refusal.the-variants.{R1, R2, R3, R4a, R4b, R4c, R5, R7}
 use borrow.Author.Needs.{needs}
 use mathlib.Core.Path.{refl}
 use Rattle.sphairune.proofs.note_told.Statement.{statement}
@@ -34,6 +34,9 @@ enum-told-6 c = search needs
 enum-told-7 : tie.Need-enum-told-7
 enum-told-7 c = search needs
 
+enum-told-8 : tie.Need-enum-told-8
+enum-told-8 c = search needs
+
 same-length : tie.Need-same-length
 same-length c = search needs
 
@@ -61,6 +64,9 @@ returns-7 c = told-none _ (R4c _) (c .enum-told6 .given .1) refl
 returns-8 : tie.Need-returns-8
 returns-8 c = told-none _ R5 (c .enum-told7 .given .1) refl
 
+returns-9 : tie.Need-returns-9
+returns-9 c = told-none _ R7 (c .enum-told8 .given .1) refl
+
 pub note-told-spec : {M : Type 1} → statement M
 note-told-spec =
     tie.close
@@ -74,6 +80,7 @@ note-told-spec =
     enum-told-5
     enum-told-6
     enum-told-7
+    enum-told-8
     same-length
     returns
     returns-2
@@ -82,4 +89,5 @@ note-told-spec =
     returns-5
     returns-6
     returns-7
-    returns-8)
+    returns-8
+    returns-9)

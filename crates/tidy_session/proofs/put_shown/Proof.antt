@@ -60,6 +60,9 @@ enum-told-6 c = search needs
 enum-told-7 : tie.Need-enum-told-7
 enum-told-7 c = search needs
 
+enum-told-8 : tie.Need-enum-told-8
+enum-told-8 c = search needs
+
 same-length : tie.Need-same-length
 same-length c = search needs
 
@@ -114,6 +117,12 @@ same-length-9 c = search needs
 returns-9 : tie.Need-returns-9
 returns-9 c = never-other _ _ _ (c .before .before .before .before .before .before .before .before .before .before .before .pre .0) (c .before .before .before .before .before .before .before .before .before .before .before .pre .1) (c .before .before .before .before .before .before .before .write .ensures) (c .before .before .before .refusal .given .1) (c .enum-told7 .given .1) (λ e. omega arith)
 
+same-length-10 : tie.Need-same-length-10
+same-length-10 c = search needs
+
+returns-10 : tie.Need-returns-10
+returns-10 c = never-other _ _ _ (c .before .before .before .before .before .before .before .before .before .before .before .pre .0) (c .before .before .before .before .before .before .before .before .before .before .before .pre .1) (c .before .before .before .before .before .before .before .write .ensures) (c .before .before .before .refusal .given .1) (c .enum-told8 .given .1) (λ e. omega arith)
+
 pub put-shown-spec : {M : Type 1} → statement M
 put-shown-spec =
     tie.close
@@ -136,6 +145,7 @@ put-shown-spec =
     enum-told-5
     enum-told-6
     enum-told-7
+    enum-told-8
     same-length
     returns
     same-length-2
@@ -153,4 +163,6 @@ put-shown-spec =
     same-length-8
     returns-8
     same-length-9
-    returns-9)
+    returns-9
+    same-length-10
+    returns-10)
