@@ -50,7 +50,7 @@ module _ (d : Desk) (q t : List ℕ) (l : storeLength d ≤ length t) where
       ap (λ (s : List ℕ). take (slotLength d) s) (drop-append-le (i * slotLength d) t q (omega arith))
       ∙ take-append-le (slotLength d) (drop (i * slotLength d) t) q (omega arith)
 
-  head-before : (i : ℕ) → i < slotsOf d → headAt d (t ++ q) i ≡ headAt d t i
+  pub head-before : (i : ℕ) → i < slotsOf d → headAt d (t ++ q) i ≡ headAt d t i
   head-before i h = head-same d (t ++ q) t i (slot-before i h)
 
   pub find-before : (n : Name) → find d (t ++ q) n ≡ find d t n
@@ -110,17 +110,19 @@ module _ (d : Desk) (q t : List ℕ) (l : storeLength d ≤ length t) where
       let z : slotsEnd d (n .kind) ≤ slotsOf d = kind-end d (n .kind) in
       slot-put i (omega arith) (blankSlot d (n .key)) (blank-length d (n .key)))
 
-  pub edit-before : (n : Name) (e : Edit) → Before d q (edited d t n e) (edited d (t ++ q) n e)
-  unfolding edited editAt slotLength
-  edit-before n e =
-      found-before (find d t n) (find d (t ++ q) n) (find-before n) _ _
-      (λ i g.
-      let h : i < slotsOf d = found-used d t n i g .0 in
+  pub edit-at-before : (i : ℕ) → i < slotsOf d → (e : Edit) → Before d q (editAt d t i e) (editAt d (t ++ q) i e)
+  unfolding editAt slotLength
+  edit-at-before i h e =
       let s : length (slotAt d t i) ≡ slotLength d = slot-length d t l i h in
       let m : length (editSlot d e (slotAt d t i)) ≡ slotLength d = edit-length d e (slotAt d t i) (omega arith) ∙ s in
       subst (λ (x : List ℕ). Before d q (putSlot d t i (editSlot d e (slotAt d t i))) (putSlot d (t ++ q) i (editSlot d e x)))
       (sym (slot-before i h))
-      (slot-put i h (editSlot d e (slotAt d t i)) m))
+      (slot-put i h (editSlot d e (slotAt d t i)) m)
+
+  pub edit-before : (n : Name) (e : Edit) → Before d q (edited d t n e) (edited d (t ++ q) n e)
+  unfolding edited
+  edit-before n e =
+      found-before (find d t n) (find d (t ++ q) n) (find-before n) _ _ (λ i g. edit-at-before i (found-used d t n i g .0) e)
 
   pub patch-before : (page dimmer channel level : ℕ) → Within 1 page (d .«patch_pages») → Within 1 dimmer (d .dimmers)
       → Before d q (patched d t page dimmer channel level) (patched d (t ++ q) page dimmer channel level)
@@ -148,7 +150,7 @@ module _ (d : Desk) (q t : List ℕ) (l : storeLength d ≤ length t) where
       (sym (head-before i h))
       (either (hit (headAt d t i)) _ _ _ _ (λ b. slot-put i h z (length-replicate (slotLength d) 0)) (λ b. behind l))
 
-  page-end : (p : ℕ) → 1 ≤ p → p ≤ d .«patch_pages» → patchStart d + (p - 1) * patchPageLength d + patchPageLength d ≤ storeLength d
+  pub page-end : (p : ℕ) → 1 ≤ p → p ≤ d .«patch_pages» → patchStart d + (p - 1) * patchPageLength d + patchPageLength d ≤ storeLength d
   unfolding patchPageLength storeLength entriesOf
   page-end p o h =
       let n = d .dimmers * entryLength in

@@ -1,6 +1,7 @@
--- A load into a store of bytes leaves a store of bytes: every change puts heads, patch entries, zeros or a level in place, and these are bytes.
--- By the seven cases of what a record asks for, for any desk, whatever the store holds.
+-- The records of a load, normal or with translation, leave a store of bytes one of bytes: every change puts heads, patch entries, zeros or a level
+-- in place, and these are bytes. By the seven cases of what a record asks for, for any desk, whatever the store holds.
 -- Assumes nothing.
+use mathlib.Core.Path.{refl, subst}
 use mathlib.Core.List.{List, [], _∷_, _++_}
 use Prim.Native.Nat.{ℕ, zero, suc, _+_, _-_, _*_, _<_}
 use native.Mathlib.Omega.{arith}
@@ -27,18 +28,21 @@ use Rattle.store.specs.Change.{everyPage, hitsAt, clearFrom, cleared, patchPage
 use Rattle.store.proofs.Loss.{bytes-take, bytes-drop}
 use Rattle.load.specs.declared.Entry.{Entry}
 use Rattle.load.specs.declared.Entry.the-variants.{Level, Patch, Faulty}
+use Rattle.load.specs.declared.Numbers.{Numbers}
 use Rattle.load.specs.declared.State.{State}
 use Rattle.load.specs.Item.{memory, page, done, allDone}
 use Rattle.load.specs.Ask.{Wipe, table, dimmers, Ask, name}
-use Rattle.load.specs.Step.{nothingOpen, wiped, openedBy, acted, recordStep}
+use Rattle.load.specs.Step.{nothingOpen, wiped, openedBy, acted}
 use Rattle.load.specs.Fits.{AllFit}
-use Rattle.load.specs.Run.{Run, stops, runFrom, loadOf}
+use Rattle.load.specs.Run.{Run, stops, loadOf}
+use Rattle.load.specs.Translated.{asGiven, stepIn, numbersAfter, runIn}
+use Rattle.load.proofs.Anew.{anew-record-deed, run-given}
 use Rattle.load.proofs.Read.{NoLevel}
-use Rattle.load.proofs.Deed.{Deed, resting, skipping, opening, editing, setting, patching, clearing, record-deed}
+use Rattle.load.proofs.Deed.{Deed, resting, skipping, opening, editing, setting, patching, clearing}
 
 -- ---- lists of bytes; as a record, so that a law finds the list by itself
-record Octets (s : List ℕ) : Type 0 where
-  bytes : Bytes s
+pub record Octets (s : List ℕ) : Type 0 where
+  pub bytes : Bytes s
 
 append-bytes : (s t : List ℕ) → Bytes s → Bytes t → Bytes (s ++ t)
 append-bytes [] t f g i = g i
@@ -83,10 +87,10 @@ found (at i) h g = h i
 found nowhere h g = g
 
 -- a change of a slot
-abbrev Keeps : Desk → Edit → Type 0
+abbrev pub Keeps : Desk → Edit → Type 0
 Keeps d e = (x : List ℕ) → Octets x → Octets (editSlot d e x)
 
-head-kept : (d : Desk) (e : Edit) → NoLevel e → Keeps d e
+pub head-kept : (d : Desk) (e : Edit) → NoLevel e → Keeps d e
 unfolding editSlot withHead
 head-kept d (SetUp fade delay) o x f = placed 0 f (head _)
 head-kept d (SetDown fade delay) o x f = placed 0 f (head _)
@@ -104,9 +108,13 @@ module _ (d : Desk) {s : List ℕ} (b : Octets s) where
   unfolding started putSlot blankSlot
   start-kept n = found (seat d s n) (λ i. placed (i * slotLength d) b (joined (head (blankHead (n .key))) (zeros (levelsLength d)))) b
 
+  pub edit-at-kept : (i : ℕ) (e : Edit) → Keeps d e → Octets (editAt d s i e)
+  unfolding editAt putSlot slotAt
+  edit-at-kept i e k = placed (i * slotLength d) b (k _ (front (slotLength d) (rest (i * slotLength d) b)))
+
   edit-kept : (n : Name) (e : Edit) → Keeps d e → Octets (edited d s n e)
-  unfolding edited editAt putSlot slotAt
-  edit-kept n e k = found (find d s n) (λ i. placed (i * slotLength d) b (k _ (front (slotLength d) (rest (i * slotLength d) b)))) b
+  unfolding edited
+  edit-kept n e k = found (find d s n) (λ i. edit-at-kept i e k) b
 
   patch-kept : (p dimmer channel level : ℕ) → Octets (patched d s p dimmer channel level)
   unfolding patched putEntry
@@ -168,19 +176,22 @@ module _ (d : Desk) {t : List ℕ} (b : Octets t) where
   deed-kept (patching p w es f l) = dimmers-kept d p es b
   deed-kept (clearing xs f) = wiped-kept d xs b
 
-  record-kept : (s : State) (r : List ℕ) → Octets (recordStep d s r t .store)
-  unfolding recordStep
-  record-kept s r = deed-kept (record-deed d s r)
+  step-kept : (c : Numbers) (s : State) (r : List ℕ) → Octets (stepIn d c s r t .store)
+  unfolding stepIn
+  step-kept c s r = deed-kept (anew-record-deed d c s r)
 
-run-kept : (d : Desk) (n : ℕ) (s : State) (t : List ℕ) (rs : List (List ℕ)) → Octets t → Octets (runFrom d n s t rs .store)
-unfolding runFrom
-run-kept d n s t [] b = b
-run-kept d n s t (r ∷ rs) b =
-    let x = recordStep d s r t in
+-- of either load
+pub run-kept : (d : Desk) (n : ℕ) (c : Numbers) (s : State) (t : List ℕ) (rs : List (List ℕ)) → Octets t → Octets (runIn d n c s t rs .store)
+unfolding runIn
+run-kept d n c s t [] b = b
+run-kept d n c s t (r ∷ rs) b =
+    let x = stepIn d c s r t in
     by-test (λ (z : Run). Octets (z .store)) (stops (x .outcome)) _ _
-    (λ e. record-kept d b s r)
-    (λ e. run-kept d (n + 1) (x .state) (x .store) rs (record-kept d b s r))
+    (λ e. step-kept d b c s r)
+    (λ e. run-kept d (n + 1) (numbersAfter c r x) (x .state) (x .store) rs (step-kept d b c s r))
 
 pub load-bytes : (d : Desk) (t stream : List ℕ) → Bytes t → Bytes (loadOf d t stream .store)
 unfolding loadOf
-load-bytes d t stream b = run-kept d 0 nothingOpen t (recordsOf stream) (record { bytes = b }) .bytes
+load-bytes d t stream b =
+    subst (λ (x : Run). Bytes (x .store)) (run-given d 0 asGiven nothingOpen t (recordsOf stream) refl)
+    (run-kept d 0 asGiven nothingOpen t (recordsOf stream) (record { bytes = b }) .bytes)

@@ -1,7 +1,7 @@
 -- The class of each record is what the paper says of it: by the record's fields, by what its keyword begins, and by what is reported. Ignored
 -- characters make no difference. Of a load by induction on the records.
 -- Assumes nothing.
-use mathlib.Core.Path.{_≡_, refl, sym, ap, _∙_}
+use mathlib.Core.Path.{_≡_, refl, sym, ap, _∙_, subst}
 use mathlib.Core.Bool.{Bool, true, false, cond}
 use mathlib.Core.Logic.{_↔_}
 use mathlib.Core.List.{List, [], _∷_}
@@ -22,20 +22,24 @@ use Rattle.text_fields.specs.Keywords.{sameText, sameWord, meaningOf, keywordRo
 use Rattle.load.specs.declared.Basic.the-variants.{Unknown}
 use Rattle.load.specs.declared.Family.the-variants.{Basic}
 use Rattle.load.specs.declared.Fault.{Fault}
+use Rattle.load.specs.declared.Numbers.{Numbers}
 use Rattle.load.specs.declared.State.{State}
 use Rattle.load.specs.declared.Outcome.{Outcome}
 use Rattle.load.specs.declared.Outcome.the-variants.{Blank, Passed, Dropped, Obeyed, Stopped}
 use Rattle.load.specs.Ask.{isOverLong, familyOf, familyAsk, fieldsAsk, askOf}
+use Rattle.load.specs.Anew.{askIn}
 use Rattle.load.specs.Step.{Step, recordStep, stepOf, acted, outcomeFaults, reportedOf, nothingOpen}
 use Rattle.load.specs.Run.{Run, Class, blank, passed, dropped, obeyed, classNumber, classOf, stops, only, andThen, runFrom, loadOf}
+use Rattle.load.specs.Translated.{asGiven, stepIn}
+use Rattle.load.proofs.Anew.{step-given}
 use Rattle.load.proofs.Told.{OutcomeTold, by-family, over-passed, local-passed, skipped-passed, acted-told, acted-faults}
 use Rattle.theorem_told.specs.Classes.{classesOf, begins, PassedOver, over, local, skipped, ReportedWhole, ClassSaid, OverLongSaid, CleanedAlike, firstRun, AllSaid}
 
 -- ---- a class is no other
-abbrev Apart : Class → Class → Type 0
+abbrev pub Apart : Class → Class → Type 0
 Apart a b = a ≡ b → ⊥
 
-apart : (a b : Class) → (classNumber a ≡ classNumber b → ⊥) → Apart a b
+pub apart : (a b : Class) → (classNumber a ≡ classNumber b → ⊥) → Apart a b
 apart a b h e = h (ap (λ (k : Class). classNumber k) e)
 
 by-class {ℓ} : {X : Type ℓ} (k : Class) → (k ≡ blank → X) → (k ≡ passed → X) → (k ≡ dropped → X) → (k ≡ obeyed → X) → X
@@ -70,7 +74,7 @@ only-dropped (Stopped f) e =
     (λ h. absurd (apart obeyed dropped (λ n. omega arith) (sym (cond-true _ _ _ (eq-eqb (f .condition) 0 h)) ∙ e)))
     (λ h. (f, cond-true _ _ _ (lt-ltb 0 (f .condition) (omega arith))))
 
-told-class : (d : Desk) (fs : List Word) (o : Outcome) → OutcomeTold d fs o → (classOf o ≡ blank → ⊥) × (classOf o ≡ passed → ⊥)
+pub told-class : (d : Desk) (fs : List Word) (o : Outcome) → OutcomeTold d fs o → (classOf o ≡ blank → ⊥) × (classOf o ≡ passed → ⊥)
 unfolding classOf
 told-class d fs Blank h = absurd h
 told-class d fs Passed h = absurd h
@@ -83,7 +87,7 @@ told-class d fs (Stopped f) h =
 
 -- ---- from the three others, the rest
 module _ (s : State) (r : List ℕ) (x : Step) where
-  the-rest : ((classOf (x .outcome) ≡ blank) ↔ (fieldsOf r ≡ [])) → ((classOf (x .outcome) ≡ passed) ↔ PassedOver s r)
+  pub the-rest : ((classOf (x .outcome) ≡ blank) ↔ (fieldsOf r ≡ [])) → ((classOf (x .outcome) ≡ passed) ↔ PassedOver s r)
       → ((x .outcome ≡ Obeyed → ⊥) → x .faults ≡ []) → ClassSaid s r x
   unfolding classOf
   the-rest b p f =
@@ -167,10 +171,10 @@ module _ (d : Desk) (s : State) (r t : List ℕ) where
   unfolding recordStep askOf
   class-said e = rw e (fields-said (fieldsOf r) refl)
 
-  -- one that is over-long
-  pub over-long-said : isOverLong r ≡ true → OverLongSaid r (recordStep d s r t)
-  unfolding recordStep askOf acted classOf reportedOf outcomeFaults stops
-  over-long-said e = rw e (record { drops = refl; reported = rw e refl; stopped = refl })
+  -- one that is over-long, in either load
+  pub over-long-said : (b : Numbers) → isOverLong r ≡ true → OverLongSaid r (stepIn d b s r t)
+  unfolding stepIn askIn acted classOf reportedOf outcomeFaults stops
+  over-long-said b e = rw e (record { drops = refl; reported = rw e refl; stopped = refl })
 
 -- ---- ignored characters
 pub cleaned-alike : (d : Desk) (s : State) (r t : List ℕ) → CleanedAlike d s r t
@@ -216,5 +220,7 @@ load-said d t stream i h =
       own = List·getD-map classOf (runFrom d 0 nothingOpen t (recordsOf stream) .outcomes) i Blank
           ∙ ap classOf (outcome-at d i 0 nothingOpen t (recordsOf stream) h);
       short = class-said d (x .state) r (x .store);
-      long = over-long-said d (x .state) r (x .store);
+      long =
+          λ e.
+          subst (OverLongSaid r) (step-given d asGiven (x .state) r (x .store) refl) (over-long-said d (x .state) r (x .store) asGiven e);
     }

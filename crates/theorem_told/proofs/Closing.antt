@@ -10,10 +10,9 @@ use lib.Dec.{eqb}
 use lib.ListN.{length}
 use borrow.Author.Tests.{ne-eqb}
 use Rattle.cells.proofs.Split.{cond-true, cond-false, not-of-false}
-use Rattle.store_desk.specs.declared.Desk.{Desk}
 use Rattle.store_desk.proofs.Size.{within}
 use Rattle.load.specs.Condition.{isError}
-use Rattle.load.specs.Run.{Report, lastOf, closingOf, loadOf, allReports, totalsOf}
+use Rattle.load.specs.Run.{Run, Report, lastOf, closingOf, allReports, totalsOf}
 use Rattle.theorem_told.specs.Reports.{reportAt, LastError, NoError, ClosingSaid}
 
 -- ---- the last of a sort
@@ -60,9 +59,9 @@ module _ (rs : List Report) where
   unfolding closingOf lastOf
   closing-none e = ap closingOf e
 
-  pub closing-said : ClosingSaid rs (closingOf rs)
+  closing-said : ClosingSaid rs (closingOf rs)
   closing-said = record { error = closing-error; warning = closing-warning; none = closing-none }
 
-pub load-closing : (d : Desk) (t stream : List ℕ) → ClosingSaid (allReports (loadOf d t stream)) (totalsOf (loadOf d t stream) .closing)
+pub run-closing : (x : Run) → ClosingSaid (allReports x) (totalsOf x .closing)
 unfolding totalsOf
-load-closing d t stream = closing-said (allReports (loadOf d t stream))
+run-closing x = closing-said (allReports x)

@@ -2,7 +2,7 @@
 -- report is of a record that was read. By induction on the records; which field a fault blames is from `load`, and where a field stands is by
 -- the laws of columns of `text_records`.
 -- Assumes nothing.
-use mathlib.Core.Path.{_≡_, sym, ap, _∙_, subst}
+use mathlib.Core.Path.{_≡_, refl, sym, ap, _∙_, subst}
 use mathlib.Core.Bool.{_||_}
 use mathlib.Core.List.{List, [], _∷_}
 use Prim.Native.Nat.{ℕ, suc, _+_, _-_, _<_, zero-le, suc-le-suc}
@@ -16,12 +16,16 @@ use Rattle.text_records.specs.Cleaning.{isHigh, isControl, keptOf, columnOf}
 use Rattle.text_records.proofs.Columns.{Column, column-is, column-none}
 use Rattle.text_fields.specs.Words.{Word, missing, fieldsOf}
 use Rattle.load.specs.declared.Fault.{Fault}
+use Rattle.load.specs.declared.Numbers.{Numbers}
 use Rattle.load.specs.declared.State.{State}
-use Rattle.load.specs.Step.{nothingOpen, recordStep, reportedOf}
-use Rattle.load.specs.Run.{Run, Report, stops, reportOf, reportsAt, runFrom, loadOf}
+use Rattle.load.specs.Step.{nothingOpen, reportedOf}
+use Rattle.load.specs.Run.{Run, Report, stops, only, andThen, reportOf, reportsAt, loadOf}
+use Rattle.load.specs.Translated.{asGiven, stepIn, numbersAfter, runIn}
+use Rattle.load.proofs.Anew.{run-given}
 use Rattle.load.proofs.Faulted.{Blamed, AllBlamed}
-use Rattle.load.proofs.Told.{record-blamed}
-use Rattle.theorem_told.specs.Columns.{FirstThere, ColumnSaid, ColumnsSaid}
+use Rattle.load.proofs.Told.{step-in-blamed}
+use Rattle.theorem_told.specs.Columns.{FirstThere, ColumnSaid, OfRecord, ColumnsSaid}
+use Rattle.theorem_told.specs.Reports.{reportAt}
 use Rattle.text_fields.proofs.Placed.{Placed, field-placed}
 use Rattle.theorem_told.proofs.Reports.{Each, each-join, each-at, load-near}
 
@@ -84,31 +88,38 @@ behind-among n m r rs (q ∷ qs) h =
       behind-among n m r rs qs (h .1),
     )
 
-run-among : (d : Desk) → InRange d → (n : ℕ) (s : State) (t : List ℕ) (rs : List (List ℕ))
-    → Each (Among n (length (runFrom d n s t rs .outcomes)) rs) (runFrom d n s t rs .reports)
-unfolding runFrom
-run-among d ok n s t [] = tt
-run-among d ok n s t (r ∷ rs) =
-    let x = recordStep d s r t in
-    let y = runFrom d (n + 1) (x .state) (x .store) rs in
-    let b : AllBlamed (fieldsOf r) (reportedOf r x) = record-blamed d (ok .cues .0) s t r in
-    by-test (λ (z : Run). Each (Among n (length (z .outcomes)) (r ∷ rs)) (z .reports)) (stops (x .outcome)) _ _
-    (λ e. own-among n 0 r rs (reportedOf r x) b)
+-- of either load
+run-among : (d : Desk) → InRange d → (n : ℕ) (b : Numbers) (s : State) (t : List ℕ) (rs : List (List ℕ))
+    → Each (Among n (length (runIn d n b s t rs .outcomes)) rs) (runIn d n b s t rs .reports)
+unfolding runIn
+run-among d ok n b s t [] = tt
+run-among d ok n b s t (r ∷ rs) =
+    let x = stepIn d b s r t in
+    let y = runIn d (n + 1) (numbersAfter b r x) (x .state) (x .store) rs in
+    let f : AllBlamed (fieldsOf r) (reportedOf r x) = step-in-blamed d (ok .cues .0) s t b r in
+    by-test (λ (z : Run). Each (Among n (length (z .outcomes)) (r ∷ rs)) (z .reports)) (stops (x .outcome)) (only (n + 1) r x) (andThen (n + 1) r x y)
+    (λ e. own-among n 0 r rs (reportedOf r x) f)
     (λ e.
     each-join (Among n (suc (length (y .outcomes))) (r ∷ rs)) (reportsAt (n + 1) r (reportedOf r x)) (y .reports)
-    (own-among n (length (y .outcomes)) r rs (reportedOf r x) b)
-    (behind-among n (length (y .outcomes)) r rs (y .reports) (run-among d ok (n + 1) (x .state) (x .store) rs)))
+    (own-among n (length (y .outcomes)) r rs (reportedOf r x) f)
+    (behind-among n (length (y .outcomes)) r rs (y .reports) (run-among d ok (n + 1) (numbersAfter b r x) (x .state) (x .store) rs)))
+
+-- each report of the records of a stream is of one that was read
+abbrev OfRecords : List ℕ → Run → Type 0
+OfRecords stream x = (k : ℕ) → k < length (x .reports) → OfRecord stream (length (x .outcomes)) (reportAt (x .reports) k)
+
+pub run-columns : (d : Desk) → InRange d → (b : Numbers) (t stream : List ℕ) → OfRecords stream (runIn d 0 b nothingOpen t (recordsOf stream))
+run-columns d ok b t stream k l =
+    let x = runIn d 0 b nothingOpen t (recordsOf stream) in
+    let a = each-at (Among 0 (length (x .outcomes)) (recordsOf stream)) (x .reports) k (run-among d ok 0 b nothingOpen t (recordsOf stream)) l in
+    let z : 0 + a .index + 1 ≡ a .index + 1 = omega arith in
+    record { index = a .index; read = a .read; number = a .number ∙ z; column = a .column }
 
 -- ---- of a load
 pub load-columns : (d : Desk) (t stream : List ℕ) → ColumnsSaid d t stream
 unfolding loadOf
 load-columns d t stream =
-    let x = runFrom d 0 nothingOpen t (recordsOf stream) in
     record {
-      records =
-          λ ok k l.
-          let a = each-at (Among 0 (length (x .outcomes)) (recordsOf stream)) (x .reports) k (run-among d ok 0 nothingOpen t (recordsOf stream)) l in
-          let z : 0 + a .index + 1 ≡ a .index + 1 = omega arith in
-          record { index = a .index; read = a .read; number = a .number ∙ z; column = a .column };
+      records = λ ok. subst (OfRecords stream) (run-given d 0 asGiven nothingOpen t (recordsOf stream) refl) (run-columns d ok asGiven t stream);
       most = load-near d t stream;
     }

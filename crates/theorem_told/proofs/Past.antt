@@ -1,5 +1,6 @@
--- A load does not look at the bytes past the needed length, and leaves them: with others behind the store it comes to the same, and they
--- are behind it still. By the seven cases of what a record asks for, each by what its operation does, and by induction on the records.
+-- The records of a load, normal or with translation, do not look at the bytes past the needed length, and leave them: with others behind the
+-- store they come to the same, and those are behind it still. By the seven cases of what a record asks for, each by what its operation does, and
+-- by induction on the records.
 -- Assumes nothing.
 use mathlib.Core.Path.{_≡_, refl, sym, ap, _∙_, subst}
 use mathlib.Core.Bool.{true, cond}
@@ -24,14 +25,17 @@ use Rattle.load.specs.declared.Entry.{Entry}
 use Rattle.load.specs.declared.Entry.the-variants.{Level, Patch, Faulty}
 use Rattle.load.specs.declared.Open.{Open}
 use Rattle.load.specs.declared.Open.the-variants.{Nothing, Skipping, Memory}
+use Rattle.load.specs.declared.Numbers.{Numbers}
 use Rattle.load.specs.declared.State.{State}
 use Rattle.load.specs.declared.Outcome.the-variants.{Obeyed}
 use Rattle.load.specs.Item.{faultsOf, memory, page, done, allDone}
 use Rattle.load.specs.Ask.{Wipe, table, dimmers, Ask, name}
-use Rattle.load.specs.Step.{Step, ended, nothingOpen, settleBy, settle, wiped, openedBy, acted, recordStep, reportedOf}
+use Rattle.load.specs.Step.{Step, ended, nothingOpen, settleBy, settle, wiped, openedBy, acted, reportedOf}
 use Rattle.load.specs.Fits.{AllFit}
-use Rattle.load.specs.Run.{Run, stops, only, andThen, runFrom, loadOf, allReports, totalsOf}
-use Rattle.load.proofs.Deed.{WipesFit, Deed, resting, skipping, opening, editing, setting, patching, clearing, record-deed}
+use Rattle.load.specs.Run.{Run, stops, only, andThen, loadOf, allReports, totalsOf}
+use Rattle.load.specs.Translated.{asGiven, stepIn, numbersAfter, runIn}
+use Rattle.load.proofs.Anew.{anew-record-deed, run-given}
+use Rattle.load.proofs.Deed.{WipesFit, Deed, resting, skipping, opening, editing, setting, patching, clearing}
 use Rattle.theorem_told.specs.Classes.{withBehind}
 use Rattle.theorem_told.proofs.Behind.{Before, behind, find-before, seat-before}
 use Rattle.theorem_told.proofs.Behind.{start-before, edit-before, patch-before, clear-before, clear-patch-before}
@@ -60,12 +64,12 @@ module _ (d : Desk) (q : List ℕ) where
   wiped-before (dimmers p ∷ xs) f {u} (behind l) = wiped-before xs (f .1) (clear-patch-before d q u l p (f .0))
 
 -- ---- steps
-abbrev behindStep : List ℕ → Step → Step
+abbrev pub behindStep : List ℕ → Step → Step
 behindStep q x = record { state = x .state; outcome = x .outcome; faults = x .faults; store = x .store ++ q }
 
-record Beside (d : Desk) (q : List ℕ) (x y : Step) : Type 0 where
-  same : y ≡ behindStep q x
-  long : storeLength d ≤ length (x .store)
+pub record Beside (d : Desk) (q : List ℕ) (x y : Step) : Type 0 where
+  pub same : y ≡ behindStep q x
+  pub long : storeLength d ≤ length (x .store)
 
 module _ (d : Desk) (q : List ℕ) where
   stored : (s : State) (faults : List Fault) {u v : List ℕ} → Before d q u v
@@ -100,29 +104,35 @@ module _ (d : Desk) (q : List ℕ) where
     deed-beside r {s} (patching p w es f m) = stored s (faultsOf es) (page-before d q p w es f (behind l))
     deed-beside r {s} (clearing xs f) = settled s (wiped-before d q xs f (behind l))
 
-  -- ---- the run
+  -- ---- the run, in either load
   module _ (ok : InRange d) where
-    record-beside : (s : State) (r t : List ℕ) → storeLength d ≤ length t → Beside d q (recordStep d s r t) (recordStep d s r (t ++ q))
-    unfolding recordStep
-    record-beside s r t l = deed-beside t l ok (record-deed d s r)
+    pub step-beside : (b : Numbers) (s : State) (r t : List ℕ) → storeLength d ≤ length t → Beside d q (stepIn d b s r t) (stepIn d b s r (t ++ q))
+    unfolding stepIn
+    step-beside b s r t l = deed-beside t l ok (anew-record-deed d b s r)
 
-    run-behind : (n : ℕ) (s : State) (t : List ℕ) → storeLength d ≤ length t → (rs : List (List ℕ))
-        → runFrom d n s (t ++ q) rs ≡ withBehind q (runFrom d n s t rs)
-    unfolding runFrom reportedOf
-    run-behind n s t l [] = refl
-    run-behind n s t l (r ∷ rs) =
-        let x = recordStep d s r t in
-        let b : Beside d q x (recordStep d s r (t ++ q)) = record-beside s r t l in
-        ap (λ (z : Step). cond (stops (z .outcome)) (only (n + 1) r z) (andThen (n + 1) r z (runFrom d (n + 1) (z .state) (z .store) rs))) (b .same)
+    pub run-behind : (n : ℕ) (b : Numbers) (s : State) (t : List ℕ) → storeLength d ≤ length t → (rs : List (List ℕ))
+        → runIn d n b s (t ++ q) rs ≡ withBehind q (runIn d n b s t rs)
+    unfolding runIn reportedOf
+    run-behind n b s t l [] = refl
+    run-behind n b s t l (r ∷ rs) =
+        let x = stepIn d b s r t in
+        let c = numbersAfter b r x in
+        let h : Beside d q x (stepIn d b s r (t ++ q)) = step-beside b s r t l in
+        ap
+        (λ (z : Step). cond (stops (z .outcome)) (only (n + 1) r z) (andThen (n + 1) r z (runIn d (n + 1) (numbersAfter b r z) (z .state) (z .store) rs)))
+        (h .same)
         ∙ ap (λ (y : Run). cond (stops (x .outcome)) (only (n + 1) r (behindStep q x)) (andThen (n + 1) r (behindStep q x) y))
-        (run-behind (n + 1) (x .state) (x .store) (b .long) rs)
+        (run-behind (n + 1) c (x .state) (x .store) (h .long) rs)
         ∙ sym (cond-ap (λ (y : Run). withBehind q y) (stops (x .outcome)) _ _)
 
 -- bytes past the needed length: the load is the same without them, and they are as they were
 pub past-apart : (d : Desk) → InRange d → (t past stream : List ℕ) → storeLength d ≤ length t
     → loadOf d (t ++ past) stream ≡ withBehind past (loadOf d t stream)
 unfolding loadOf
-past-apart d ok t past stream l = run-behind d past ok 0 nothingOpen t l (recordsOf stream)
+past-apart d ok t past stream l =
+    let rs = recordsOf stream in
+    sym (run-given d 0 asGiven nothingOpen (t ++ past) rs refl) ∙ run-behind d past ok 0 asGiven nothingOpen t l rs
+    ∙ ap (λ (x : Run). withBehind past x) (run-given d 0 asGiven nothingOpen t rs refl)
 
 -- so that a load goes by the needed bytes alone
 module _ (d : Desk) (ok : InRange d) (t stream : List ℕ) (l : storeLength d ≤ length t) where

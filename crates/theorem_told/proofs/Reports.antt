@@ -1,7 +1,7 @@
--- The reports of a load come in the order of its records, each fits its 64 bits, and a word is one report and no other. By induction on
--- the records; what is known of a record's conditions is from `load`, and of its columns from `text_records`.
+-- The reports of a load, normal or with translation, come in the order of its records, each fits its 64 bits, and a word is one report and no
+-- other. By induction on the records; what is known of a record's conditions is from `load`, and of its columns from `text_records`.
 -- Assumes nothing.
-use mathlib.Core.Path.{_≡_, sym, subst}
+use mathlib.Core.Path.{_≡_, refl, sym, subst}
 use mathlib.Core.List.{List, [], _∷_, _++_, append-nil}
 use Prim.Native.Nat.{ℕ, zero, suc, _+_, _≤_, _<_, min, zero-le}
 use native.Mathlib.Nat.{le-refl, not-suc-le-zero, le-of-suc-le-suc}
@@ -18,21 +18,24 @@ use Rattle.text_records.specs.Cleaning.{columnOf}
 use Rattle.text_records.proofs.Columns.{column-within, column-none}
 use Rattle.text_fields.specs.Words.{Word, fieldsOf}
 use Rattle.load.specs.declared.Fault.{Fault}
+use Rattle.load.specs.declared.Numbers.{Numbers}
 use Rattle.load.specs.declared.State.{State}
 use Rattle.load.specs.Ask.{isOverLong}
-use Rattle.load.specs.Step.{nothingOpen, recordStep, reportedOf}
-use Rattle.load.specs.Run.{Run, Report, conditionSpan, stops, reportsAt, runFrom, loadOf, allReports, reportWord}
+use Rattle.load.specs.Step.{nothingOpen, reportedOf}
+use Rattle.load.specs.Run.{Run, Report, conditionSpan, stops, only, andThen, reportsAt, loadOf, allReports, reportWord}
 use Rattle.load.specs.Fits.{Small}
-use Rattle.load.proofs.Counts.{record-said, load-records}
+use Rattle.load.specs.Translated.{asGiven, stepIn, numbersAfter, runIn}
+use Rattle.load.proofs.Anew.{run-given}
+use Rattle.load.proofs.Counts.{step-in-record-said, stream-records}
 use Rattle.load.proofs.Faulted.{AllBlamed}
-use Rattle.load.proofs.Told.{record-blamed}
+use Rattle.load.proofs.Told.{step-in-blamed}
 use Rattle.theorem_told.specs.Reports.{reportAt, numberSpan, Fits, WordSaid, Reported}
 use Rattle.theorem_told.specs.Cut.{brokenOff}
 use Rattle.theorem_told.proofs.Classes.{over-long-said}
-use Rattle.theorem_told.proofs.Closing.{load-closing}
+use Rattle.theorem_told.proofs.Closing.{run-closing}
 
 -- ---- numbers that never fall, from lo to hi
-abbrev Rising : ℕ → ℕ → List Report → Type 0
+abbrev pub Rising : ℕ → ℕ → List Report → Type 0
 Rising lo hi [] = Unit {0}
 Rising lo hi (r ∷ rs) = (lo ≤ r .number) × (r .number ≤ hi) × Rising (r .number) hi rs
 
@@ -67,36 +70,31 @@ rising-order lo hi (r ∷ rs) zero (suc j) h l g = rising-at (r .number) hi rs j
 rising-order lo hi (r ∷ rs) (suc i) zero h l g = absurd (not-suc-le-zero l)
 rising-order lo hi (r ∷ rs) (suc i) (suc j) h l g = rising-order (r .number) hi rs i j (h .2) (le-of-suc-le-suc l) (le-of-suc-le-suc g)
 
-run-rising : (d : Desk) (n : ℕ) (s : State) (t : List ℕ) (rs : List (List ℕ))
-    → Rising (n + 1) (n + length (runFrom d n s t rs .outcomes)) (runFrom d n s t rs .reports)
-unfolding runFrom
-run-rising d n s t [] = tt
-run-rising d n s t (r ∷ rs) =
-    let x = recordStep d s r t in
-    let y = runFrom d (n + 1) (x .state) (x .store) rs in
+-- of the records of either load
+run-rising : (d : Desk) (n : ℕ) (b : Numbers) (s : State) (t : List ℕ) (rs : List (List ℕ))
+    → Rising (n + 1) (n + length (runIn d n b s t rs .outcomes)) (runIn d n b s t rs .reports)
+unfolding runIn
+run-rising d n b s t [] = tt
+run-rising d n b s t (r ∷ rs) =
+    let x = stepIn d b s r t in
+    let c = numbersAfter b r x in
+    let y = runIn d (n + 1) c (x .state) (x .store) rs in
     let m = n + suc (length (y .outcomes)) in
     let e : n + 1 + length (y .outcomes) ≡ m = omega arith in
-    let ih : Rising (n + 1 + 1) m (y .reports) = subst (λ (k : ℕ). Rising (n + 1 + 1) k (y .reports)) e (run-rising d (n + 1) (x .state) (x .store) rs) in
-    by-test (λ (z : Run). Rising (n + 1) (n + length (z .outcomes)) (z .reports)) (stops (x .outcome)) _ _
+    let ih : Rising (n + 1 + 1) m (y .reports) = subst (λ (k : ℕ). Rising (n + 1 + 1) k (y .reports)) e (run-rising d (n + 1) c (x .state) (x .store) rs) in
+    by-test (λ (z : Run). Rising (n + 1) (n + length (z .outcomes)) (z .reports)) (stops (x .outcome)) (only (n + 1) r x) (andThen (n + 1) r x y)
     (λ h.
     subst (λ (z : List Report). Rising (n + 1) (n + 1) z) (append-nil (reportsAt (n + 1) r (reportedOf r x)))
     (rising-record (n + 1) (n + 1) r (reportedOf r x) [] (le-refl (n + 1)) tt))
     (λ h. rising-record (n + 1) m r (reportedOf r x) (y .reports) (omega arith) (rising-from (n + 1) (n + 1 + 1) m (y .reports) (omega arith) ih))
 
-all-rising : (x : Run) → Rising 1 (length (x .outcomes)) (x .reports) → Rising (min 1 (length (x .outcomes))) (length (x .outcomes)) (allReports x)
+-- of a run whose own reports never fall, 0 only where no record was read: 0100 at the end neither
+all-rising : (x : Run) → Rising (min 1 (length (x .outcomes))) (length (x .outcomes)) (x .reports)
+    → Rising (min 1 (length (x .outcomes))) (length (x .outcomes)) (allReports x)
 unfolding allReports
 all-rising x h =
     let n = length (x .outcomes) in
-    let g : Rising (min 1 n) n (x .reports) = rising-from (min 1 n) 1 n (x .reports) (omega arith) h in
-    by-test (Rising (min 1 n) n) (x .stopped) _ _ (λ e. g) (λ e. rising-end (min 1 n) n (x .reports) (omega arith) g)
-
-load-rising : (d : Desk) (t stream : List ℕ)
-    → Rising (min 1 (length (loadOf d t stream .outcomes))) (length (loadOf d t stream .outcomes)) (allReports (loadOf d t stream))
-unfolding loadOf
-load-rising d t stream =
-    let x = runFrom d 0 nothingOpen t (recordsOf stream) in
-    let e : 0 + length (x .outcomes) ≡ length (x .outcomes) = omega arith in
-    all-rising x (subst (λ (k : ℕ). Rising 1 k (x .reports)) e (run-rising d 0 nothingOpen t (recordsOf stream)))
+    by-test (Rising (min 1 n) n) (x .stopped) _ _ (λ e. h) (λ e. rising-end (min 1 n) n (x .reports) (omega arith) h)
 
 -- ---- what holds of each report
 module _ (P : Report → Type 0) where
@@ -113,29 +111,28 @@ module _ (P : Report → Type 0) where
   each-at (r ∷ rs) zero h l = h .0
   each-at (r ∷ rs) (suc k) h l = each-at rs k (h .1) (le-of-suc-le-suc l)
 
-  module _ (d : Desk) (own : (n : ℕ) (s : State) (r t : List ℕ) → Each (reportsAt n r (reportedOf r (recordStep d s r t)))) where
-    run-each : (n : ℕ) (s : State) (t : List ℕ) (rs : List (List ℕ)) → Each (runFrom d n s t rs .reports)
-    unfolding runFrom
-    run-each n s t [] = tt
-    run-each n s t (r ∷ rs) =
-        let x = recordStep d s r t in
-        by-test (λ (y : Run). Each (y .reports)) (stops (x .outcome)) _ _ (λ e. own (n + 1) s r t)
-        (λ e. each-join (reportsAt (n + 1) r (reportedOf r x)) _ (own (n + 1) s r t) (run-each (n + 1) (x .state) (x .store) rs))
+  module _ (d : Desk) (own : (n : ℕ) (b : Numbers) (s : State) (r t : List ℕ) → Each (reportsAt n r (reportedOf r (stepIn d b s r t)))) where
+    run-each : (n : ℕ) (b : Numbers) (s : State) (t : List ℕ) (rs : List (List ℕ)) → Each (runIn d n b s t rs .reports)
+    unfolding runIn
+    run-each n b s t [] = tt
+    run-each n b s t (r ∷ rs) =
+        let x = stepIn d b s r t in
+        let c = numbersAfter b r x in
+        by-test (λ (y : Run). Each (y .reports)) (stops (x .outcome)) (only (n + 1) r x) (andThen (n + 1) r x (runIn d (n + 1) c (x .state) (x .store) rs))
+        (λ e. own (n + 1) b s r t)
+        (λ e. each-join (reportsAt (n + 1) r (reportedOf r x)) _ (own (n + 1) b s r t) (run-each (n + 1) c (x .state) (x .store) rs))
 
-    load-each : ((n : ℕ) → P (brokenOff n)) → (t stream : List ℕ) → Each (allReports (loadOf d t stream))
-    unfolding loadOf allReports
-    load-each h t stream =
-        let x = runFrom d 0 nothingOpen t (recordsOf stream) in
-        let g : Each (x .reports) = run-each 0 nothingOpen t (recordsOf stream) in
-        by-test Each (x .stopped) _ _ (λ e. g) (λ e. each-join (x .reports) _ g (h (length (x .outcomes)), tt))
+  all-each : ((n : ℕ) → P (brokenOff n)) → (x : Run) → Each (x .reports) → Each (allReports x)
+  unfolding allReports
+  all-each h x g = by-test Each (x .stopped) _ _ (λ e. g) (λ e. each-join (x .reports) _ g (h (length (x .outcomes)), tt))
 
-abbrev Short : Report → Type 0
+abbrev pub Short : Report → Type 0
 Short q = q .condition < conditionSpan
 
-abbrev Some : Report → Type 0
+abbrev pub Some : Report → Type 0
 Some q = 0 < q .condition
 
-abbrev Near : Report → Type 0
+abbrev pub Near : Report → Type 0
 Near q = q .column ≤ longest
 
 short-each : (n : ℕ) (r : List ℕ) (fs : List Fault) → Small fs → Each Short (reportsAt n r fs)
@@ -155,14 +152,24 @@ near-each n r (f ∷ fs) l =
     let a : columnOf r (f .place) ≤ length r = column-within r (f .place) in
     ((let g : columnOf r (f .place) ≤ longest = omega arith in g), near-each n r fs l)
 
-record-near : (d : Desk) (n : ℕ) (s : State) (r t : List ℕ) → Each Near (reportsAt n r (reportedOf r (recordStep d s r t)))
-record-near d n s r t =
+record-near : (d : Desk) (n : ℕ) (b : Numbers) (s : State) (r t : List ℕ) → Each Near (reportsAt n r (reportedOf r (stepIn d b s r t)))
+record-near d n b s r t =
     by-bool (isOverLong r)
     (λ e.
     let z : columnOf r 0 ≡ 0 = column-none r in
     let g : columnOf r 0 ≤ longest = omega arith in
-    subst (λ (fs : List Fault). Each Near (reportsAt n r fs)) (sym (over-long-said d s r t e .reported)) (g, tt))
-    (λ e. near-each n r (reportedOf r (recordStep d s r t)) (ltb-false longest (length r) e))
+    subst (λ (fs : List Fault). Each Near (reportsAt n r fs)) (sym (over-long-said d s r t b e .reported)) (g, tt))
+    (λ e. near-each n r (reportedOf r (stepIn d b s r t)) (ltb-false longest (length r) e))
+
+-- and so of the records of either load
+run-near : (d : Desk) (n : ℕ) (b : Numbers) (s : State) (t : List ℕ) (rs : List (List ℕ)) → Each Near (runIn d n b s t rs .reports)
+run-near d = run-each Near d (record-near d)
+
+run-short : (d : Desk) (n : ℕ) (b : Numbers) (s : State) (t : List ℕ) (rs : List (List ℕ)) → Each Short (runIn d n b s t rs .reports)
+run-short d = run-each Short d (λ n b s r u. short-each n r (reportedOf r (stepIn d b s r u)) (step-in-record-said d b s r u .small))
+
+run-some : (d : Desk) → InRange d → (n : ℕ) (b : Numbers) (s : State) (t : List ℕ) (rs : List (List ℕ)) → Each Some (runIn d n b s t rs .reports)
+run-some d h = run-each Some d (λ n b s r u. some-each n r (fieldsOf r) (reportedOf r (stepIn d b s r u)) (step-in-blamed d (h .cues .0) s u b r))
 
 -- ---- a word
 word-only : (r q : Report) → Fits r → Fits q → reportWord q ≡ reportWord r → q ≡ r
@@ -188,46 +195,77 @@ word-said r h =
       only = λ q g e. word-only r q h g e;
     }
 
--- ---- of a load
-module _ (d : Desk) (t stream : List ℕ) where
+-- ---- of a run whose own reports, each and in their order, are known
+pub record Known (d : Desk) (stream : List ℕ) (x : Run) : Type 0 where
+  pub few : length (x .outcomes) ≤ length stream
+  pub rising : Rising (min 1 (length (x .outcomes))) (length (x .outcomes)) (x .reports)
+  pub near : Each Near (x .reports)
+  pub short : Each Short (x .reports)
+  pub some : InRange d → Each Some (x .reports)
+
+module _ (d : Desk) (stream : List ℕ) (x : Run) (known : Known d stream x) where
   abbrev reports : List Report
-  reports = allReports (loadOf d t stream)
+  reports = allReports x
 
   abbrev records : ℕ
-  records = length (loadOf d t stream .outcomes)
+  records = length (x .outcomes)
+
+  rises : Rising (min 1 records) records reports
+  rises = all-rising x (known .rising)
 
   number-at : (k : ℕ) → k < length reports → (min 1 records ≤ reportAt reports k .number) × (reportAt reports k .number ≤ records)
-  number-at k l = rising-at (min 1 records) records reports k (load-rising d t stream) l
+  number-at k l = rising-at (min 1 records) records reports k rises l
 
-  pub load-near : (k : ℕ) → k < length reports → reportAt reports k .column ≤ longest
-  load-near k l = each-at Near reports k (load-each Near d (record-near d) (λ n. zero-le) t stream) l
+  pub known-near : (k : ℕ) → k < length reports → reportAt reports k .column ≤ longest
+  known-near k l = each-at Near reports k (all-each Near (λ n. zero-le) x (known .near)) l
 
-  load-fits : length stream < numberSpan → (k : ℕ) → k < length reports → Fits (reportAt reports k)
-  load-fits h k l =
+  known-fits : length stream < numberSpan → (k : ℕ) → k < length reports → Fits (reportAt reports k)
+  known-fits h k l =
       let a : reportAt reports k .number ≤ records = number-at k l .1 in
-      let b : records ≤ length stream = load-records d t stream in
-      let c : reportAt reports k .column ≤ longest = load-near k l in
+      let b : records ≤ length stream = known .few in
+      let c : reportAt reports k .column ≤ longest = known-near k l in
       record {
         number = omega arith;
-        condition =
-            each-at Short reports k (load-each Short d (λ n s r u. short-each n r (reportedOf r (recordStep d s r u)) (record-said d s r u .small)) (λ n. lit< tt) t stream) l;
+        condition = each-at Short reports k (all-each Short (λ n. lit< tt) x (known .short)) l;
         column = omega arith;
       }
 
-  load-some : InRange d → (k : ℕ) → k < length reports → 0 < reportAt reports k .condition
-  load-some h k l =
-      each-at Some reports k
-      (load-each Some d (λ n s r u. some-each n r (fieldsOf r) (reportedOf r (recordStep d s r u)) (record-blamed d (h .cues .0) s u r)) (λ n. lit< tt) t stream) l
-
-  pub load-reported : Reported d stream (loadOf d t stream)
-  load-reported = (
+  pub known-reported : Reported d stream x
+  known-reported = (
     record {
-      order = λ i j l g. rising-order (min 1 records) records reports i j (load-rising d t stream) l g;
+      order = λ i j l g. rising-order (min 1 records) records reports i j rises l g;
       read = λ k l. number-at k l .1;
       none = λ k l e. let a : min 1 records ≤ reportAt reports k .number = number-at k l .0 in omega arith;
-      condition = load-some;
-      fits = load-fits;
-      words = λ h k l. word-said (reportAt reports k) (load-fits h k l);
+      condition = λ h k l. each-at Some reports k (all-each Some (λ n. lit< tt) x (known .some h)) l;
+      fits = known-fits;
+      words = λ h k l. word-said (reportAt reports k) (known-fits h k l);
     },
-    load-closing d t stream,
+    run-closing x,
   )
+
+-- ---- the records of a stream, in either load; and so a normal one
+pub run-known : (d : Desk) (b : Numbers) (t stream : List ℕ) → Known d stream (runIn d 0 b nothingOpen t (recordsOf stream))
+run-known d b t stream =
+    let x = runIn d 0 b nothingOpen t (recordsOf stream) in
+    let n = length (x .outcomes) in
+    let e : 0 + n ≡ n = omega arith in
+    record {
+      few = stream-records d b t stream;
+      rising =
+          rising-from (min 1 n) 1 n (x .reports) (omega arith)
+          (subst (λ (k : ℕ). Rising 1 k (x .reports)) e (run-rising d 0 b nothingOpen t (recordsOf stream)));
+      near = run-near d 0 b nothingOpen t (recordsOf stream);
+      short = run-short d 0 b nothingOpen t (recordsOf stream);
+      some = λ h. run-some d h 0 b nothingOpen t (recordsOf stream);
+    }
+
+module _ (d : Desk) (t stream : List ℕ) where
+  load-known : Known d stream (loadOf d t stream)
+  unfolding loadOf
+  load-known = subst (Known d stream) (run-given d 0 asGiven nothingOpen t (recordsOf stream) refl) (run-known d asGiven t stream)
+
+  pub load-near : (k : ℕ) → k < length (allReports (loadOf d t stream)) → reportAt (allReports (loadOf d t stream)) k .column ≤ longest
+  load-near = known-near d stream (loadOf d t stream) load-known
+
+  pub load-reported : Reported d stream (loadOf d t stream)
+  load-reported = known-reported d stream (loadOf d t stream) load-known

@@ -20,12 +20,18 @@ unfolding tallyOf howMany
 tally-counts k [] = refl
 tally-counts k (o ∷ os) = ap (λ (n : ℕ). cond (eqClass k (classOf o)) (suc n) n) (tally-counts k os)
 
-module _ (d : Desk) (t stream : List ℕ) where
-  pub load-counts : (totalsOf (loadOf d t stream) .blank ≡ howMany blank (classesOf (loadOf d t stream)))
-      × (totalsOf (loadOf d t stream) .passed ≡ howMany passed (classesOf (loadOf d t stream)))
-      × (totalsOf (loadOf d t stream) .dropped ≡ howMany dropped (classesOf (loadOf d t stream)))
-      × (totalsOf (loadOf d t stream) .obeyed ≡ howMany obeyed (classesOf (loadOf d t stream)))
-  unfolding totalsOf classesOf
-  load-counts =
-      let os = loadOf d t stream .outcomes in
-      (tally-counts blank os, tally-counts passed os, tally-counts dropped os, tally-counts obeyed os)
+-- of any run, and so of a load
+abbrev pub Counted : Run → Type 0
+Counted x = (totalsOf x .blank ≡ howMany blank (classesOf x))
+    × (totalsOf x .passed ≡ howMany passed (classesOf x))
+    × (totalsOf x .dropped ≡ howMany dropped (classesOf x))
+    × (totalsOf x .obeyed ≡ howMany obeyed (classesOf x))
+
+pub run-counts : (x : Run) → Counted x
+unfolding totalsOf classesOf
+run-counts x =
+    let os = x .outcomes in
+    (tally-counts blank os, tally-counts passed os, tally-counts dropped os, tally-counts obeyed os)
+
+pub load-counts : (d : Desk) (t stream : List ℕ) → Counted (loadOf d t stream)
+load-counts d t stream = run-counts (loadOf d t stream)

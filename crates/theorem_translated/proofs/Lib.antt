@@ -1,0 +1,11 @@
+pub mod Unlinked
+pub mod Links
+pub mod Good
+pub mod Tallies
+pub mod Numbers
+pub mod Classes
+pub mod Reports
+pub mod Bytes
+pub mod Past
+pub mod Counts
+pub mod Edges

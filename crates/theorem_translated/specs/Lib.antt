@@ -1,0 +1,4 @@
+pub mod Numbered
+pub mod Links
+pub mod Columns
+pub mod Edges
