@@ -1,7 +1,8 @@
-/* cue_sheet FILE [nine limits]: loads a show file into an empty desk and prints a cue sheet for the prep bench.
+/* cue_sheet [--translate] FILE [nine limits]: loads a show file into an empty desk and prints a cue sheet for the prep bench.
  *
- * The desk is the house small desk unless its nine limits are given, in the order of include/sphairune.h. First come the reports, each with
- * the record as received and a mark under the field that is blamed, then the cues by page and number, then what is kept and the tallies.
+ * The desk is the house small desk unless its nine limits are given, in the order of include/sphairune.h. With --translate the load is the
+ * one with translation, which numbers all memories anew. First come the reports, each with the record as received and a mark under the field
+ * that is blamed, then the cues by page and number, then what is kept and the tallies.
  * Exit status 0 where there is a sheet, 1 where the file cannot be read, a call is turned away or the sheet cannot be written, 2 where the
  * arguments are wrong.
  * bindings/rust/examples/cue_sheet.rs prints the same. */
@@ -117,8 +118,13 @@ static void print_record(const struct record *r, uint32_t column, int ahead) {
     if (column) printf("%*c\n", ahead + 1, '^');
 }
 
-/* Each report with its record, which is found in the same pass, since reports come in the order of records. */
-static void print_reports(const uint64_t *reports, uint32_t count, size_t n) {
+/* The one call that differs between the two loads. */
+typedef uint32_t loader(const uint32_t *limits, size_t limits_n, uint8_t *store, size_t store_n, const uint8_t *stream, size_t stream_n,
+                        uint64_t *reports, size_t reports_n, uint32_t *totals, size_t totals_n);
+
+/* Each report with its record, which is found in the same pass, since reports come in the order of records. Two are of no record: 100 is of
+ * the end of the stream, and with translation, where a CUE's own number is not looked at, 41 is of a link. */
+static void print_reports(const uint64_t *reports, uint32_t count, size_t n, int translated) {
     struct record r = {0, 0, 1};
     find_end(&r, n);
     if (count == 0) {
@@ -136,7 +142,9 @@ static void print_reports(const uint64_t *reports, uint32_t count, size_t n) {
         sphairune_condition_string(condition, text);
         int ahead = printf("  %-10s %04u-%c %-36s", where, condition, sphairune_severity(condition), text);
         if (condition == 100) {
-            printf("\n"); /* of the end of the stream, not of a record */
+            printf("\n");
+        } else if (translated && condition == 41) {
+            printf("  a LINK asks for a number that no CUE has\n");
         } else {
             ahead += printf("  ");
             print_record(&r, column, ahead);
@@ -242,24 +250,27 @@ static void print_totals(const uint32_t *t) {
 
 int main(int count, char **words) {
     uint32_t desk[SPHAIRUNE_LIMITS] = SPHAIRUNE_HOUSE, totals[SPHAIRUNE_TOTALS];
-    int right = count == 2 || count == 2 + SPHAIRUNE_LIMITS;
-    for (int i = 2; right && i < count; i++) right = limit(words[i], &desk[i - 2]);
+    int translated = count > 1 && strcmp(words[1], "--translate") == 0, first = 1 + translated;
+    int right = count == first + 1 || count == first + 1 + SPHAIRUNE_LIMITS;
+    for (int i = first + 1; right && i < count; i++) right = limit(words[i], &desk[i - first - 1]);
     if (!right) {
-        fprintf(stderr, "usage: cue_sheet FILE [CHANNELS DIMMERS CUES GROUPS SUBMASTERS CUE-PAGES GROUP-PAGES SUBMASTER-PAGES PATCH-PAGES]\n");
+        fprintf(stderr, "usage: cue_sheet [--translate] FILE "
+                        "[CHANNELS DIMMERS CUES GROUPS SUBMASTERS CUE-PAGES GROUP-PAGES SUBMASTER-PAGES PATCH-PAGES]\n");
         return 2;
     }
-    const char *file = words[1];
+    const char *file = words[first];
+    loader *load = translated ? sphairune_translate : sphairune_load;
     size_t n = read_file(file), store_n;
     answered(file, sphairune_needed(desk, SPHAIRUNE_LIMITS, &store_n, 1));
     uint8_t *store = room(store_n, 1);
     uint64_t *reports = room(n + 1, sizeof *reports); /* one more than the bytes: such a list never fills */
     answered(file, sphairune_empty(desk, SPHAIRUNE_LIMITS, store, store_n));
-    answered(file, sphairune_load(desk, SPHAIRUNE_LIMITS, store, store_n, stream, n, reports, n + 1, totals, SPHAIRUNE_TOTALS));
+    answered(file, load(desk, SPHAIRUNE_LIMITS, store, store_n, stream, n, reports, n + 1, totals, SPHAIRUNE_TOTALS));
 
-    printf("CUE SHEET %s\n", file);
+    printf("CUE SHEET %s%s\n", file, translated ? ", loaded with translation: all memories are numbered anew" : "");
     print_desk(desk);
     printf("\n");
-    print_reports(reports, totals[SPHAIRUNE_REPORTS], n);
+    print_reports(reports, totals[SPHAIRUNE_REPORTS], n, translated);
     printf("\n");
     print_cues(file, desk, store, store_n);
     printf("\n");

@@ -1,7 +1,7 @@
 /* sphairune.h: the proved reader and writer of lighting show data (USITT ASCII 3.0), for programs in C99 or C++.
  *
  * Link with libsphairune.a, which tools/library builds; it needs memcpy and memset of the C library and nothing else. docs/LIBRARY.md
- * tells how, and what is proved: the thirteen calls declared here are, the inline functions at the end are not.
+ * tells how, and what is proved: the fourteen calls declared here are, the inline functions at the end are not.
  *
  * A show lives in a store, which is the caller's own bytes. A desk is the list of its nine limits, which says how long the store has to be
  * and how it is laid out; no caller has to know the layout, since calls read it. Nothing allocates, nothing is kept between calls, and a
@@ -67,10 +67,11 @@ enum {
 
 /* ---- Answers */
 
-/* A call answers one word: a number, and 256 times a place. The number is 0, or says why the call is turned away; the reasons are tested in
- * this order, R4a, R4b and R4c each over the whole store. These three are a store that is not in good form for this desk (never emptied,
- * another desk's, or damaged), and they alone have a place, from 1: R4a and R4b count slots through the whole store, cues, then groups, then
- * submasters; R4c counts patch entries. So an answer is compared with 0 as it is, and with any other number by sphairune_answer_number. */
+/* A call answers one word: a number, and 256 times a place. The number is 0, or says why the call is turned away; the reasons that a call
+ * has are tested in this order, R4a, R4b and R4c each over the whole store. These three are a store that is not in good form for this desk
+ * (never emptied, another desk's, or damaged), and they alone have a place, from 1: R4a and R4b count slots through the whole store, cues,
+ * then groups, then submasters; R4c counts patch entries. So an answer is compared with 0 as it is, and with any other number by
+ * sphairune_answer_number. */
 enum {
     SPHAIRUNE_DONE = 0,
     SPHAIRUNE_R1 = 1,         /* the stream is longer than SPHAIRUNE_MOST_STREAM bytes */
@@ -81,10 +82,11 @@ enum {
     SPHAIRUNE_R4C = 0x4C,     /* a patch entry is out of form; the first such entry */
     SPHAIRUNE_R5 = 5,         /* the written stream would be longer than SPHAIRUNE_MOST_STREAM bytes */
     SPHAIRUNE_R6 = 6,         /* the written stream, or a text, is longer than the output given */
+    SPHAIRUNE_R7 = 7,         /* a load with translation, tested after R4c: the desk has no groups, or no submasters */
     SPHAIRUNE_NOT_KEPT = 0xFF /* no refusal: the cue is not kept; or the desk has no such slot or dimmer, or there is no such kind */
 };
 
-/* What a load tells, by its place in the list of totals. Each record read is in one of the four tallies. */
+/* What a load tells, with translation or without, by its place in the list of totals. Each record read is in one of the four tallies. */
 enum {
     SPHAIRUNE_REPORTS, /* how many conditions were reported, those that found no room in the list of reports too */
     SPHAIRUNE_BLANK,   /* records with no field */
@@ -146,6 +148,16 @@ uint32_t sphairune_empty(const uint32_t *limits, size_t limits_n, uint8_t *store
  * Faults in the stream are no refusals: they are reported, and the rest is read. A list of reports with stream_n + 1 entries never fills. */
 uint32_t sphairune_load(const uint32_t *limits, size_t limits_n, uint8_t *store, size_t store_n, const uint8_t *stream, size_t stream_n,
                         uint64_t *reports, size_t reports_n, uint32_t *totals, size_t totals_n);
+
+/* Reads a stream into a store as sphairune_load does, with translation (section 6.4 of the standard): each cue, group and submaster that
+ * is accepted gets the next whole number of its kind, 1, 2, 3 on page 1, then on page 2 once 999 (for submasters, the highest) is used,
+ * whatever number and page its record has. A memory that is kept under that number already is overwritten. CLEAR's page is ignored. A LINK
+ * follows the renumbering: it leads to the last accepted cue of this load whose record has the number that it asks for, before or after it.
+ * Where there is none, its record stays obeyed, and when the load ends the link is removed and reported: 41, column 0, under the number of
+ * records read. Links that stood before the load stay.
+ * Answers as sphairune_load does; or, after R4c, R7, with `store`, `reports` and `totals` as they were. */
+uint32_t sphairune_translate(const uint32_t *limits, size_t limits_n, uint8_t *store, size_t store_n, const uint8_t *stream,
+                             size_t stream_n, uint64_t *reports, size_t reports_n, uint32_t *totals, size_t totals_n);
 
 /* Writes a store's show as one fixed stream: the same show is always the same bytes, and loading them gives the same show.
  * Answers 0, with the stream at the beginning of `out`, the bytes of `out` past it as they were, and its length in length[0]. Or R6, with
@@ -241,6 +253,7 @@ static inline const char *sphairune_refusal_name(uint32_t answer) {
     case SPHAIRUNE_R4C: return "R4c";
     case SPHAIRUNE_R5: return "R5";
     case SPHAIRUNE_R6: return "R6";
+    case SPHAIRUNE_R7: return "R7";
     default: return "";
     }
 }
@@ -256,6 +269,7 @@ static inline const char *sphairune_refusal_text(uint32_t answer) {
     case SPHAIRUNE_R4C: return "a patch entry is out of form for this desk";
     case SPHAIRUNE_R5: return "the written stream would be longer than 262143 bytes";
     case SPHAIRUNE_R6: return "the written stream is longer than the output given";
+    case SPHAIRUNE_R7: return "the desk has no groups, or no submasters, and a load with translation needs both";
     default: return "";
     }
 }
@@ -263,13 +277,15 @@ static inline const char *sphairune_refusal_text(uint32_t answer) {
 /* ---- Reports */
 
 /* A report is one word, the most significant bits first: the record's number, from 1, in 18 bits, the condition in 14, the column in 7, and
- * 25 zero bits. With condition 100 the number is the count of records read. */
+ * 25 zero bits. With condition 100 the number is the count of records read, and so it is with each 41 of a load with translation, which is
+ * of a link that was removed. */
 static inline uint32_t sphairune_report_record(uint64_t word) { return (uint32_t)(word >> 46); }
 
 static inline uint32_t sphairune_report_condition(uint64_t word) { return (uint32_t)(word >> 32 & 0x3fff); }
 
 /* Where the blamed field's first character stands in the record as received: 1 to 80, counting every character, an ignored one or a tab as
- * one. 51, 52, 151 and 152 blame the keyword. 0 where the field is missing, and with 21, 22, 91, 100, 701 and 702. */
+ * one. 51, 52, 151 and 152 blame the keyword. 0 where the field is missing, with 21, 22, 91, 100, 701 and 702, and with 41 of a link that
+ * was removed. */
 static inline uint32_t sphairune_report_column(uint64_t word) { return (uint32_t)(word >> 25 & 0x7f); }
 
 /* ---- Memories and texts */

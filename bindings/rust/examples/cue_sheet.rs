@@ -1,9 +1,10 @@
-//! cue_sheet FILE [nine limits]: loads a show file into an empty desk and prints a cue sheet for the prep bench.
+//! cue_sheet [--translate] FILE [nine limits]: loads a show file into an empty desk and prints a cue sheet for the prep bench.
 //!
-//! The desk is the house small desk unless its nine limits are given, in the order of `Desk`. First come the reports, each with the record
-//! as received and a mark under the field that is blamed, then the cues by page and number, then what is kept and the tallies. Exit status 0
-//! where there is a sheet, 1 where the file cannot be read, a call is turned away or the sheet cannot be written, 2 where the arguments are
-//! wrong. examples/cue_sheet.c prints the same.
+//! The desk is the house small desk unless its nine limits are given, in the order of `Desk`. With `--translate` the load is the one with
+//! translation, which numbers all memories anew. First come the reports, each with the record as received and a mark under the field that
+//! is blamed, then the cues by page and number, then what is kept and the tallies. Exit status 0 where there is a sheet, 1 where the file
+//! cannot be read, a call is turned away or the sheet cannot be written, 2 where the arguments are wrong. examples/cue_sheet.c prints the
+//! same.
 use sphairune::{condition_text, percent, severity, time_text, Desk, Fade, Memory, Number, Refused, Report, Totals, MOST_STREAM};
 use std::env;
 use std::fs::File;
@@ -71,7 +72,8 @@ fn condition(number: u32) -> String {
     format!("{number:04}-{} {}", severity(number), condition_text(number))
 }
 
-fn report_lines(reports: &[Report], stream: &[u8]) -> String {
+/// Two are of no record: 100 is of the end of the stream, and with translation, where a CUE's own number is not looked at, 41 is of a link.
+fn report_lines(reports: &[Report], stream: &[u8], translated: bool) -> String {
     if reports.is_empty() {
         return "REPORTS none\n".into();
     }
@@ -80,7 +82,8 @@ fn report_lines(reports: &[Report], stream: &[u8]) -> String {
     for r in reports {
         let line = format!("  {:10} {:43}", format!("({:05}:{})", r.record, r.column), condition(r.condition));
         text += &match r.condition {
-            100 => line + "\n", // of the end of the stream, not of a record
+            100 => line + "\n",
+            41 if translated => line + "  a LINK asks for a number that no CUE has\n",
             _ => marked(line + "  ", records[r.record as usize - 1], r.column as usize),
         };
     }
@@ -165,35 +168,40 @@ fn total_lines(t: Totals) -> String {
     format!("RECORDS {}: {tallies}\nCLOSING {}\n", t.records(), condition(t.closing))
 }
 
-fn sheet(file: &str, desk: Desk, stream: &[u8]) -> Result<String, Refused> {
+fn sheet(file: &str, desk: Desk, stream: &[u8], translated: bool) -> Result<String, Refused> {
     let mut store = vec![0; desk.needed()?];
     let mut list = vec![0; stream.len() + 1]; // one more than the bytes: such a list never fills
     desk.empty(&mut store)?;
-    let totals = desk.load(&mut store, stream, &mut list)?;
+    let load = if translated { Desk::translate } else { Desk::load };
+    let totals = load(desk, &mut store, stream, &mut list)?;
     let reports: Vec<Report> = totals.stored(&list).collect();
-    let mut text = format!("CUE SHEET {file}\n{}\n", desk_line(desk));
-    text += &format!("{}\n{}\n", report_lines(&reports, stream), cue_lines(desk, &store)?);
+    let how = if translated { ", loaded with translation: all memories are numbered anew" } else { "" };
+    let mut text = format!("CUE SHEET {file}{how}\n{}\n", desk_line(desk));
+    text += &format!("{}\n{}\n", report_lines(&reports, stream, translated), cue_lines(desk, &store)?);
     Ok(text + &kept_line(desk, &store)? + &total_lines(totals))
 }
 
 /// Prints the sheet, or says in words why there is none.
-fn run(file: &str, desk: Desk) -> Result<(), String> {
+fn run(file: &str, desk: Desk, translated: bool) -> Result<(), String> {
     let stream = read_file(file).map_err(|e| match e.kind() {
         ErrorKind::NotFound => "no such file".to_string(),
         _ => "cannot be read".to_string(),
     })?;
-    let sheet = sheet(file, desk, &stream).map_err(|refused| format!("refused, {}: {refused}", refused.name()))?;
+    let sheet = sheet(file, desk, &stream, translated).map_err(|refused| format!("refused, {}: {refused}", refused.name()))?;
     let mut out = io::stdout();
     out.write_all(sheet.as_bytes()).and_then(|()| out.flush()).map_err(|_| "the sheet cannot be written".to_string())
 }
 
 fn main() -> ExitCode {
-    let words: Vec<String> = env::args().skip(1).collect();
+    let mut words: Vec<String> = env::args().skip(1).collect();
+    let translated = words.first().is_some_and(|word| word == "--translate");
+    words.drain(..usize::from(translated));
     let Some((file, desk)) = words.split_first().and_then(|(file, limits)| Some((file, desk(limits)?))) else {
-        eprintln!("usage: cue_sheet FILE [CHANNELS DIMMERS CUES GROUPS SUBMASTERS CUE-PAGES GROUP-PAGES SUBMASTER-PAGES PATCH-PAGES]");
+        let limits = "CHANNELS DIMMERS CUES GROUPS SUBMASTERS CUE-PAGES GROUP-PAGES SUBMASTER-PAGES PATCH-PAGES";
+        eprintln!("usage: cue_sheet [--translate] FILE [{limits}]");
         return ExitCode::from(2);
     };
-    match run(file, desk) {
+    match run(file, desk, translated) {
         Ok(()) => ExitCode::SUCCESS,
         Err(why) => {
             eprintln!("cue_sheet: {file}: {why}");

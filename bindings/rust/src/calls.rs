@@ -1,4 +1,4 @@
-//! The thirteen calls of the library as they are, with numbers and lists; the only unsafe code. A slice of Rust is what the library asks of
+//! The fourteen calls of the library as they are, with numbers and lists; the only unsafe code. A slice of Rust is what the library asks of
 //! a list: a pointer that is aligned and not null, to as many entries as the length says; and a slice lent as `&mut` overlaps no other.
 //! Each but [`percent`] and [`severity`] answers a word, its number in the low eight bits: 0, or that of the refusal
 //! ([`Refused::number`](crate::Refused::number)), and then every lent list is as it was, but that [`write()`] and the texts with 6 store the
@@ -21,6 +21,18 @@ mod library {
         pub fn sphairune_needed(limits: *const u32, limits_n: usize, length: *mut usize, length_n: usize) -> u32;
         pub fn sphairune_empty(limits: *const u32, limits_n: usize, store: *mut u8, store_n: usize) -> u32;
         pub fn sphairune_load(
+            limits: *const u32,
+            limits_n: usize,
+            store: *mut u8,
+            store_n: usize,
+            stream: *const u8,
+            stream_n: usize,
+            reports: *mut u64,
+            reports_n: usize,
+            totals: *mut u32,
+            totals_n: usize,
+        ) -> u32;
+        pub fn sphairune_translate(
             limits: *const u32,
             limits_n: usize,
             store: *mut u8,
@@ -113,6 +125,24 @@ pub fn empty(limits: &[u32], store: &mut [u8]) -> u32 {
 pub fn load(limits: &[u32], store: &mut [u8], stream: &[u8], reports: &mut [u64], totals: &mut [u32]) -> u32 {
     unsafe {
         library::sphairune_load(
+            limits.as_ptr(),
+            limits.len(),
+            store.as_mut_ptr(),
+            store.len(),
+            stream.as_ptr(),
+            stream.len(),
+            reports.as_mut_ptr(),
+            reports.len(),
+            totals.as_mut_ptr(),
+            totals.len(),
+        )
+    }
+}
+
+/// As [`load`], with translation: cues, groups and submasters are numbered anew.
+pub fn translate(limits: &[u32], store: &mut [u8], stream: &[u8], reports: &mut [u64], totals: &mut [u32]) -> u32 {
+    unsafe {
+        library::sphairune_translate(
             limits.as_ptr(),
             limits.len(),
             store.as_mut_ptr(),

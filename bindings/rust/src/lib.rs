@@ -76,6 +76,8 @@ pub enum Refused {
     R5,
     /// The written stream is longer than the output given; it needs this many bytes.
     R6(usize),
+    /// With translation: the desk has no groups, or no submasters. Tested after R4c.
+    R7,
 }
 
 impl Refused {
@@ -90,6 +92,7 @@ impl Refused {
             Refused::R4c(_) => 0x4c,
             Refused::R5 => 5,
             Refused::R6(_) => 6,
+            Refused::R7 => 7,
         }
     }
 
@@ -104,6 +107,7 @@ impl Refused {
             Refused::R4c(_) => "R4c",
             Refused::R5 => "R5",
             Refused::R6(_) => "R6",
+            Refused::R7 => "R7",
         }
     }
 
@@ -119,6 +123,7 @@ impl Refused {
             0x4c => Refused::R4c(place),
             5 => Refused::R5,
             6 => Refused::R6(length),
+            7 => Refused::R7,
             number => unreachable!("the library has no refusal {number}"),
         }
     }
@@ -135,13 +140,14 @@ impl fmt::Display for Refused {
             Refused::R4c(place) => write!(f, "patch entry {place} is out of form for this desk"),
             Refused::R5 => f.write_str("the written stream would be longer than 262143 bytes"),
             Refused::R6(_) => f.write_str("the written stream is longer than the output given"),
+            Refused::R7 => f.write_str("the desk has no groups, or no submasters, and a load with translation needs both"),
         }
     }
 }
 
 impl core::error::Error for Refused {}
 
-/// What a load tells. Each record read is in one of the four tallies.
+/// What a load tells, with translation or without. Each record read is in one of the four tallies.
 #[derive(Clone, Copy, Debug, Default, PartialEq, Eq)]
 pub struct Totals {
     /// How many conditions were reported, those that found no room in the list too.
@@ -159,6 +165,14 @@ pub struct Totals {
 }
 
 impl Totals {
+    /// What a load answers, with the totals that go with 0.
+    fn of(answer: u32, [reports, blank, obeyed, passed, dropped, closing]: [u32; 6]) -> Result<Totals, Refused> {
+        match answer {
+            0 => Ok(Totals { reports, blank, obeyed, passed, dropped, closing }),
+            r => Err(Refused::of(r, 0)),
+        }
+    }
+
     /// The records read.
     pub fn records(self) -> u32 {
         self.blank + self.obeyed + self.passed + self.dropped
@@ -174,12 +188,13 @@ impl Totals {
 /// A condition, and where it was met.
 #[derive(Clone, Copy, Debug, PartialEq, Eq)]
 pub struct Report {
-    /// From 1. With 0100 it is the count of records read.
+    /// From 1. With 0100, and with 0041 of a link that [`Desk::translate`] removed, it is the count of records read.
     pub record: u32,
     /// The standard's number.
     pub condition: u32,
     /// Where the blamed field's first character stands in the record as received: 1 to 80, counting every character, an ignored one or a
-    /// tab as one. 51, 52, 151 and 152 blame the keyword. 0 where the field is missing, and with 21, 22, 91, 100, 701 and 702.
+    /// tab as one. 51, 52, 151 and 152 blame the keyword. 0 where the field is missing, with 21, 22, 91, 100, 701 and 702, and with 41 of a
+    /// link that was removed.
     pub column: u32,
 }
 
@@ -321,11 +336,22 @@ impl Desk {
     /// Faults in the stream are no refusals: they are reported, and the rest is read. `reports` gets as many as it has room for
     /// ([`Totals::stored`]); a list with one entry more than the stream has bytes never fills.
     pub fn load(self, store: &mut [u8], stream: &[u8], reports: &mut [u64]) -> Result<Totals, Refused> {
-        let mut t = [0; 6];
-        match calls::load(&self.limits(), store, stream, reports, &mut t) {
-            0 => Ok(Totals { reports: t[0], blank: t[1], obeyed: t[2], passed: t[3], dropped: t[4], closing: t[5] }),
-            r => Err(Refused::of(r, 0)),
-        }
+        let mut totals = [0; 6];
+        let answer = calls::load(&self.limits(), store, stream, reports, &mut totals);
+        Totals::of(answer, totals)
+    }
+
+    /// As [`load`](Desk::load), with translation (§6.4): every cue, group and submaster that is accepted gets the next whole number of its
+    /// kind, whatever number and page its record has. Or R1, R2, R3, R4a, R4b, R4c, R7.
+    ///
+    /// The numbers are 1, 2, 3 on page 1, then on page 2 once 999 (for submasters, the highest) is used; a memory that is kept under one of
+    /// them is overwritten. CLEAR's page is ignored. LINK follows the renumbering: it leads to the last accepted cue whose record has the
+    /// number that it asks for, before or after it. Where there is none, the link is removed and reported when the load ends: 0041, column
+    /// 0, under the number of records read.
+    pub fn translate(self, store: &mut [u8], stream: &[u8], reports: &mut [u64]) -> Result<Totals, Refused> {
+        let mut totals = [0; 6];
+        let answer = calls::translate(&self.limits(), store, stream, reports, &mut totals);
+        Totals::of(answer, totals)
     }
 
     /// Writes a store's show as one fixed stream, at the beginning of `out`, and says its length. Or R2, R3, R4a, R4b, R4c, R5, R6.

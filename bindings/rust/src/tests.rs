@@ -222,12 +222,13 @@ fn what_is_out_of_form_and_where() {
 #[test]
 fn refusals_in_words() {
     use Refused::*;
-    for refused in [R1, R2, R3, R4a(3), R4b(5), R4c(7), R5, R6(9)] {
+    for refused in [R1, R2, R3, R4a(3), R4b(5), R4c(7), R5, R6(9), R7] {
         assert_eq!(std::format!("R{:X}", refused.number()), refused.name().to_uppercase());
     }
     assert_eq!(R4a(3).to_string(), "slot 3 is out of form for this desk");
     assert_eq!(R4b(5).to_string(), "slot 5 has the number and page of an earlier one");
     assert_eq!(R4c(7).to_string(), "patch entry 7 is out of form for this desk");
+    assert_eq!(R7.to_string(), "the desk has no groups, or no submasters, and a load with translation needs both");
 }
 
 /// The only way to R5: a show too long to write, which a large desk can keep.
@@ -243,6 +244,116 @@ fn a_show_too_long_to_write() {
         desk.load(&mut store, stream.as_bytes(), &mut []).unwrap();
     }
     assert_eq!(desk.write(&store, &mut [0; 8]), Err(Refused::R5));
+}
+
+/// An emptied store, loaded with translation.
+fn translated(desk: Desk, stream: &str) -> (Vec<u8>, Totals, Vec<Report>) {
+    let mut store = vec![0; desk.needed().unwrap()];
+    let mut list = vec![0; stream.len() + 1];
+    let totals = desk.translate(&mut store, stream.as_bytes(), &mut list).unwrap();
+    let reports = totals.stored(&list).collect();
+    (store, totals, reports)
+}
+
+/// The kept memories of a kind as whole numbers and pages.
+fn named(desk: Desk, store: &[u8], kind: Kind) -> Vec<(u32, u32)> {
+    desk.memories(store, kind).unwrap().map(|m| (m.number.whole, m.page)).collect()
+}
+
+/// The wholes of the numbers that the cues link to.
+fn links(desk: Desk, store: &[u8]) -> Vec<Option<u32>> {
+    desk.cues(store).unwrap().map(|m| m.link.map(|link| link.whole)).collect()
+}
+
+/// Each kind by itself, whatever its records bear; a refused one uses no number, and CLEAR restarts none.
+#[test]
+fn numbered_anew() {
+    let desk = Desk::of([4, 4, 3, 2, 2, 2, 1, 2, 1]);
+    let stream = "CUE 1000\nSUB 77\nGROUP 0 9\nCUE 10.25 9\nSUB\nSUB x 0\nCUE prelude\nGROUP\nSUB 1\nCUE 1\nENDDATA\n";
+    let (store, totals, reports) = translated(desk, stream);
+    assert_eq!(named(desk, &store, Kind::Cue), [(1, 1), (2, 1), (3, 1)]);
+    assert_eq!(named(desk, &store, Kind::Group), [(1, 1), (2, 1)]);
+    assert_eq!(named(desk, &store, Kind::Submaster), [(1, 1), (2, 1), (1, 2), (2, 2)]);
+    assert_eq!(reports, [Report { record: 10, condition: 21, column: 0 }]);
+    assert_eq!(totals, Totals { reports: 1, blank: 0, obeyed: 10, passed: 0, dropped: 1, closing: 21 });
+
+    let (store, _, reports) = translated(desk, "CUE 9\nCUE 9\nCUE 9\nCUE 9\nCLEAR CUES 60\nCUE 9\nENDDATA\n");
+    assert_eq!((named(desk, &store, Kind::Cue), conditions(&reports)), (vec![(4, 1)], vec![21]));
+    let (_, _, reports) = translated(desk, &("SUB 1\n".repeat(4) + "SUB 1\n SUB\nENDDATA\n"));
+    let beyond = [Report { record: 5, condition: 44, column: 5 }, Report { record: 6, condition: 44, column: 0 }];
+    assert_eq!(reports, beyond);
+}
+
+/// The thousandth cue is the first of page 2, and one beyond the last page is refused.
+#[test]
+fn a_thousand_cues_anew() {
+    let desk = Desk { cue_pages: 2, ..Desk::LARGEST };
+    let stream = "CUE 1\n".repeat(500) + "CLEAR CUES\n" + &"CUE 1\n".repeat(500) + "ENDDATA\n";
+    let (store, totals, _) = translated(desk, &stream);
+    let cues = named(desk, &store, Kind::Cue);
+    assert_eq!((cues.len(), cues[0], cues[498], cues[499], totals.closing), (500, (501, 1), (999, 1), (1, 2), 0));
+    let one = Desk { cue_pages: 1, ..desk };
+    let (store, totals, reports) = translated(one, &stream);
+    assert_eq!((named(one, &store, Kind::Cue).len(), totals.dropped), (499, 1));
+    assert_eq!(reports, [Report { record: 1001, condition: 21, column: 0 }]);
+}
+
+/// Ahead of its cue or behind it, and by value; a number that several bear is the last one's, and a cue's last LINK stands.
+#[test]
+fn links_follow_the_renumbering() {
+    let stream = "CUE 1000\nLINK 20\nCUE 20.0\nLINK 1000\nCUE 7\nLINK 0.5\nCUE 0.5 9\nLINK 7\nCUE 07\nLINK 99\nLINK 020\nENDDATA\n";
+    let (store, totals, reports) = translated(Desk::HOUSE, stream);
+    assert_eq!(links(Desk::HOUSE, &store), [Some(2), Some(1), Some(4), Some(5), Some(2)]);
+    assert_eq!((totals.obeyed, totals.closing, reports.len()), (12, 0, 0));
+}
+
+/// A number that no cue bears: the record is obeyed and the link removed, which is reported when the load ends, ahead of 0100.
+#[test]
+fn links_that_are_lost() {
+    let stream = "CUE 1\nLINK 99\nCUE 2\nLINK 10.25\nCUE 10.25\nLINK 2\nCUE\x01 4\nLINK here";
+    let (store, totals, reports) = translated(Desk::HOUSE, stream);
+    assert_eq!(links(Desk::HOUSE, &store), [None, None, Some(2), None]);
+    let lost = Report { record: 8, condition: 41, column: 0 };
+    let others = [Report { record: 7, condition: 702, column: 0 }, Report { record: 8, condition: 100, column: 0 }];
+    assert_eq!(reports, [others[0], lost, lost, lost, others[1]]);
+    assert_eq!(totals, Totals { reports: 5, blank: 0, obeyed: 8, passed: 0, dropped: 0, closing: 100 });
+}
+
+/// What is kept already is overwritten under its number; links that stood before stay.
+#[test]
+fn translated_on_top_of_a_show() {
+    let house = Desk::HOUSE;
+    let (mut store, ..) = loaded(house, "house");
+    assert_eq!(links(house, &store)[7], Some(0));
+    house.translate(&mut store, b"CUE 500\nCHAN 3@H01\nENDDATA\n", &mut []).unwrap();
+    assert_eq!(house.cues(&store).unwrap().len(), 10);
+    assert_eq!(house.look_up(&store, 1, 1, 0).unwrap().map(|levels| levels[..4].to_vec()), Some(vec![0, 0, 1, 0]));
+    assert_eq!(links(house, &store)[7], Some(0));
+}
+
+/// R7 comes after R4c, and every lent byte is as it was.
+#[test]
+fn translation_refused_and_untouched() {
+    let house = Desk::HOUSE;
+    let (good, ..) = loaded(house, "worked");
+    let mut list = [7; 4];
+    let mut store = good.clone();
+    assert_eq!(house.translate(&mut store, &vec![b'!'; MOST_STREAM + 1], &mut list), Err(Refused::R1));
+    assert_eq!(Desk { channels: 0, ..house }.translate(&mut store, b"", &mut list), Err(Refused::R2));
+    assert_eq!(house.translate(&mut store[..35_135], b"", &mut list), Err(Refused::R3));
+    assert_eq!((store, list), (good, [7; 4]));
+    for desk in [Desk { groups: 0, ..house }, Desk { submasters: 0, ..house }, Desk { groups: 0, submasters: 0, ..house }] {
+        let needed = desk.needed().unwrap();
+        let mut store = vec![0; needed];
+        desk.load(&mut store, b"CUE 1\nCHAN 1@HFF\nENDDATA\n", &mut []).unwrap();
+        let good = store.clone();
+        assert_eq!(desk.translate(&mut store, b"CUE 2\nENDDATA\n", &mut list), Err(Refused::R7));
+        assert_eq!((store.clone(), list), (good, [7; 4]));
+        store[needed - 1] = 1;
+        let bad = store.clone();
+        assert!(matches!(desk.translate(&mut store, b"", &mut list), Err(Refused::R4c(192))));
+        assert_eq!((store, list), (bad, [7; 4]));
+    }
 }
 
 /// The slots that are listed of a kind, and how many are kept, where `room` can be listed; what is past them has to stay as it was.
