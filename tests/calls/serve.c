@@ -1,5 +1,6 @@
 /* Answers calls of the library, one a line of standard input, so that outside vectors can be run through the exported interface.
  *   load  L1..L9 STORE STREAM CAP        -> ANSWER COUNT BLANK OBEYED PASSED DROPPED CLOSING REPORTS STORE
+ *   translate, with the same words and answer as load
  *   write L1..L9 STORE ROOM              -> ANSWER LENGTH OUT
  *   find  L1..L9 STORE PAGE WHOLE TENTHS -> ANSWER PLACE
  *   empty L1..L9 STORE                   -> ANSWER STORE
@@ -59,13 +60,15 @@ int main(void) {
         }
         uint8_t *store = bytes(&n), *before = malloc(n + 1);
         memcpy(before, store, n);
-        if (!strcmp(what, "load")) {
+        if (!strcmp(what, "load") || !strcmp(what, "translate")) {
             uint8_t *stream = bytes(&m);
             uint32_t cap = number(), totals[6];
             uint64_t *reports = malloc((cap + 1) * sizeof *reports);
             for (uint32_t i = 0; i < 6; i++) totals[i] = (uint32_t)MARK;
             for (uint32_t i = 0; i < cap; i++) reports[i] = MARK;
-            uint32_t r = sphairune_load(limits, 9, store, n, stream, m, reports, cap, totals, 6);
+            uint32_t (*load)(const uint32_t *, size_t, uint8_t *, size_t, const uint8_t *, size_t, uint64_t *, size_t, uint32_t *, size_t) =
+                *what == 't' ? sphairune_translate : sphairune_load;
+            uint32_t r = load(limits, 9, store, n, stream, m, reports, cap, totals, 6);
             printf("%u %u %u %u %u %u %u ", r, totals[0], totals[1], totals[2], totals[3], totals[4], totals[5]);
             uint32_t stored = r ? 0 : totals[0] < cap ? totals[0] : cap;
             putchar('[');

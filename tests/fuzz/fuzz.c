@@ -1,10 +1,11 @@
 /* Calls of the library on inputs that a fuzzer makes up; a broken promise aborts.
  *
  * Nine bytes choose the desk, three the room for reports, the bytes past the store, and a byte to spoil; the rest is the stream.
- * Then: load; the totals against the reports and the stream, each column against its record; write with too little room, just enough and
- * more; the written stream read back into this store and into an empty one; every kept cue found; the memories of each kind listed, every
- * head and patch entry against a plain reading of its bits; the store spoilt, and then refused for what was spoilt or not, by every call
- * alike, but that heads and patch entries are still told; a time and a condition in words. */
+ * Then: load; the totals against the reports and the stream, each column against its record; the same stream loaded with translation, into
+ * an empty store and on top of the first load; write with too little room, just enough and more; the written stream read back into this
+ * store and into an empty one; every kept cue found; the memories of each kind listed, every head and patch entry against a plain reading
+ * of its bits; the store spoilt, and then refused for what was spoilt or not, by every call alike, but that heads and patch entries are
+ * still told; a time and a condition in words. */
 #include <stdint.h>
 #include <stdio.h>
 #include <stdlib.h>
@@ -93,21 +94,37 @@ static void check_column(const uint8_t *record, size_t length, uint32_t conditio
 
 static int is_error(uint32_t condition) { return condition == 91 || condition == 99 || condition == 100; }
 
+static uint32_t read_in(const uint32_t *t) { return t[BLANK] + t[OBEYED] + t[PASSED] + t[DROPPED]; }
+
+/* With translation no number, page or kind is at fault, and 0041 is of a link that is lost when the load ends. */
+static void check_translated_report(uint32_t condition, uint32_t column, int at_end) {
+    HOLDS(condition != 42 && condition != 43 && condition != 51 && condition != 52);
+    if (condition == 41) HOLDS(at_end && column == 0);
+}
+
 /* The totals against the reports, where all are stored, and against the stream. */
-static void check_totals(const uint32_t *t, const uint64_t *reports, size_t room, const uint8_t *stream, size_t n) {
-    uint32_t read = t[BLANK] + t[OBEYED] + t[PASSED] + t[DROPPED], records = records_in(stream, n);
+static void check_totals(const uint32_t *t, const uint64_t *reports, size_t room, const uint8_t *stream, size_t n, int translated) {
+    uint32_t read = read_in(t), records = records_in(stream, n);
     HOLDS(read <= records && read <= n && t[COUNT] <= n + 1);
     uint32_t stored = t[COUNT] < room ? t[COUNT] : (uint32_t)room, last = 0, error = 0, warning = 0;
+    int stopped = 0, lost = 0;
     size_t from = 0;
     for (uint32_t i = 0; i < stored; i++) {
         uint32_t record = sphairune_report_record(reports[i]), condition = sphairune_report_condition(reports[i]);
+        uint32_t column = sphairune_report_column(reports[i]);
         HOLDS(record >= last && record <= read && condition != 0 && reports[i] % (1u << 25) == 0);
         for (uint32_t at = last ? last : 1; at < record; at++) from = next_of(stream, n, from);
-        check_column(stream + from, end_of(stream, n, from) - from, condition, sphairune_report_column(reports[i]));
+        check_column(stream + from, end_of(stream, n, from) - from, condition, column);
+        if (translated) check_translated_report(condition, column, record == read);
+        /* Behind what stops a load stand lost links alone, and behind those 0100. */
+        if (stopped) HOLDS(translated && condition == 41);
+        if (lost) HOLDS(condition == 41 || condition == 100);
         if (is_error(condition)) error = condition;
         else warning = condition;
-        if (condition == 91 || condition == 99) HOLDS(record == read && i + 1 == t[COUNT]);
+        if (condition == 91 || condition == 99) HOLDS(record == read && (translated || i + 1 == t[COUNT]));
         if (condition == 100) HOLDS(record == read && i + 1 == t[COUNT] && read == records);
+        stopped |= condition == 91 || condition == 99;
+        lost |= translated && condition == 41;
         last = record;
     }
     HOLDS(all_marked(reports + stored, (room - stored) * sizeof *reports));
@@ -190,6 +207,42 @@ static uint32_t bits(const uint8_t *bytes, uint32_t from, uint32_t count) {
     uint32_t value = 0;
     for (uint32_t bit = from; bit < from + count; bit++) value = value << 1 | (bytes[bit / 8] >> (7 - bit % 8) & 1u);
     return value;
+}
+
+/* The cues and groups that a load with translation made have whole numbers, and so have the links of those cues. */
+static void check_numbers(const uint32_t *limits, const uint8_t *before, const uint8_t *store) {
+    size_t slot = 24 + limits[0];
+    for (size_t i = 0; i < limits[2] + limits[3]; i++) {
+        const uint8_t *made = store + i * slot;
+        if (!(made[0] >> 7) || !memcmp(made, before + i * slot, slot)) continue;
+        HOLDS((name_of(made) & 15) == 0 && bits(made, 32, 4) == 0);
+    }
+}
+
+/* A load with translation, on top of what a store keeps: the store is in good form still, and as many records are read, and are blank, as
+ * without translation. A desk without groups or submasters is refused for that, and nothing is touched. */
+static void check_translated(const uint32_t *limits, const uint8_t *before, size_t n, size_t needed, const uint8_t *stream, size_t m,
+                             size_t room, const uint32_t *normal) {
+    uint8_t *store = lend(n), *other = lend(n);
+    uint64_t *reports = lend(room * sizeof *reports);
+    uint32_t *totals = lend(TOTALS * sizeof *totals), other_totals[TOTALS];
+    memcpy(store, before, n);
+    memcpy(other, before, n);
+    uint32_t answer = sphairune_translate(limits, 9, store, n, stream, m, reports, room, totals, TOTALS);
+    if (limits[3] == 0 || limits[4] == 0) {
+        HOLDS(answer == SPHAIRUNE_R7 && !memcmp(store, before, n));
+        HOLDS(all_marked(reports, room * sizeof *reports) && all_marked(totals, TOTALS * sizeof *totals));
+    } else {
+        HOLDS(answer == SPHAIRUNE_DONE && !memcmp(store + needed, before + needed, n - needed));
+        check_totals(totals, reports, room, stream, m, 1);
+        HOLDS(read_in(totals) == read_in(normal) && totals[BLANK] == normal[BLANK]);
+        check_numbers(limits, before, store);
+        check_written(limits, store, n);
+        /* Nothing depends on the room for reports, nor on the totals' list. */
+        HOLDS(sphairune_translate(limits, 9, other, n, stream, m, &no_reports, 0, other_totals, TOTALS) == 0);
+        HOLDS(!memcmp(store, other, n) && !memcmp(totals, other_totals, sizeof other_totals));
+    }
+    take_back(store, n), take_back(other, n), take_back(reports, room * sizeof *reports), take_back(totals, TOTALS * sizeof *totals);
 }
 
 /* Values are the fields of these widths one after the other, as many as there is room for, and what is past them is untouched. */
@@ -318,6 +371,7 @@ static void check_refused(const uint32_t *limits, const uint8_t *store, size_t n
     size_t *word = lend(sizeof *word);
     memcpy(kept, store, n);
     HOLDS(sphairune_load(limits, 9, kept, n, stream, m, reports, 4, totals, TOTALS) == why);
+    HOLDS(sphairune_translate(limits, 9, kept, n, stream, m, reports, 4, totals, TOTALS) == why);
     HOLDS(sphairune_write(limits, 9, kept, n, out, OUT, word, 1) == why);
     HOLDS(sphairune_find(limits, 9, kept, n, 1, 1, 0, word, 1) == why);
     HOLDS(sphairune_memories(limits, 9, kept, n, n % 4, totals, TOTALS, word, 1) == why);
@@ -383,7 +437,9 @@ int LLVMFuzzerTestOneInput(const uint8_t *data, size_t size) {
     memset(other, 0, needed);
     HOLDS(sphairune_load(limits, 9, store, n, stream, m, reports, room, totals, TOTALS) == 0);
     HOLDS(all_marked(store + needed, past));
-    check_totals(totals, reports, room, stream, m);
+    check_totals(totals, reports, room, stream, m, 0);
+    check_translated(limits, other, n, needed, stream, m, room, totals);
+    check_translated(limits, store, n, needed, stream, m, room, totals);
     /* Nothing depends on the room for reports, nor on the totals' list. */
     HOLDS(sphairune_load(limits, 9, other, n, stream, m, &no_reports, 0, other_totals, TOTALS) == 0);
     HOLDS(!memcmp(store, other, n) && !memcmp(totals, other_totals, sizeof totals));

@@ -3,8 +3,8 @@
 //! the scan that finds its field's end, and its column is asked for only where it is wrong. Desk, store, form, the other keywords and the
 //! writer are those of `plain`.
 
-use crate::{Limits, Refused, Totals, LONGEST};
-use shared::{is_control, is_delimiter, Condition, Desk, Fault, Field, Fields, Kept, Load, Log, Open, Outcome};
+use crate::{Limits, Refused, Totals};
+use shared::{is_control, is_delimiter, Condition, Fault, Field, Fields, Kept, Load, Outcome};
 use shared::{COLUMNS, ENTRY, HEAD, LONGEST_RECORD};
 
 /// `plain` once more: the two are compiled apart, so that what is shared here makes the first neither faster nor slower.
@@ -14,47 +14,30 @@ mod shared;
 
 /// As `plain::load`.
 pub fn load(limits: &Limits, store: &mut [u8], stream: &[u8], reports: &mut [u64]) -> Result<Totals, Refused> {
-    if stream.len() > LONGEST {
-        return Err(Refused::R1);
-    }
-    let desk = Desk::new(limits)?;
-    let store = store.get_mut(..desk.needed()).ok_or(Refused::R3)?;
-    desk.good_form(store)?;
-    let log = Log { list: reports, count: 0, record: 0, error: 0, warning: 0 };
-    let mut load = Load { desk, store, open: Open::Nothing, log };
-    let mut totals = Totals::default();
-    let mut ended = false;
+    Ok(read(Load::begin(limits, store, stream, reports)?, stream))
+}
+
+/// As `plain::translate`.
+pub fn translate(limits: &Limits, store: &mut [u8], stream: &[u8], reports: &mut [u64]) -> Result<Totals, Refused> {
+    Ok(read(Load::begin(limits, store, stream, reports)?.translating()?, stream))
+}
+
+fn read(mut load: Load, stream: &[u8]) -> Totals {
     let mut rest = stream;
-    while !rest.is_empty() && !ended {
+    while !rest.is_empty() {
         load.log.record += 1;
         if is_end(rest[0]) {
-            totals.blank += 1;
+            load.totals.blank += 1;
             rest = next(rest);
             continue;
         }
         let outcome;
         (outcome, rest) = record(&mut load, rest);
-        match outcome {
-            Outcome::Blank => totals.blank += 1,
-            Outcome::Obeyed => totals.obeyed += 1,
-            Outcome::Passed => totals.passed += 1,
-            Outcome::Dropped(fault) => {
-                totals.dropped += 1;
-                load.log.report(fault);
-                ended = matches!(fault.condition, Condition::TooLong | Condition::Ident);
-            }
-            Outcome::End => {
-                totals.obeyed += 1;
-                ended = true;
-            }
+        if load.count(outcome) {
+            return load.end(true);
         }
     }
-    if !ended {
-        load.log.report(Condition::NoEnd.alone());
-    }
-    totals.reports = load.log.count;
-    totals.closing = if load.log.error != 0 { load.log.error } else { load.log.warning };
-    Ok(totals)
+    load.end(false)
 }
 
 const CHUNK: usize = 8;

@@ -18,6 +18,7 @@ fn refused(answer: u32, length: usize) -> Refused {
         (0x4c, 1..=2_048) => Refused::R4c(place),
         (5, 0) => Refused::R5,
         (6, 0) => Refused::R6(length),
+        (7, 0) => Refused::R7,
         _ => panic!("the library answered {answer:#x}"),
     }
 }
@@ -38,9 +39,17 @@ pub fn empty(limits: &Limits, store: &mut [u8]) -> Result<(), Refused> {
 }
 
 pub fn load(limits: &Limits, store: &mut [u8], stream: &[u8], reports: &mut [u64]) -> Result<Totals, Refused> {
+    told(|totals| calls::load(limits, store, stream, reports, totals))
+}
+
+pub fn translate(limits: &Limits, store: &mut [u8], stream: &[u8], reports: &mut [u64]) -> Result<Totals, Refused> {
+    told(|totals| calls::translate(limits, store, stream, reports, totals))
+}
+
+fn told(load: impl FnOnce(&mut [u32]) -> u32) -> Result<Totals, Refused> {
     const TOTALS: [u32; 6] = [0xdead_beef; 6];
     let mut totals = TOTALS;
-    let answer = calls::load(limits, store, stream, reports, &mut totals);
+    let answer = load(&mut totals);
     if answer != 0 {
         assert_eq!(totals, TOTALS, "answer {answer:#x} touched the totals");
         return Err(refused(answer, MARK));

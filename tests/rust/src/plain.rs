@@ -1,6 +1,7 @@
 //! A plain Rust reader and writer of show data, written from the papers: what the proved library is measured and compared with.
 
 use crate::{Limits, Refused, Totals, LONGEST};
+use std::collections::HashMap;
 use std::ops::{Range, RangeInclusive};
 
 pub(crate) const HEAD: usize = 24;
@@ -31,42 +32,23 @@ pub fn empty(limits: &Limits, store: &mut [u8]) -> Result<(), Refused> {
 
 /// Reads a stream into a store. A report is 18 bits of the record's number, 14 of the condition, 7 of the column, and 25 zero bits.
 pub fn load(limits: &Limits, store: &mut [u8], stream: &[u8], reports: &mut [u64]) -> Result<Totals, Refused> {
-    if stream.len() > LONGEST {
-        return Err(Refused::R1);
-    }
-    let desk = Desk::new(limits)?;
-    let store = store.get_mut(..desk.needed()).ok_or(Refused::R3)?;
-    desk.good_form(store)?;
-    let log = Log { list: reports, count: 0, record: 0, error: 0, warning: 0 };
-    let mut load = Load { desk, store, open: Open::Nothing, log };
-    let mut totals = Totals::default();
-    let mut ended = false;
+    Ok(read(Load::begin(limits, store, stream, reports)?, stream))
+}
+
+/// Reads a stream into a store with translation (§6.4): memories are numbered anew, and links follow.
+pub fn translate(limits: &Limits, store: &mut [u8], stream: &[u8], reports: &mut [u64]) -> Result<Totals, Refused> {
+    Ok(read(Load::begin(limits, store, stream, reports)?.translating()?, stream))
+}
+
+fn read(mut load: Load, stream: &[u8]) -> Totals {
     for record in Records(stream) {
         load.log.record += 1;
-        match load.record(record) {
-            Outcome::Blank => totals.blank += 1,
-            Outcome::Obeyed => totals.obeyed += 1,
-            Outcome::Passed => totals.passed += 1,
-            Outcome::Dropped(fault) => {
-                totals.dropped += 1;
-                load.log.report(fault);
-                ended = matches!(fault.condition, Condition::TooLong | Condition::Ident);
-            }
-            Outcome::End => {
-                totals.obeyed += 1;
-                ended = true;
-            }
-        }
-        if ended {
-            break;
+        let outcome = load.record(record);
+        if load.count(outcome) {
+            return load.end(true);
         }
     }
-    if !ended {
-        load.log.report(Condition::NoEnd.alone());
-    }
-    totals.reports = load.log.count;
-    totals.closing = if load.log.error != 0 { load.log.error } else { load.log.warning };
-    Ok(totals)
+    load.end(false)
 }
 
 /// Puts a store's show into `out` as one stream, and tells its length.
@@ -311,6 +293,19 @@ impl Desk {
     fn unused(&self, store: &[u8], kind: Kind) -> Option<usize> {
         let at = store[self.bytes(kind)].chunks_exact(self.slot()).position(|slot| !used(slot))?;
         Some(self.places(kind).start + at)
+    }
+
+    /// The page and number that a primary's fields name.
+    fn named(&self, kind: Kind, given: Field, on: Field) -> Result<(u32, Number), Fault> {
+        let number = match kind {
+            Kind::Sub => Number { whole: place(given, self.subs, Condition::Submaster)? as u32, tenths: 0 },
+            _ => number(given)?,
+        };
+        let page = match on {
+            Field { text: [], .. } => 1,
+            on => page(on, self.pages(kind), Condition::Page)?,
+        };
+        Ok((page, number))
     }
 
     /// Or R4a, R4b, R4c with their places, each looked for in the whole store before the next.
@@ -710,7 +705,7 @@ impl<'a> Fields<'a> {
 
 // Values.
 
-#[derive(Clone, Copy, PartialEq, Eq)]
+#[derive(Clone, Copy, PartialEq, Eq, Hash)]
 struct Number {
     whole: u32,
     tenths: u32,
@@ -751,6 +746,12 @@ fn number(field: Field) -> Result<Number, Fault> {
         Some((whole, _)) if whole > 999 => Err(field.blame(Condition::LargeNumber)),
         Some((whole, tenths)) => Ok(Number { whole, tenths }),
     }
+}
+
+/// A number as §7.4 formats one, 0 too, whether a desk has such a cue or not: what a foreign CUE bears and its LINK asks for.
+fn borne(field: &[u8]) -> Option<Number> {
+    let (whole, tenths) = with_tenths(field)?;
+    (whole <= 9_999).then_some(Number { whole, tenths })
 }
 
 fn page(field: Field, pages: usize, condition: Condition) -> Result<u32, Fault> {
@@ -888,8 +889,43 @@ pub(crate) enum Open {
 pub(crate) struct Load<'a> {
     pub(crate) desk: Desk,
     pub(crate) store: &'a mut [u8],
-    pub(crate) open: Open,
+    open: Open,
     pub(crate) log: Log<'a>,
+    pub(crate) totals: Totals,
+    translation: Option<Translation>,
+}
+
+/// What a load with translation remembers.
+#[derive(Default)]
+struct Translation {
+    /// How many cues, groups and submasters were accepted.
+    accepted: [usize; 3],
+    /// By the number that its record bore, the new number of the last such cue.
+    bearers: HashMap<Number, Number>,
+    /// By the slot of a cue, what its last LINK asked for; `None` is no number.
+    asked: HashMap<usize, Option<Number>>,
+}
+
+impl Translation {
+    /// The page and number of the next memory of a kind, if it has one more.
+    fn next(&self, desk: &Desk, kind: Kind) -> Option<(u32, Number)> {
+        let accepted = self.accepted[kind as usize];
+        let most = if kind == Kind::Sub { desk.subs } else { 999 };
+        let (page, whole) = (accepted / most + 1, accepted % most + 1);
+        (page <= desk.pages(kind)).then_some((page as u32, Number { whole: whole as u32, tenths: 0 }))
+    }
+
+    /// A memory was accepted, whose record has this number field.
+    fn accept(&mut self, kind: Kind, slot: usize, given: Field, number: Number) {
+        self.accepted[kind as usize] += 1;
+        if kind == Kind::Cue {
+            // Started afresh, it has asked for nothing.
+            self.asked.remove(&slot);
+            if let Some(borne) = borne(given.text) {
+                self.bearers.insert(borne, number);
+            }
+        }
+    }
 }
 
 /// The first ten characters in capitals.
@@ -900,7 +936,77 @@ fn keyword<'a>(field: &[u8], room: &'a mut [u8; 10]) -> &'a [u8] {
     &room[..field.len().min(10)]
 }
 
-impl Load<'_> {
+impl<'a> Load<'a> {
+    /// Or R1, R2, R3, R4a, R4b, R4c.
+    pub(crate) fn begin(limits: &Limits, store: &'a mut [u8], stream: &[u8], reports: &'a mut [u64]) -> Result<Load<'a>, Refused> {
+        if stream.len() > LONGEST {
+            return Err(Refused::R1);
+        }
+        let desk = Desk::new(limits)?;
+        let store = store.get_mut(..desk.needed()).ok_or(Refused::R3)?;
+        desk.good_form(store)?;
+        let log = Log { list: reports, count: 0, record: 0, error: 0, warning: 0 };
+        Ok(Load { desk, store, open: Open::Nothing, log, totals: Totals::default(), translation: None })
+    }
+
+    /// The same load with translation; or R7.
+    pub(crate) fn translating(self) -> Result<Load<'a>, Refused> {
+        if !self.desk.supports(Kind::Group) || !self.desk.supports(Kind::Sub) {
+            return Err(Refused::R7);
+        }
+        Ok(Load { translation: Some(Translation::default()), ..self })
+    }
+
+    /// Puts a record into its tally, and tells whether the load stops at it.
+    pub(crate) fn count(&mut self, outcome: Outcome) -> bool {
+        match outcome {
+            Outcome::Blank => self.totals.blank += 1,
+            Outcome::Obeyed => self.totals.obeyed += 1,
+            Outcome::Passed => self.totals.passed += 1,
+            Outcome::Dropped(fault) => {
+                self.totals.dropped += 1;
+                self.log.report(fault);
+                return matches!(fault.condition, Condition::TooLong | Condition::Ident);
+            }
+            Outcome::End => {
+                self.totals.obeyed += 1;
+                return true;
+            }
+        }
+        false
+    }
+
+    /// What a load comes to that was stopped by a record, or not.
+    pub(crate) fn end(mut self, stopped: bool) -> Totals {
+        self.link();
+        if !stopped {
+            self.log.report(Condition::NoEnd.alone());
+        }
+        let Log { count, error, warning, .. } = self.log;
+        Totals { reports: count, closing: if error != 0 { error } else { warning }, ..self.totals }
+    }
+
+    /// With translation each kept cue gets the link that it asked for, or a report where no accepted CUE bore that number.
+    fn link(&mut self) {
+        let Some(Translation { bearers, asked, .. }) = self.translation.take() else { return };
+        for (slot, asked) in asked {
+            if !used(self.slot(slot)) {
+                continue;
+            }
+            match asked.and_then(|number| bearers.get(&number)) {
+                Some(&number) => self.set_link(slot, number),
+                None => self.log.report(Condition::BadNumber.alone()),
+            }
+        }
+    }
+
+    fn set_link(&mut self, slot: usize, number: Number) {
+        let head = self.head(slot);
+        set(head, LINK, 1);
+        set(head, LINK_WHOLE, number.whole);
+        set(head, LINK_TENTHS, number.tenths);
+    }
+
     fn record(&mut self, record: &[u8]) -> Outcome {
         if record.len() > LONGEST_RECORD {
             return Outcome::Dropped(Condition::TooLong.alone());
@@ -954,11 +1060,11 @@ impl Load<'_> {
                 first,
                 |kind| kind == Kind::Cue,
                 |load, slot| {
-                    let number = number(fields.next())?;
-                    let head = load.head(slot);
-                    set(head, LINK, 1);
-                    set(head, LINK_WHOLE, number.whole);
-                    set(head, LINK_TENTHS, number.tenths);
+                    let given = fields.next();
+                    match &mut load.translation {
+                        None => load.set_link(slot, number(given)?),
+                        Some(translation) => drop(translation.asked.insert(slot, borne(given.text))),
+                    }
                     Ok(())
                 },
             ),
@@ -994,23 +1100,28 @@ impl Load<'_> {
         if !desk.supports(kind) {
             return Err(first.blame(if kind == Kind::Group { Condition::NoGroups } else { Condition::NoSubmasters }));
         }
-        let number = match kind {
-            Kind::Sub => Number { whole: place(fields.next(), desk.subs, Condition::Submaster)? as u32, tenths: 0 },
-            _ => number(fields.next())?,
+        let given = fields.next();
+        let no_room = || match kind {
+            Kind::Cue => Condition::CueRoom.alone(),
+            Kind::Group => Condition::GroupRoom.alone(),
+            Kind::Sub => given.blame(Condition::Submaster),
         };
-        let page = match fields.next() {
-            Field { text: [], .. } => 1,
-            given => page(given, desk.pages(kind), Condition::Page)?,
+        let (page, number) = match &self.translation {
+            None => desk.named(kind, given, fields.next())?,
+            Some(translation) => translation.next(&desk, kind).ok_or_else(no_room)?,
         };
         let key = key(page, number);
         let found = match kind {
             Kind::Sub => Some(desk.places(kind).start + (page as usize - 1) * desk.subs + number.whole as usize - 1),
             _ => desk.find(self.store, kind, key).or_else(|| desk.unused(self.store, kind)),
         };
-        let slot = found.ok_or(if kind == Kind::Cue { Condition::CueRoom } else { Condition::GroupRoom }.alone())?;
+        let slot = found.ok_or_else(no_room)?;
         let bytes = self.slot(slot);
         bytes.fill(0);
         bytes[..3].copy_from_slice(&(key << 3).to_be_bytes()[1..]);
+        if let Some(translation) = &mut self.translation {
+            translation.accept(kind, slot, given, number);
+        }
         Ok(slot)
     }
 
@@ -1117,6 +1228,7 @@ impl Load<'_> {
         };
         let page = match fields.next() {
             Field { text: [], .. } => None,
+            _ if self.translation.is_some() => None,
             given => Some(page(given, pages, Condition::Page)?),
         };
         for &kind in kinds {

@@ -194,21 +194,20 @@ pub fn desk(dice: &mut Dice) -> Limits {
 
 /// A stream in the grammar with faults of every sort in it, or one that is hardly in the grammar at all.
 pub fn stream(limits: &Limits, dice: &mut Dice) -> Vec<u8> {
-    let mut out = Vec::new();
     match dice.below(30) {
-        0 => {
-            out.extend((0..dice.below(200)).map(|_| dice.word() as u8));
-            return out;
-        }
+        0 => return (0..dice.below(200)).map(|_| dice.word() as u8).collect(),
         1..=3 => return lined(dice),
         4..=6 => return crowd(limits, dice),
         _ => (),
     }
-    let faults = dice.pick(&[4, 6, 12, 40, 1_000_000]);
-    let dirt = dice.pick(&[3, 12, 60, 1_000_000, 1_000_000]);
-    let mut talk = Talk { limits, dice, faults, dirt, out };
+    let mut talk = Talk::new(limits, &[], dice);
     talk.stream();
-    let Talk { mut out, .. } = talk;
+    let Talk { out, .. } = talk;
+    damaged(out, dice)
+}
+
+/// As it is most of the time; else with a few bytes changed, cut short, or at the longest.
+fn damaged(mut out: Vec<u8>, dice: &mut Dice) -> Vec<u8> {
     if dice.one_in(8) {
         for _ in 0..=dice.below(4) {
             if !out.is_empty() {
@@ -334,8 +333,66 @@ pub fn crowd(limits: &Limits, dice: &mut Dice) -> Vec<u8> {
     out
 }
 
+// Shows of other makers' desks, for the loads with translation.
+
+/// Numbers that a foreign show gives its cues and links: those of a desk of ours, some of them written in another way, the ends of what §7.4
+/// takes for a number and what lies past them, and what is none.
+pub const FOREIGN: [&str; 41] = [
+    "1", "2", "3", "5", "05", "5.0", "5.5", "005.5", "999", "999.9", "1000", "1000.0", "1000.5", "9999", "9999.0", "9999.9", "009999.9", "10000",
+    "10000.0", "10000.5", "65541", "4294967301", "18446744073709551621", "0", "0.0", "00", "0.1", "2.55", "5.50", "5.", ".5", ".", "5..0", "5.0.0",
+    "5.x", "x", "ACT1", "-5", "+5", "5:0", "$5",
+];
+
+/// A show whose cues and links have few numbers among them, so that links meet what cues bear, before or after, once or repeatedly; or one of
+/// very many memories.
+pub fn foreign(limits: &Limits, dice: &mut Dice) -> Vec<u8> {
+    match dice.below(16) {
+        0..=2 => return stream(limits, dice),
+        3 => return numerous(limits, dice),
+        _ => (),
+    }
+    let few: Vec<&str> = (0..=dice.below(9)).map(|_| dice.pick(&FOREIGN)).collect();
+    let mut talk = Talk::new(limits, &few, dice);
+    talk.foreign_show();
+    let Talk { out, .. } = talk;
+    damaged(out, dice)
+}
+
+/// So many short records of memories, cleared ahead of a full table or some time after, that their numbers go from page to page, and links
+/// among them.
+fn numerous(limits: &Limits, dice: &mut Dice) -> Vec<u8> {
+    let [_, _, cues, groups, subs, cue_pages, group_pages, sub_pages, _] = limits.map(|limit| limit.clamp(1, 600));
+    let (name, item, room, most) = match dice.below(4) {
+        0..=1 => ("CUE", "CUES", cues, 999 * cue_pages),
+        2 => ("GROUP", "GROUPS", groups, 999 * group_pages),
+        _ => ("SUB", "SUBMASTERS", subs, subs * sub_pages),
+    };
+    let near = most + dice.range(0, 4);
+    let count = dice.pick(&[998, 999, 1_000, 1_998, 1_999, most - 1, most, near]).min(9_999);
+    // At times more than there is room for: what finds none has no number.
+    let between = room + if dice.one_in(3) { dice.range(1, 9) } else { 0 };
+    let widest = dice.pick(&[1, 9, 9_999]);
+    let links = dice.pick(&[10, 100, 1_000]);
+    let mut out = Vec::new();
+    for i in 0..count {
+        if i % between == 0 {
+            put(&mut out, format_args!("CLEAR {item} 99\n"));
+        }
+        match dice.below(8) {
+            0 => put(&mut out, format_args!("{name} 99999\n")),
+            _ => put(&mut out, format_args!("{name} {}\n", dice.range(0, widest))),
+        }
+        if dice.one_in(links) || i + 2 > count {
+            put(&mut out, format_args!("LINK {}\n", dice.range(0, widest)));
+        }
+    }
+    out
+}
+
 struct Talk<'a> {
     limits: &'a Limits,
+    /// The numbers that a foreign show has; none in another.
+    foreign: &'a [&'a str],
     dice: &'a mut Dice,
     /// One value in so many is odd.
     faults: usize,
@@ -344,7 +401,13 @@ struct Talk<'a> {
     out: Vec<u8>,
 }
 
-impl Talk<'_> {
+impl<'a> Talk<'a> {
+    fn new(limits: &'a Limits, foreign: &'a [&'a str], dice: &'a mut Dice) -> Talk<'a> {
+        let faults = dice.pick(&[4, 6, 12, 40, 1_000_000]);
+        let dirt = dice.pick(&[3, 12, 60, 1_000_000, 1_000_000]);
+        Talk { limits, foreign, dice, faults, dirt, out: Vec::new() }
+    }
+
     fn odd(&mut self) -> bool {
         self.dice.one_in(self.faults)
     }
@@ -362,6 +425,38 @@ impl Talk<'_> {
         }
         if !self.dice.one_in(3) {
             self.record(b"ENDDATA", |_| ());
+        }
+        for _ in 0..self.dice.below(3) {
+            self.any_record();
+        }
+    }
+
+    /// Cues, links and CLEAR in the main, up to an end or none, and a few records behind it.
+    fn foreign_show(&mut self) {
+        for _ in 0..self.dice.below(60) {
+            match self.dice.below(24) {
+                0..=7 => self.record(b"CUE", |talk| {
+                    talk.number();
+                    talk.page(talk.limits[5]);
+                }),
+                8..=13 => self.record(b"LINK", |talk| talk.number()),
+                14 => self.record(b"GROUP", |talk| talk.number()),
+                15 => self.record(b"SUB", |talk| talk.number()),
+                16 => {
+                    let item = self.dice.pick(&["ALL", "CUES", "CUES", "GROUPS", "SUBMASTERS", "PATCH", "FOO", "$"]);
+                    self.record(b"CLEAR", |talk| {
+                        talk.field(item);
+                        talk.number();
+                    });
+                }
+                _ => self.any_record(),
+            }
+        }
+        match self.dice.below(6) {
+            0 => self.record(b"IDENT", |talk| talk.field("9:9")),
+            1 => self.put(&[b'x'; 81]),
+            2 => (),
+            _ => self.record(b"ENDDATA", |_| ()),
         }
         for _ in 0..self.dice.below(3) {
             self.any_record();
@@ -560,6 +655,10 @@ impl Talk<'_> {
     }
 
     fn number(&mut self) {
+        if !self.foreign.is_empty() && !self.dice.one_in(8) {
+            let text = self.dice.pick(self.foreign);
+            return self.field(text);
+        }
         if self.odd() {
             let odd = [
                 "0", "0.0", "5.", ".5", "2.55", "2.50", "1000", "1000.5", "1000.55", "1000.", "1000x", "9999.9", "999.9", "999.10", "00001.5",

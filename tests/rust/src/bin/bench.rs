@@ -1,10 +1,10 @@
-//! Times the proved library beside plain Rust, and its loads beside the better plain Rust too.
+//! Times the proved library beside plain Rust, and its two loads beside the better plain Rust too.
 //!
 //!   bench                          every row
 //!   bench only WORD..              the rows that have every WORD in their name or size
 //!   bench once SIDE WORD..         one call of each such row on one side (ours, plain, better), for an instruction counter
-//!   bench count CALL SIDE [TIMES]  one call (load, write, find or none) on the largest desk, for an instruction counter; with TIMES as
-//!                                  many calls, for a sampling profiler
+//!   bench count CALL SIDE [TIMES]  one call (load, translate, write, find or none) on the largest desk, for an instruction counter; with
+//!                                  TIMES as many calls, for a sampling profiler
 //!
 //! All sides get the same bytes in one process; they take turns, and the least time of many turns counts. Before each timed load the
 //! store is put back, untimed, to what it was; outputs and report lists are warm and not cleared.
@@ -20,7 +20,9 @@ const SIZES: [usize; 5] = [1_024, 4_096, 16_384, 65_536, LONGEST];
 /// Shows of a few hundred bytes.
 const SMALL: [usize; 2] = [300, 700];
 
-/// The better one has a load of its own; its other calls are those of the plain one.
+type Load = fn(&Limits, &mut [u8], &[u8], &mut [u64]) -> Result<Totals, Refused>;
+
+/// The better one has loads of its own; its other calls are those of the plain one.
 #[derive(Clone, Copy)]
 enum Side {
     Ours,
@@ -38,11 +40,19 @@ impl Side {
         }
     }
 
-    fn load(self, limits: &Limits, store: &mut [u8], stream: &[u8], reports: &mut [u64]) -> Result<Totals, Refused> {
+    fn load(self) -> Load {
         match self {
-            Ours => ours::load(limits, store, stream, reports),
-            Plain => plain::load(limits, store, stream, reports),
-            Better => better::load(limits, store, stream, reports),
+            Ours => ours::load,
+            Plain => plain::load,
+            Better => better::load,
+        }
+    }
+
+    fn translate(self) -> Load {
+        match self {
+            Ours => ours::translate,
+            Plain => plain::translate,
+            Better => better::translate,
         }
     }
 
@@ -175,28 +185,37 @@ impl Table {
     }
 
     fn load(&self, what: &str, limits: &Limits, before: &[u8], stream: &[u8]) {
-        let what = format!("load, {what}");
-        if !self.wants(&what, stream.len()) {
+        self.read(&format!("load, {what}"), Side::load, limits, before, stream);
+    }
+
+    fn translate(&self, what: &str, limits: &Limits, before: &[u8], stream: &[u8]) {
+        self.read(&format!("translate, {what}"), Side::translate, limits, before, stream);
+    }
+
+    fn read(&self, what: &str, load: fn(Side) -> Load, limits: &Limits, before: &[u8], stream: &[u8]) {
+        if !self.wants(what, stream.len()) {
             return;
         }
         let mut store = before.to_vec();
         let mut reports = vec![0; 1_024];
         if let Some(side) = self.once {
-            counted(&mut || _ = black_box(side.load(limits, &mut store, stream, &mut reports)));
+            let load = load(side);
+            counted(&mut || _ = black_box(load(limits, &mut store, stream, &mut reports)));
             return println!("{what}, {} bytes", stream.len());
         }
-        let answer = ours::load(limits, &mut store, stream, &mut reports);
+        let answer = load(Ours)(limits, &mut store, stream, &mut reports);
         for side in [Plain, Better] {
             let mut other = before.to_vec();
             let mut others = vec![0; 1_024];
-            assert_eq!(answer, side.load(limits, &mut other, stream, &mut others), "{what}");
+            assert_eq!(answer, load(side)(limits, &mut other, stream, &mut others), "{what}");
             assert!(store == other && reports == others, "{what}");
         }
         let [ours, plain, better] = race([Ours, Plain, Better], |side| {
             store.copy_from_slice(before);
-            timed(|| side.load(limits, &mut store, stream, &mut reports))
+            let load = load(side);
+            timed(|| load(limits, &mut store, stream, &mut reports))
         });
-        Table::line(&what, stream.len(), ours, plain, Some(better));
+        Table::line(what, stream.len(), ours, plain, Some(better));
     }
 
     fn write(&self, what: &str, limits: &Limits, store: &[u8]) {
@@ -333,6 +352,29 @@ impl Table {
         self.write(&format!("{name}, full, all at full (0 B: R5)"), limits, &lit);
     }
 
+    /// Shows of another desk's numbers: as a writer puts them, with links to cues that there are and that there are not; and cues alone.
+    fn translations(&self, name: &str, limits: &Limits) {
+        let empty = store_of(limits);
+        for (density, sparse) in [("dense", 1), ("sparse", 16)] {
+            for size in [16_384, LONGEST] {
+                let stream = show(limits, size, sparse, &mut Dice(size as u64));
+                self.translate(&format!("{name} desk, {density} show, empty store"), limits, &empty, &stream);
+                self.translate(&format!("{name} desk, {density} show, no links"), limits, &empty, &linkless(&stream));
+            }
+        }
+        let cues = limits[2];
+        let mut dice = Dice(7);
+        let own: Vec<u8> = (1..=cues).flat_map(|n| format!("CUE {n}.5\nLINK {}.5\n", dice.range(1, cues)).into_bytes()).collect();
+        self.translate(&format!("{name}: cues with a link each"), limits, &empty, &own);
+        self.translate(&format!("{name}: cues with no links"), limits, &empty, &linkless(&own));
+        // Every cue again and again, cleared after each round, as long as there are numbers.
+        let again = [&linkless(&own), &b"CLEAR CUES\n"[..]].concat();
+        let rounds = (999 * limits[5] / cues - 1) as usize;
+        let over = repeated(b"", &again, (rounds * again.len()).min(LONGEST - own.len()));
+        self.translate(&format!("{name}: cues over and over, then links"), limits, &empty, &[&over[..], &own].concat());
+        self.translate(&format!("{name}: cues over and over, no links"), limits, &empty, &over);
+    }
+
     fn form(&self, name: &str, limits: &Limits) {
         let empty = store_of(limits);
         let taken = loaded(limits, &full(limits));
@@ -364,8 +406,14 @@ impl Table {
             self.growth(name, limits);
             self.form(name, limits);
             self.records(name, limits);
+            self.translations(name, limits);
         }
     }
+}
+
+/// A stream without its LINK records.
+fn linkless(stream: &[u8]) -> Vec<u8> {
+    stream.split_inclusive(|&b| b == b'\n').filter(|record| !record.starts_with(b"LINK")).flatten().copied().collect()
 }
 
 /// What `uname -m` says.
@@ -376,12 +424,13 @@ fn machine() -> String {
 
 fn count(call: &str, side: Side, times: usize) {
     let stream = show(&LARGE, LONGEST, 16, &mut Dice(1));
-    let mut store = if call == "load" { store_of(&LARGE) } else { loaded(&LARGE, &stream) };
+    let mut store = if matches!(call, "load" | "translate") { store_of(&LARGE) } else { loaded(&LARGE, &stream) };
     let mut reports = vec![0; 1_024];
     let mut out = vec![0; LONGEST];
     for _ in 0..times {
         counted(&mut || match call {
-            "load" => _ = black_box(side.load(&LARGE, &mut store, &stream, &mut reports)),
+            "load" => _ = black_box(side.load()(&LARGE, &mut store, &stream, &mut reports)),
+            "translate" => _ = black_box(side.translate()(&LARGE, &mut store, &stream, &mut reports)),
             "write" => _ = black_box(side.write(&LARGE, &store, &mut out)),
             "find" => _ = black_box(side.find(&LARGE, &store, (1, 1, 0))),
             _ => (),
@@ -402,7 +451,7 @@ fn main() {
                 return Table { only: owned(only), once: Some(side) }.print();
             }
         }
-        ["count", call @ ("load" | "write" | "find" | "none"), side, ref times @ ..] => {
+        ["count", call @ ("load" | "translate" | "write" | "find" | "none"), side, ref times @ ..] => {
             let times = times.first().map_or(Some(1), |times| times.parse().ok());
             if let (Some(side), Some(times)) = (Side::named(side), times) {
                 return count(call, side, times);
@@ -410,6 +459,6 @@ fn main() {
         }
         _ => (),
     }
-    eprintln!("usage: bench [only WORD.. | once ours|plain|better WORD.. | count load|write|find|none ours|plain|better [TIMES]]");
+    eprintln!("usage: bench [only WORD.. | once ours|plain|better WORD.. | count load|translate|write|find|none ours|plain|better [TIMES]]");
     std::process::exit(2);
 }

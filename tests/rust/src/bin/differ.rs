@@ -3,15 +3,15 @@
 //!
 //!   differ SEED COUNT      the swept edges, then random cases: at least COUNT calls on each side, drawn from SEED
 //!   differ case SEED CASE  one case again
-//!   differ prefixes DIR    every prefix of each file of DIR, read into an empty house small desk. Of a file above 20,000 bytes the first
-//!                          and last 2,000 prefixes and every 97th between
+//!   differ prefixes DIR    every prefix of each file of DIR, read into an empty house small desk by both loads. Of a file above 20,000
+//!                          bytes the first and last 2,000 prefixes and every 97th between
 //!
 //! At the first difference it prints the case, with a stream as short as was found, and ends with 1.
 
 use std::collections::BTreeMap;
 use std::fmt::Debug;
 use std::process::exit;
-use trials::streams::{crowd, desk, full, long_record, show_of, stream, Dice, HOUSE, LARGE, SPECIALS};
+use trials::streams::{crowd, desk, foreign, full, long_record, show_of, stream, Dice, FOREIGN, HOUSE, LARGE, SPECIALS};
 use trials::{better, ours, plain, Limits, Refused, Report, Totals, LONGEST};
 
 /// Bytes or words with a strip on either side that nobody may touch.
@@ -64,6 +64,16 @@ const MARK: u8 = 0xa5;
 
 type Load = fn(&Limits, &mut [u8], &[u8], &mut [u64]) -> Result<Totals, Refused>;
 
+/// One of the two loads of §6.4, on each side.
+struct Way {
+    name: &'static str,
+    plain: Load,
+    others: [(&'static str, Load); 2],
+}
+
+const NORMAL: Way = Way { name: "load", plain: plain::load, others: [("ours", ours::load), ("better", better::load)] };
+const TRANSLATED: Way = Way { name: "translate", plain: plain::translate, others: [("ours", ours::translate), ("better", better::translate)] };
+
 /// What a load came to on the plain side, and whether the others agree.
 struct Loaded {
     verdict: Verdict,
@@ -72,12 +82,11 @@ struct Loaded {
     answer: Result<Totals, Refused>,
 }
 
-fn load(limits: &Limits, store: &[u8], stream: &[u8], reports: &[u64]) -> Loaded {
+fn load(way: &Way, limits: &Limits, store: &[u8], stream: &[u8], reports: &[u64]) -> Loaded {
     let lent = || (Lent::new(store, MARK), Lent::new(reports, 0xabcd_ef01_2345_6789));
     let (mut b, mut q) = lent();
-    let answer = plain::load(limits, b.part(), stream, q.part());
-    let sides: [(&str, Load); 2] = [("ours", ours::load), ("better", better::load)];
-    let verdict = sides.into_iter().try_for_each(|(who, call)| {
+    let answer = (way.plain)(limits, b.part(), stream, q.part());
+    let verdict = way.others.iter().try_for_each(|&(who, call)| {
         let (mut a, mut p) = lent();
         let other = call(limits, a.part(), stream, p.part());
         compare(who, &other, &answer)?;
@@ -134,7 +143,7 @@ fn hex(bytes: &[u8]) -> String {
 }
 
 /// Cuts pieces out of a stream as long as the two sides still differ on it, for at most five seconds.
-fn shortened(limits: &Limits, store: &[u8], stream: &[u8], reports: &[u64]) -> Vec<u8> {
+fn shortened(way: &Way, limits: &Limits, store: &[u8], stream: &[u8], reports: &[u64]) -> Vec<u8> {
     let begun = std::time::Instant::now();
     let mut best = stream.to_vec();
     let mut piece = best.len().div_ceil(2);
@@ -146,7 +155,7 @@ fn shortened(limits: &Limits, store: &[u8], stream: &[u8], reports: &[u64]) -> V
             }
             let mut less = best.clone();
             less.drain(at..(at + piece).min(best.len()));
-            if load(limits, store, &less, reports).verdict.is_err() {
+            if load(way, limits, store, &less, reports).verdict.is_err() {
                 best = less;
             } else {
                 at += piece;
@@ -178,12 +187,47 @@ struct Tally {
     kept: u64,
     /// Times past 999:59:59.9 in what was written and read back.
     long_times: u64,
+    translated: Translated,
     /// The calls that read a store or tell a text, by name.
     readers: BTreeMap<&'static str, u64>,
     /// Those of them that answered "not kept".
     not_kept: u64,
     /// Calls with a store of more than 100,000 bytes.
     large: u64,
+}
+
+/// What came of the loads with translation that were answered.
+#[derive(Default)]
+struct Translated {
+    loads: u64,
+    /// Links that cues got.
+    linked: u64,
+    /// Stored reports of a link to a number that no cue bore.
+    lost: u64,
+    /// Memories that were kept on page 2 or a later one.
+    paged: u64,
+    /// Stored reports of a cue or group without a number or room, and of a submaster without a number.
+    beyond: u64,
+}
+
+impl Translated {
+    fn note(&mut self, limits: &Limits, before: &[u8], after: &[u8], reports: impl Iterator<Item = Report>) {
+        let shape = Shape::of(limits);
+        self.loads += 1;
+        for (before, after) in before.chunks_exact(shape.slot).zip(after.chunks_exact(shape.slot)).take(shape.slots()) {
+            if before != after && after[0] >= 0x80 {
+                self.linked += (after[2] >> 2 & 1) as u64;
+                self.paged += (after[0] & 0x7f > 3) as u64;
+            }
+        }
+        for report in reports {
+            match report.condition {
+                41 => self.lost += 1,
+                21 | 22 | 44 => self.beyond += 1,
+                _ => (),
+            }
+        }
+    }
 }
 
 impl Tally {
@@ -213,18 +257,31 @@ impl Case<'_> {
     }
 
     fn load(&mut self, limits: &Limits, store: &[u8], stream: &[u8], reports: &[u64]) -> (Vec<u8>, Result<Totals, Refused>) {
-        let loaded = load(limits, store, stream, reports);
+        let loaded = self.loaded(&NORMAL, limits, store, stream, reports);
+        (loaded.store, loaded.answer)
+    }
+
+    fn translate(&mut self, limits: &Limits, store: &[u8], stream: &[u8], reports: &[u64]) -> Vec<u8> {
+        let loaded = self.loaded(&TRANSLATED, limits, store, stream, reports);
+        if let Ok(totals) = &loaded.answer {
+            self.tally.translated.note(limits, store, &loaded.store, totals.stored(&loaded.reports));
+        }
+        loaded.store
+    }
+
+    fn loaded(&mut self, way: &Way, limits: &Limits, store: &[u8], stream: &[u8], reports: &[u64]) -> Loaded {
+        let loaded = load(way, limits, store, stream, reports);
         self.calls += 1;
         self.tally.note(store, &loaded.answer);
         if let Ok(totals) = &loaded.answer {
             self.tally.note_reports(totals, &loaded.reports);
         }
         if loaded.verdict.is_err() {
-            let least = shortened(limits, store, stream, reports);
-            let why = load(limits, store, &least, reports).verdict.expect_err("it differed before");
-            self.differs(limits, store, &format!("load, stream \"{}\", {} reports", shown(&least), reports.len()), &why);
+            let least = shortened(way, limits, store, stream, reports);
+            let why = load(way, limits, store, &least, reports).verdict.expect_err("it differed before");
+            self.differs(limits, store, &format!("{}, stream \"{}\", {} reports", way.name, shown(&least), reports.len()), &why);
         }
-        (loaded.store, loaded.answer)
+        loaded
     }
 
     fn write(&mut self, limits: &Limits, store: &[u8], out: &[u8]) -> (Vec<u8>, Result<usize, Refused>) {
@@ -392,11 +449,14 @@ impl Case<'_> {
             2..=4 => store.extend((0..dice.below(40)).map(|_| dice.word() as u8).collect::<Vec<_>>()),
             _ => (),
         }
-        for _ in 0..dice.below(3) {
-            let text = stream(&limits, dice);
+        for _ in 0..dice.below(4) {
             let room = dice.pick(&[0, 1, 2, 5, 30, 300, 300, 300]);
             let reports: Vec<u64> = (0..room).map(|_| dice.word()).collect();
-            store = self.load(&limits, &store, &text, &reports).0;
+            store = if dice.one_in(2) {
+                self.load(&limits, &store, &stream(&limits, dice), &reports).0
+            } else {
+                self.translate(&limits, &store, &foreign(&limits, dice), &reports)
+            };
         }
         for _ in 0..dice.below(3) {
             let (page, whole, tenths) = self.name(&limits, &store, dice);
@@ -458,6 +518,7 @@ impl Case<'_> {
             match dice.below(8) {
                 0 => drop(self.load(limits, store, b"CUE 1\nCHAN 1@50\nCLEAR PATCH\n", &[9; 4])),
                 1 => drop(self.write(limits, store, &[9; 99])),
+                2 => drop(self.translate(limits, store, b"CUE x\nLINK x\nCLEAR PATCH 9\n", &[9; 4])),
                 _ => (),
             }
             for (from, bytes) in kept.iter().rev() {
@@ -489,6 +550,7 @@ impl Case<'_> {
             self.find(&DESK, &store, 1, 3, 0);
             self.memories(&DESK, &store, 0, 4);
             drop(self.load(&DESK, &store, b"CUE 1\nCHAN 1@50", &[9; 4]));
+            drop(self.translate(&DESK, &store, b"CUE x\nLINK 1\nCUE 1", &[9; 4]));
             drop(self.write(&DESK, &store, &[9; 300]));
         };
         let all: Vec<_> = slots.iter().chain(&repeats).chain(&entries).collect();
@@ -544,6 +606,79 @@ impl Case<'_> {
                 let (out, answer) = self.write(&DESK, &store, &[9; 120]);
                 self.back(&DESK, &store, &out[..answer.expect("there is room")]);
             }
+        }
+    }
+
+    /// Every foreign number asked for by a LINK ahead of the cues that bear it, or another, and behind them, and the page of a CLEAR; with the
+    /// cues kept or cleared, and an end of each sort, past which it is borne once more. Then links in every cue.
+    fn sweep_links(&mut self) {
+        const DESK: Limits = [2, 2, 4, 1, 1, 1, 1, 1, 2];
+        const ENDS: [&str; 4] = ["", "ENDDATA", "IDENT", "IDENT 3:0 "];
+        let empty = vec![0; plain::needed(&DESK).expect("a desk in range")];
+        let (kept, _) = self.load(&DESK, &empty, b"CUE 2\nLINK 5\nCUE 4.5\nLINK 9\nPATCH 2 1 1 50", &[]);
+        for (asked, borne) in FOREIGN.iter().flat_map(|asked| FOREIGN.map(|borne| (asked, borne))) {
+            for (end, last) in ENDS.iter().enumerate() {
+                // The last of them is a record of more than 80 characters.
+                let last = if end == 3 { format!("{last:81}") } else { last.to_string() };
+                let clear = if end == 2 { format!("CLEAR CUES {asked}\n") } else { String::new() };
+                let cues = format!("CUE 7\nLINK {asked}\nCUE {borne} {asked}\nCHAN 1 5\n{clear}CUE {borne}\nUP 3\nLINK 7\nLINK {asked}\n");
+                let before = if end % 2 == 0 { &kept } else { &empty };
+                self.translate(&DESK, before, format!("{cues}{last}\nCUE {asked}").as_bytes(), &[7; 4]);
+            }
+        }
+        // The largest table full, every cue with a link to the next, or the one before, and one of them to none.
+        const FULL: Limits = [1, 1, 600, 1, 1, 1, 1, 1, 1];
+        let empty = vec![0; plain::needed(&FULL).expect("a desk in range")];
+        for step in [0, 2] {
+            let stream: String = (1..=600).map(|n| format!("CUE {n}\nLINK {}\n", n + step - 1)).collect();
+            self.translate(&FULL, &empty, stream.as_bytes(), &[7; 9]);
+        }
+    }
+
+    /// Numbers at the end of each page and past the last one. A few memories at a time are kept, and then cleared, so that they find room;
+    /// the last ones link to one another.
+    fn sweep_pages(&mut self) {
+        let repeated = |record: &str, clear: &str, room: usize, count: usize| {
+            let mut out = String::new();
+            for i in 0..count {
+                if i % room == 0 {
+                    out += clear;
+                }
+                out += record;
+            }
+            out
+        };
+        for pages in 1..=3 {
+            let limits = [1, 1, 7, 3, 1, pages, pages, pages, 1];
+            let empty = vec![0; plain::needed(&limits).expect("a desk in range")];
+            for (page, past) in (1..=pages as usize).flat_map(|page| (0..4).map(move |past| (page, past))) {
+                let count = 999 * page + past - 2;
+                let cues = repeated("CUE 5\n", "CLEAR CUES\n", 7, count) + "LINK 5\nCUE 6\nLINK 5\nCUE 5\nLINK 6\n";
+                self.translate(&limits, &empty, cues.as_bytes(), &[7; 9]);
+                let groups = repeated("GROUP\n", "CLEAR GROUPS 9\n", 3, count) + "CHAN 1 5\nGROUP 5\nCHAN 1 6\n";
+                self.translate(&limits, &empty, groups.as_bytes(), &[7; 9]);
+            }
+        }
+        for (subs, pages) in (1..=4).flat_map(|subs| (1..=8).map(move |pages| (subs, pages))) {
+            let limits = [1, 1, 1, 1, subs, 1, 1, pages, 1];
+            let empty = vec![0; plain::needed(&limits).expect("a desk in range")];
+            for count in 0..=(subs * pages) as usize + 1 {
+                let stream = repeated("SUB x 99\n", "CLEAR SUBMASTERS\n", 5, count) + "CHAN 1 5\nSUB\nUP 3\n sub 0\nDOWN 1";
+                self.translate(&limits, &empty, stream.as_bytes(), &[7; 9]);
+            }
+        }
+        // As many CUEs as a stream can have ahead of a link; the last is the second one that finds room.
+        const ONE: Limits = [1, 1, 1, 1, 1, 1, 1, 1, 1];
+        let empty = vec![0; plain::needed(&ONE).expect("a desk in range")];
+        let end = "CLEAR CUES\nCUE 7\nLINK 7";
+        let stream = repeated("CUE\n", "", 1, (LONGEST - end.len()) / 4) + end;
+        self.translate(&ONE, &empty, stream.as_bytes(), &[7; 9]);
+        // The last number of the last page of all.
+        const MANY: Limits = [1, 1, 600, 1, 1, 63, 1, 1, 1];
+        let empty = vec![0; plain::needed(&MANY).expect("a desk in range")];
+        for count in 999 * 63 - 2..=999 * 63 {
+            let stream = repeated("CUE\n", "CLEAR CUES\n", 600, count) + "CUE 9\nLINK 9\nCUE\nLINK 9\n";
+            self.translate(&MANY, &empty, stream.as_bytes(), &[7; 9]);
         }
     }
 
@@ -884,6 +1019,8 @@ fn edges(seed: u64, tally: &mut Tally) -> u64 {
     case.sweep_places();
     case.sweep_columns();
     case.sweep_times();
+    case.sweep_links();
+    case.sweep_pages();
     case.sweep_readers(dice);
     case.sweep_words();
     // The longest stream that may be written, and one byte more: ten bytes come from a submaster that a second load adds.
@@ -921,7 +1058,9 @@ fn random(seed: u64, count: u64) {
     let counts = |map: &BTreeMap<&str, u64>, gap| map.iter().map(|(name, count)| format!("{name} {count}")).collect::<Vec<_>>().join(gap);
     println!(
         "{} calls, edges and {number} cases from seed {seed}: no difference ({:.0} s); {} on large stores; answered {}, refused {}; {} records, \
-         {} reports, {} stored ones blame {} columns; {} cues found; {} times past 999:59:59.9 written; readers: {}; {} of a slot, dimmer or kind that there is not",
+         {} reports, {} stored ones blame {} columns; {} cues found; {} times past 999:59:59.9 written; {} loads with translation: \
+         {} links followed, {} lost, {} memories past page 1, {} without number or room; readers: {}; {} of a slot, dimmer or kind that there \
+         is not",
         tally.calls,
         begun.elapsed().as_secs_f64(),
         tally.large,
@@ -933,6 +1072,11 @@ fn random(seed: u64, count: u64) {
         tally.columns.len(),
         tally.kept,
         tally.long_times,
+        tally.translated.loads,
+        tally.translated.linked,
+        tally.translated.lost,
+        tally.translated.paged,
+        tally.translated.beyond,
         counts(&tally.readers, ", "),
         tally.not_kept
     );
@@ -948,9 +1092,11 @@ fn prefixes(folder: &str) -> std::io::Result<()> {
         let bytes = std::fs::read(path)?;
         let n = bytes.len();
         for k in (0..=n).filter(|k| n <= 20_000 || *k <= 2_000 || n - k <= 2_000 || k % 97 == 0) {
-            if let Err(why) = load(&HOUSE, &empty, &bytes[..k], &[7; 50]).verdict {
-                println!("DIFFERENCE: the first {k} bytes of {}\n  {why}", path.display());
-                exit(1);
+            for way in [NORMAL, TRANSLATED] {
+                if let Err(why) = load(&way, &HOUSE, &empty, &bytes[..k], &[7; 50]).verdict {
+                    println!("DIFFERENCE: {} of the first {k} bytes of {}\n  {why}", way.name, path.display());
+                    exit(1);
+                }
             }
             count += 1;
         }
