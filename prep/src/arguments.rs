@@ -1,6 +1,7 @@
 //! What the user asks for: the commands, their options and their help.
 use crate::desk;
 use crate::input;
+use crate::show::Load;
 use crate::status::Trouble;
 use sphairune::Desk;
 use std::ffi::{OsStr, OsString};
@@ -11,27 +12,32 @@ pub enum Order {
     Say(String),
     Sheet {
         desk: Desk,
+        load: Load,
         files: Vec<OsString>,
     },
     Page {
         desk: Desk,
+        load: Load,
         file: OsString,
         out: OsString,
         force: bool,
     },
     Clean {
         desk: Desk,
+        load: Load,
         file: OsString,
         out: OsString,
         force: bool,
     },
     Check {
         desk: Desk,
+        load: Load,
         places: Vec<OsString>,
         all: bool,
     },
     Compare {
         desk: Desk,
+        load: Load,
         a: OsString,
         b: OsString,
     },
@@ -51,16 +57,37 @@ struct Command {
     order: fn(Given) -> Result<Order, Trouble>,
 }
 
+/// Loads are with translation.
+const TRANSLATE: &str = "--translate";
+
 const COMMANDS: [Command; 6] = [
-    Command { name: "sheet", with_word: &["--desk"], alone: &[], help: include_str!("help/sheet.txt"), order: Given::sheet },
-    Command { name: "page", with_word: &["--desk", "-o"], alone: &["--force"], help: include_str!("help/page.txt"), order: Given::page },
-    Command { name: "clean", with_word: &["--desk", "-o"], alone: &["--force"], help: include_str!("help/clean.txt"), order: Given::clean },
-    Command { name: "check", with_word: &["--desk"], alone: &["--all"], help: include_str!("help/check.txt"), order: Given::check },
-    Command { name: "compare", with_word: &["--desk"], alone: &[], help: include_str!("help/compare.txt"), order: Given::compare },
+    Command { name: "sheet", with_word: &["--desk"], alone: &[TRANSLATE], help: include_str!("help/sheet.txt"), order: Given::sheet },
+    Command {
+        name: "page",
+        with_word: &["--desk", "-o"],
+        alone: &["--force", TRANSLATE],
+        help: include_str!("help/page.txt"),
+        order: Given::page,
+    },
+    Command {
+        name: "clean",
+        with_word: &["--desk", "-o"],
+        alone: &["--force", TRANSLATE],
+        help: include_str!("help/clean.txt"),
+        order: Given::clean,
+    },
+    Command {
+        name: "check",
+        with_word: &["--desk"],
+        alone: &["--all", TRANSLATE],
+        help: include_str!("help/check.txt"),
+        order: Given::check,
+    },
+    Command { name: "compare", with_word: &["--desk"], alone: &[TRANSLATE], help: include_str!("help/compare.txt"), order: Given::compare },
     Command {
         name: "rehearse",
         with_word: &["--small", "--large"],
-        alone: &[],
+        alone: &[TRANSLATE], // to say what to do in its stead
         help: include_str!("help/rehearse.txt"),
         order: Given::rehearse,
     },
@@ -193,6 +220,13 @@ impl Given {
         }
     }
 
+    fn load(&self) -> Load {
+        match self.has(TRANSLATE) {
+            true => Load::Translated,
+            false => Load::Normal,
+        }
+    }
+
     /// Standard input can be read once.
     fn some_files(&self, what: &str) -> Result<Vec<OsString>, Trouble> {
         if self.files.is_empty() {
@@ -213,32 +247,38 @@ impl Given {
     }
 
     fn sheet(self) -> Result<Order, Trouble> {
-        Ok(Order::Sheet { desk: self.desk("--desk")?, files: self.some_files("FILE")? })
+        Ok(Order::Sheet { desk: self.desk("--desk")?, load: self.load(), files: self.some_files("FILE")? })
     }
 
     fn page(self) -> Result<Order, Trouble> {
         let (file, out) = (self.one_file()?, self.needed("-o", "OUT")?);
-        Ok(Order::Page { desk: self.desk("--desk")?, file, out, force: self.has("--force") })
+        Ok(Order::Page { desk: self.desk("--desk")?, load: self.load(), file, out, force: self.has("--force") })
     }
 
     fn clean(self) -> Result<Order, Trouble> {
         let (file, out) = (self.one_file()?, self.needed("-o", "OUT")?);
-        Ok(Order::Clean { desk: self.desk("--desk")?, file, out, force: self.has("--force") })
+        Ok(Order::Clean { desk: self.desk("--desk")?, load: self.load(), file, out, force: self.has("--force") })
     }
 
     fn check(self) -> Result<Order, Trouble> {
-        Ok(Order::Check { desk: self.desk("--desk")?, all: self.has("--all"), places: self.some_files("FILE or FOLDER")? })
+        let places = self.some_files("FILE or FOLDER")?;
+        Ok(Order::Check { desk: self.desk("--desk")?, load: self.load(), all: self.has("--all"), places })
     }
 
     fn compare(self) -> Result<Order, Trouble> {
         let desk = self.desk("--desk")?;
         match self.some_files("FILE")?.as_slice() {
-            [a, b] => Ok(Order::Compare { desk, a: a.clone(), b: b.clone() }),
+            [a, b] => Ok(Order::Compare { desk, load: self.load(), a: a.clone(), b: b.clone() }),
             files => Err(self.wrong(format!("two FILEs are compared, and here are {}", files.len()))),
         }
     }
 
+    /// Demand 3 is of the normal load alone.
     fn rehearse(self) -> Result<Order, Trouble> {
+        if self.has(TRANSLATE) {
+            let instead = "write the show numbered anew, prep clean FILE --translate -o OUT, and rehearse OUT";
+            return Err(self.wrong(format!("no {TRANSLATE}, since what is sure of two desks is not sure of numbers made anew; {instead}")));
+        }
         let file = self.one_file()?;
         self.needed("--small", "DESK")?;
         self.needed("--large", "DESK")?;

@@ -1,7 +1,7 @@
 //! Many show files at once: a line a file.
 use crate::input;
 use crate::output;
-use crate::show::Show;
+use crate::show::{Load, Show};
 use crate::status::{self, Trouble};
 use crate::words::{self, counted};
 use sphairune::Desk;
@@ -14,7 +14,7 @@ use std::path::{Path, PathBuf};
 const MANY: usize = 12;
 
 /// Prints a line for each file, then how they came out; the worst of them is the status.
-pub fn check(desk: Desk, places: &[OsString], all: bool) -> Result<u8, Trouble> {
+pub fn check(desk: Desk, load: Load, places: &[OsString], all: bool) -> Result<u8, Trouble> {
     let mut files = Vec::new();
     for place in places {
         find(place, all, &mut files);
@@ -23,7 +23,7 @@ pub fn check(desk: Desk, places: &[OsString], all: bool) -> Result<u8, Trouble> 
     let mut tally = [0; 3];
     for file in &files {
         progress.step();
-        let (line, status) = outcome(file, desk);
+        let (line, status) = outcome(file, desk, load);
         progress.clear();
         output::print(line.as_bytes())?;
         tally[usize::from(status)] += 1;
@@ -81,9 +81,9 @@ fn is_show(path: &Path) -> bool {
 }
 
 /// The line of a file, and its status.
-fn outcome(file: &Found, desk: Desk) -> (String, u8) {
+fn outcome(file: &Found, desk: Desk, load: Load) -> (String, u8) {
     let loaded = match file {
-        Found::File(file) => input::show(file, desk).map_err(|trouble| trouble.to_string()),
+        Found::File(file) => input::show(file, desk, load).map_err(|trouble| trouble.to_string()),
         Found::Nothing(why) => Err(why.clone()),
     };
     match loaded {

@@ -15,7 +15,8 @@ pub fn clean(show: &Show) -> Result<Vec<u8>, Trouble> {
 /// What is lost is not in the clean stream, and so it is said that there was something.
 pub fn warning(show: &Show) -> Option<String> {
     let losses = losses(show);
-    (!losses.is_empty()).then(|| format!("{}: written; {}; prep sheet tells more", show.name, losses.join("; ")))
+    let sheet = if show.is_translated() { "prep sheet --translate" } else { "prep sheet" };
+    (!losses.is_empty()).then(|| format!("{}: written; {}; {sheet} tells more", show.name, losses.join("; ")))
 }
 
 fn refusal(show: &Show, refused: Refused) -> Trouble {

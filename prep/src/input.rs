@@ -1,6 +1,6 @@
 //! Show files, as they are read: whole, or not at all, with a word on what to do.
 use crate::output;
-use crate::show::Show;
+use crate::show::{Load, Show};
 use crate::status::Trouble;
 use sphairune::{Desk, Refused, MOST_STREAM};
 use std::ffi::OsStr;
@@ -8,15 +8,16 @@ use std::fs::File;
 use std::io::{self, ErrorKind, IsTerminal, Read};
 
 /// Loads a file, or standard input for `-`, into an emptied desk.
-pub fn show(file: &OsStr, desk: Desk) -> Result<Show, Trouble> {
+pub fn show(file: &OsStr, desk: Desk, load: Load) -> Result<Show, Trouble> {
     let stream = stream(file).map_err(|why| Trouble::Failed(format!("{}: {why}", name(file))))?;
-    loaded(name(file), desk, stream)
+    loaded(name(file), desk, load, stream)
 }
 
 /// Loads a stream that was read before.
-pub fn loaded(name: String, desk: Desk, stream: Vec<u8>) -> Result<Show, Trouble> {
-    let refused = |r: Refused| Trouble::Failed(format!("{name}: not loaded, {}: {r}", r.name()));
-    Show::load(name.clone(), desk, stream).map_err(refused)
+pub fn loaded(name: String, desk: Desk, load: Load, stream: Vec<u8>) -> Result<Show, Trouble> {
+    let advice = |r: Refused| if r == Refused::R7 { "; name a desk that has them with --desk" } else { "" };
+    let refused = |r: Refused| Trouble::Failed(format!("{name}: not loaded, {}: {r}{}", r.name(), advice(r)));
+    Show::load(name.clone(), desk, load, stream).map_err(refused)
 }
 
 /// A file as messages and sheets name it.

@@ -1,4 +1,5 @@
 //! prep: show files (USITT ASCII 3.0) at the prep bench. `prep --help` tells what it does.
+mod anew;
 mod arguments;
 mod check;
 mod clean;
@@ -17,7 +18,7 @@ mod status;
 mod words;
 
 use arguments::Order;
-use show::Show;
+use show::{Load, Show};
 use sphairune::Desk;
 use status::Trouble;
 use std::env;
@@ -28,21 +29,21 @@ use std::process::ExitCode;
 fn run(words: Vec<OsString>) -> Result<u8, Trouble> {
     match arguments::order(words)? {
         Order::Say(text) => output::print(text.as_bytes()).map(|()| status::CLEAN),
-        Order::Sheet { desk, files } => sheets(desk, &files),
-        Order::Page { desk, file, out, force } => page(&input::show(&file, desk)?, &out, force),
-        Order::Clean { desk, file, out, force } => clean(&input::show(&file, desk)?, &out, force),
-        Order::Check { desk, places, all } => check::check(desk, &places, all),
-        Order::Compare { desk, a, b } => compare(desk, &a, &b),
+        Order::Sheet { desk, load, files } => sheets(desk, load, &files),
+        Order::Page { desk, load, file, out, force } => page(&input::show(&file, desk, load)?, &out, force),
+        Order::Clean { desk, load, file, out, force } => clean(&input::show(&file, desk, load)?, &out, force),
+        Order::Check { desk, load, places, all } => check::check(desk, load, &places, all),
+        Order::Compare { desk, load, a, b } => compare(&input::show(&a, desk, load)?, &input::show(&b, desk, load)?),
         Order::Rehearse { file, small, large } => rehearse(&file, small, large),
     }
 }
 
 /// One sheet after the other. A file that cannot be loaded is told, and the next one taken.
-fn sheets(desk: Desk, files: &[OsString]) -> Result<u8, Trouble> {
+fn sheets(desk: Desk, load: Load, files: &[OsString]) -> Result<u8, Trouble> {
     let mut worst = status::CLEAN;
     let mut between = "";
     for file in files {
-        match input::show(file, desk) {
+        match input::show(file, desk, load) {
             Ok(show) => {
                 output::print(format!("{between}{}", sheet::sheet(&show)).as_bytes())?;
                 between = "\n";
@@ -70,16 +71,16 @@ fn clean(show: &Show, out: &OsStr, force: bool) -> Result<u8, Trouble> {
     Ok(status::of_reports(show.reports.len()))
 }
 
-fn compare(desk: Desk, a: &OsStr, b: &OsStr) -> Result<u8, Trouble> {
-    let (text, differ) = compare::compare(&input::show(a, desk)?, &input::show(b, desk)?);
+fn compare(a: &Show, b: &Show) -> Result<u8, Trouble> {
+    let (text, differ) = compare::compare(a, b);
     output::print(text.as_bytes())?;
     Ok(if differ { status::REPORTS } else { status::CLEAN })
 }
 
 /// The stream is read once, since standard input cannot be read again.
 fn rehearse(file: &OsStr, small: Desk, large: Desk) -> Result<u8, Trouble> {
-    let small = input::show(file, small)?;
-    let large = input::loaded(small.name.clone(), large, small.stream.clone())?;
+    let small = input::show(file, small, Load::Normal)?;
+    let large = input::loaded(small.name.clone(), large, Load::Normal, small.stream.clone())?;
     output::print(rehearse::rehearse(&small, &large).as_bytes())?;
     Ok(status::of_reports(small.reports.len() + large.reports.len()))
 }

@@ -9,6 +9,7 @@ mod text;
 mod times;
 
 use crate::show::Show;
+use crate::words::shared_numbers;
 use memories::{CUES, GROUPS, SUBMASTERS};
 use sphairune::{Desk, Memory, Patched, Totals};
 use text::{condition, counted, escaped, grouped};
@@ -25,6 +26,7 @@ struct Kept<'a> {
 }
 
 pub fn page(show: &Show) -> String {
+    let anew = show.anew();
     let kept = Kept { cues: show.cues(), groups: show.groups(), submasters: show.submasters(), patch: show.patch() };
     [
         beginning(show),
@@ -33,10 +35,10 @@ pub fn page(show: &Show) -> String {
         "<main>\n".into(),
         stream::reports(show),
         stream::passed(show),
-        memories::section(&CUES, &kept.cues),
+        memories::section(&CUES, &kept.cues, &anew),
         plot::section(&kept.cues),
-        memories::section(&GROUPS, &kept.groups),
-        memories::section(&SUBMASTERS, &kept.submasters),
+        memories::section(&GROUPS, &kept.groups, &anew),
+        memories::section(&SUBMASTERS, &kept.submasters, &anew),
         patch::section(show.desk, &kept),
         stream::stream(show),
         "</main>\n".into(),
@@ -71,10 +73,21 @@ fn head(show: &Show, kept: &Kept) -> String {
     let closing = format!("closing number {}", condition(show.totals.closing));
     format!("<header>\n<h1>{}</h1>\n<p class=\"desk\">{}</p>\n", name(&show.name), desk(show.desk))
         + &format!("<div class=\"outcome {class}\"><p><strong>{outcome}</strong> {meaning}</p><p class=\"closing\">{closing}</p></div>\n")
+        + &translated(show)
         + "<div class=\"glance\">\n"
         + &room(show.desk, kept)
         + &records(show.totals)
         + "</div>\n</header>\n"
+}
+
+/// That the numbers are not those of the stream, and where a link may lead elsewhere than was meant.
+fn translated(show: &Show) -> String {
+    if !show.is_translated() {
+        return String::new();
+    }
+    let anew = "Cues, groups and submasters are numbered anew, 1, 2, 3; beside each number stands what it was, by its own record.";
+    let shared = shared_numbers(show).map(|told| format!("<p class=\"advice\">{}.</p>\n", escaped(&told)));
+    format!("<p class=\"advice translated\"><strong>Loaded with translation.</strong> {anew}</p>\n") + &shared.collect::<String>()
 }
 
 /// The folder, if any, set apart.

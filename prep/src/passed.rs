@@ -2,7 +2,7 @@
 //! conditions": five standard keywords and every `$` one are passed over, and the secondaries behind a memory that was not taken are
 //! skipped.
 use crate::records::{self, MOST_CHARACTERS};
-use sphairune::Report;
+use crate::show::Show;
 use std::cmp::Reverse;
 use std::collections::HashMap;
 
@@ -14,9 +14,6 @@ pub struct Passed {
     pub count: u32,
 }
 
-/// Keywords compare by this many characters.
-const COMPARED: usize = 10;
-
 const PASSED_OVER: [&str; 5] = ["MANUFACTURER", "CONSOLE", "SET", "TEXT", "PART"];
 const PRIMARIES: [&str; 3] = ["CUE", "GROUP", "SUB"];
 const SECONDARIES: [&str; 5] = ["CHAN", "UP", "DOWN", "FOLLOWON", "LINK"];
@@ -24,22 +21,24 @@ const SECONDARIES: [&str; 5] = ["CHAN", "UP", "DOWN", "FOLLOWON", "LINK"];
 /// Behind which primary secondaries are skipped.
 type Skip = Option<String>;
 
-/// Of the records read, with all their reports; `total` is how many the library passed over. The most frequent come first, those of one
-/// count in the order of the stream. What the library counted and is not found here stands under "other".
-pub fn passed(records: &[&[u8]], reports: &[Report], total: u32) -> Vec<Passed> {
+/// Of the records read; the most frequent come first, those of one count in the order of the stream. What the library counted and is not
+/// found here stands under "other".
+pub fn passed(show: &Show) -> Vec<Passed> {
     let mut skip = None;
-    let mut refused = refusals(reports).peekable();
     let mut keywords = Vec::new();
-    for (number, record) in (1..).zip(records) {
-        while refused.next_if(|&r| r < number).is_some() {}
-        keywords.extend(step(record, refused.peek() == Some(&number), &mut skip));
+    for (record, refused) in show.records().into_iter().zip(refused(show)) {
+        keywords.extend(step(record, refused, &mut skip));
     }
-    settle(counted(keywords), total)
+    settle(counted(keywords), show.totals.passed)
 }
 
-/// The records of which something was dropped, in order: 0701 and 0702 drop nothing, and 0100 is of no record.
-fn refusals(reports: &[Report]) -> impl Iterator<Item = u32> + '_ {
-    reports.iter().filter(|r| !matches!(r.condition, 100 | 701 | 702)).map(|r| r.record)
+/// Of each record read, whether something of it was dropped. 0701 and 0702 drop nothing.
+pub fn refused(show: &Show) -> Vec<bool> {
+    let mut refused = vec![false; show.totals.records() as usize];
+    for report in show.reports.iter().filter(|r| !matches!(r.condition, 701 | 702) && !show.is_of_the_end(r)) {
+        refused[report.record as usize - 1] = true;
+    }
+    refused
 }
 
 /// What a record is counted under, where it is passed over.
@@ -54,18 +53,13 @@ fn step(record: &[u8], refused: bool, skip: &mut Skip) -> Option<String> {
         }
         return Some(given);
     }
-    let among = |names: &'static [&'static str]| names.iter().find(|name| same(&given, name)).copied();
+    let among = |names: &'static [&'static str]| names.iter().find(|name| records::is_keyword(&given, name)).copied();
     if among(&PRIMARIES).is_some() {
         *skip = refused.then(|| "a memory that was not taken".to_string());
         return None;
     }
     let skipped = among(&SECONDARIES).zip(skip.as_ref()).map(|(name, behind)| format!("{name}, skipped behind {behind}"));
     skipped.or_else(|| among(&PASSED_OVER).map(str::to_string))
-}
-
-fn same(given: &str, name: &str) -> bool {
-    let compared = |word: &str| word.chars().take(COMPARED).collect::<String>();
-    compared(given).eq_ignore_ascii_case(&compared(name))
 }
 
 /// Each keyword once, as it was first given.
@@ -99,11 +93,11 @@ fn settle(mut found: Vec<Passed>, total: u32) -> Vec<Passed> {
 #[cfg(test)]
 mod tests {
     use super::*;
-    use crate::show::Show;
+    use crate::show::Load;
     use sphairune::Desk;
 
     fn told(stream: &[u8]) -> Vec<(String, u32)> {
-        let show = Show::load("test".into(), Desk::HOUSE, stream.to_vec()).unwrap();
+        let show = Show::load("test".into(), Desk::HOUSE, Load::Normal, stream.to_vec()).unwrap();
         show.passed().into_iter().map(|p| (p.keyword, p.count)).collect()
     }
 
@@ -144,15 +138,20 @@ mod tests {
         assert_eq!(settle(one(), 0), []);
     }
 
-    /// On every sample and on every stream of the fuzzer's corpus nothing is left over, on a small desk and on the largest.
+    /// On every sample and on every stream of the fuzzer's corpus nothing is left over, on small desks and on the largest, with translation
+    /// and without.
     #[test]
     fn the_counts_sum_to_what_the_library_passed_over() {
         let mut tried = 0;
         for folder in ["../examples", "../tests/fuzz/corpus"] {
             for entry in std::fs::read_dir(folder).unwrap() {
                 let stream = std::fs::read(entry.unwrap().path()).unwrap();
-                for desk in [Desk::HOUSE, Desk::of([1, 1, 1, 0, 0, 1, 1, 1, 1]), Desk::LARGEST] {
-                    let show = Show::load("test".into(), desk, stream.clone()).unwrap();
+                let bare = Desk::of([1, 1, 1, 0, 0, 1, 1, 1, 1]);
+                let small = Desk::of([1, 1, 1, 1, 1, 1, 1, 1, 1]);
+                let normal = [Desk::HOUSE, bare, Desk::LARGEST].map(|desk| (desk, Load::Normal));
+                let translated = [Desk::HOUSE, small, Desk::LARGEST].map(|desk| (desk, Load::Translated));
+                for (desk, load) in normal.into_iter().chain(translated) {
+                    let show = Show::load("test".into(), desk, load, stream.clone()).unwrap();
                     let passed = show.passed();
                     assert!(passed.iter().all(|p| p.keyword != "other"), "{passed:?}");
                     assert_eq!(passed.iter().map(|p| p.count).sum::<u32>(), show.totals.passed);
@@ -160,6 +159,6 @@ mod tests {
                 }
             }
         }
-        assert!(tried > 60, "{tried} loads alone");
+        assert!(tried > 120, "{tried} loads alone");
     }
 }

@@ -31,6 +31,22 @@ pub fn field(characters: &[u8]) -> String {
     kept.take_while(|&c| c != b'!' && !is_delimiter(c)).map(char::from).collect()
 }
 
+/// A record's fields, as given, its keyword first.
+pub fn fields(record: &[u8]) -> Vec<String> {
+    let kept = record.iter().copied().filter(|&c| !is_ignored(c)).take_while(|&c| c != b'!').collect::<Vec<u8>>();
+    let words = kept.split(|&c| is_delimiter(c)).filter(|word| !word.is_empty());
+    words.map(|word| word.iter().copied().map(char::from).collect()).collect()
+}
+
+/// Keywords compare by this many characters.
+const COMPARED: usize = 10;
+
+/// Whether a keyword as given is the standard's.
+pub fn is_keyword(given: &str, name: &str) -> bool {
+    let compared = |word: &str| word.chars().take(COMPARED).collect::<String>();
+    compared(given).eq_ignore_ascii_case(&compared(name))
+}
+
 /// A record's first field, as given; `None` where it has none.
 pub fn keyword(record: &[u8]) -> Option<String> {
     let first = record.iter().position(|&c| !is_ignored(c) && !is_delimiter(c))?;
@@ -58,5 +74,11 @@ mod tests {
         assert_eq!(keyword(b"$$my stuff").as_deref(), Some("$$my"));
         assert_eq!(keyword(b"TEXT! a comment").as_deref(), Some("TEXT"));
         assert_eq!([keyword(b""), keyword(b" \t\x80"), keyword(b" ! CUE 1"), keyword(b"\x7f!")], [None, None, None, None]);
+    }
+
+    #[test]
+    fn fields_are_cut_at_delimiters() {
+        assert_eq!(fields(b"\t cue\x01 10.\x8025<9 ! 3"), ["cue", "10.25", "9"]);
+        assert_eq!(fields(b" ,;! CUE 1"), [""; 0]);
     }
 }

@@ -1,8 +1,9 @@
 //! The sheet for the prep bench: what was dropped and why, what was passed over, and all that is kept.
+use crate::anew::{self, Lost};
 use crate::desk;
 use crate::kind::Kind;
 use crate::show::Show;
-use crate::words::{condition, has_names, kept, longest_time, notes, number, received, unread};
+use crate::words::{condition, has_names, kept, longest_time, notes, number, received, unread, was, why_lost};
 use sphairune::{percent, time_text, Fade, Memory, Patched, Report};
 
 /// Levels on one line of the sheet.
@@ -12,9 +13,16 @@ const LEVELS_A_LINE: usize = 5;
 const DIMMERS_A_LINE: usize = 4;
 
 pub fn sheet(show: &Show) -> String {
-    let head = format!("SHEET {}\nDESK {}\n", show.name, desk::described(show.desk));
+    let head = format!("SHEET {}\nDESK {}\n{}", show.name, desk::described(show.desk), translated(show));
     let parts = [head, reports(show), passed(show), patch(show), memories(show, Kind::Cue), memories(show, Kind::Group)];
     parts.join("\n") + "\n" + &memories(show, Kind::Submaster) + "\n" + &totals(show)
+}
+
+fn translated(show: &Show) -> &'static str {
+    match show.is_translated() {
+        true => "TRANSLATED cues, groups and submasters are numbered anew, 1, 2, 3; \"was\" is what their records have\n",
+        false => "",
+    }
 }
 
 fn reports(show: &Show) -> String {
@@ -23,18 +31,27 @@ fn reports(show: &Show) -> String {
         count => format!("REPORTS {count}\n"),
     };
     let records = show.records();
+    let mut lost = anew::lost(show).into_iter();
     for report in &show.reports {
         text += &format!("  ({:05}:{}) {}\n", report.record, report.column, condition(report.condition));
-        text += &marked(report, &records);
+        if show.is_lost_link(report) {
+            text += &lost.next().map_or(String::new(), |lost| of_link(&lost, &records));
+        } else if !show.is_of_the_end(report) {
+            text += &marked(report, &records);
+        }
     }
     text + &notes(show).iter().map(|note| format!("  NOTE {note}\n")).collect::<String>()
 }
 
-/// The record that is blamed, and a mark under the character in the column, if there is one. 0100 is of no record.
+/// The LINK of a link that was lost, where it stands, and why.
+fn of_link(lost: &Lost, records: &[&[u8]]) -> String {
+    let cue = format!("cue {} page {} ({})", lost.cue.number, lost.cue.page, was(&lost.cue));
+    let why = why_lost(lost);
+    format!("      {}\n      of record {}, in {cue}:\n      {why}\n", received(records[lost.record - 1]), lost.record)
+}
+
+/// The record that is blamed, and a mark under the character in the column, if there is one.
 fn marked(report: &Report, records: &[&[u8]]) -> String {
-    if report.condition == 100 {
-        return String::new();
-    }
     let (record, column) = (records[report.record as usize - 1], report.column as usize);
     let mark = match column {
         0 => String::new(),
@@ -88,11 +105,19 @@ fn memories(show: &Show, kind: Kind) -> String {
     if memories.is_empty() {
         return format!("{title} none\n");
     }
-    // `999:59:59.9`, which leaves a line of 80 characters, or a longer one that is among them.
-    let wide = longest_time(&memories).max(11);
-    let mut text = format!("{title} {}\n{}", memories.len(), headings(kind, wide));
+    let anew = show.anew();
+    // `999:59:59.9`, which leaves a line of 80 characters, or a longer one that is among them. With translation it is a heading, which
+    // leaves as long a line for what most memories were.
+    let wide = longest_time(&memories).max(if show.is_translated() { 9 } else { 11 });
+    let headings = headings(kind, wide);
+    let mut text = format!("{title} {}\n{headings}{}\n", memories.len(), if show.is_translated() { "  was" } else { "" });
     for m in &memories {
-        text += &format!("  {:1$}  {2:4}{3}\n{4}", number(m.number), width(kind), m.page, values(kind, m, wide), levels(m.levels));
+        let line = format!("  {:1$}  {2:4}{3}", number(m.number), width(kind), m.page, values(kind, m, wide));
+        text += &match anew::of(&anew, kind, m).map(|anew| anew.was.as_str()) {
+            Some(was) => format!("{line:0$}  {1}\n", headings.len(), if was.is_empty() { "-" } else { was }),
+            None => line + "\n",
+        };
+        text += &levels(m.levels);
     }
     text
 }
@@ -104,7 +129,7 @@ fn headings(kind: Kind, wide: usize) -> String {
         Kind::Group => String::new(),
         Kind::Submaster => times,
     };
-    format!("  {:1$}  page{times}\n", kind.name(), width(kind))
+    format!("  {:1$}  page{times}", kind.name(), width(kind))
 }
 
 /// Of the column of numbers: `999.9`, or the kind's name above it.

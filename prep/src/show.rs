@@ -1,13 +1,24 @@
 //! A show file as a desk loads it.
+use crate::anew::{self, Anew};
 use crate::passed::{passed, Passed};
 use crate::records;
 use sphairune::{Desk, Memory, Patched, Refused, Report, Totals};
+
+/// The two loads of paper 01 and paper 02.
+#[derive(Clone, Copy, PartialEq, Eq)]
+pub enum Load {
+    /// Memories keep the numbers that they have.
+    Normal,
+    /// With translation: they are numbered anew.
+    Translated,
+}
 
 /// A stream loaded into an emptied desk.
 pub struct Show {
     /// As the user named the file; "standard input" for `-`.
     pub name: String,
     pub desk: Desk,
+    pub load: Load,
     pub stream: Vec<u8>,
     pub store: Vec<u8>,
     pub totals: Totals,
@@ -16,13 +27,30 @@ pub struct Show {
 }
 
 impl Show {
-    pub fn load(name: String, desk: Desk, stream: Vec<u8>) -> Result<Show, Refused> {
+    pub fn load(name: String, desk: Desk, load: Load, stream: Vec<u8>) -> Result<Show, Refused> {
         let mut store = vec![0; desk.needed()?];
         let mut list = vec![0; stream.len() + 1]; // one more than the bytes: such a list never fills
         desk.empty(&mut store)?;
-        let totals = desk.load(&mut store, &stream, &mut list)?;
+        let totals = match load {
+            Load::Normal => desk.load(&mut store, &stream, &mut list)?,
+            Load::Translated => desk.translate(&mut store, &stream, &mut list)?,
+        };
         let reports = totals.stored(&list).collect();
-        Ok(Show { name, desk, stream, store, totals, reports })
+        Ok(Show { name, desk, load, stream, store, totals, reports })
+    }
+
+    pub fn is_translated(&self) -> bool {
+        self.load == Load::Translated
+    }
+
+    /// Whether a report is of no record: 0100 is of the stream's end, and a lost link is told there.
+    pub fn is_of_the_end(&self, report: &Report) -> bool {
+        report.condition == 100 || self.is_lost_link(report)
+    }
+
+    /// With translation the number of a CUE, a GROUP or a LINK refuses none of them, so that 0041 is of lost links alone.
+    pub fn is_lost_link(&self, report: &Report) -> bool {
+        self.is_translated() && report.condition == 41
     }
 
     /// The records read, as received, in order: record n of a report is `records()[n - 1]`.
@@ -54,7 +82,23 @@ impl Show {
 
     /// What was passed over, the most frequent first.
     pub fn passed(&self) -> Vec<Passed> {
-        passed(&self.records(), &self.reports, self.totals.passed)
+        passed(self)
+    }
+
+    /// What was numbered anew, in the order of the stream; nothing where the load was the normal one.
+    pub fn anew(&self) -> Vec<Anew> {
+        match self.load {
+            Load::Normal => Vec::new(),
+            Load::Translated => anew::anew(self),
+        }
+    }
+
+    /// How many cues were refused for their number or page, which a load with translation does not look at.
+    pub fn cues_refused(&self) -> usize {
+        let records = self.records();
+        let is_cue = |record: &[u8]| records::keyword(record).is_some_and(|keyword| records::is_keyword(&keyword, "CUE"));
+        let blamed = self.reports.iter().filter(|r| matches!(r.condition, 41..=43) && !self.is_of_the_end(r));
+        blamed.filter(|r| is_cue(records[r.record as usize - 1])).count()
     }
 
     /// The highest channel that a 0201 report blames, where channels were out of range; a channel 0 asks for no larger desk.
@@ -82,7 +126,7 @@ mod tests {
     use super::*;
 
     fn show(stream: &[u8]) -> Show {
-        Show::load("test".into(), Desk::HOUSE, stream.to_vec()).unwrap()
+        Show::load("test".into(), Desk::HOUSE, Load::Normal, stream.to_vec()).unwrap()
     }
 
     #[test]

@@ -1,4 +1,5 @@
 //! Short texts that several commands print.
+use crate::anew::{lost, shared, tenths, Anew, Lost};
 use crate::desk::LIMITS;
 use crate::input;
 use crate::passed::Passed;
@@ -62,12 +63,36 @@ pub fn summary(show: &Show) -> String {
     [vec![format!("{}: {}", show.name, kept(show))], losses(show)].concat().join("; ")
 }
 
-/// All that is not kept of a show, in short; empty where nothing is lost.
+/// All that is not kept of a show, in short; empty where nothing is lost. With translation the numbers are not kept.
 pub fn losses(show: &Show) -> Vec<String> {
+    let numbers = show.is_translated().then(|| "numbered anew".to_string());
     let reports = counted(show.reports.len(), "report");
     let reports = (!show.reports.is_empty()).then(|| format!("{reports}, closing {}", condition(show.totals.closing)));
     let unread = unread(show).map(|behind| format!("not read: {behind}"));
-    [reports, passed_over(show), unread].into_iter().flatten().chain(notes(show)).collect()
+    [numbers, reports, lost_links(show), passed_over(show), unread].into_iter().flatten().chain(notes(show)).collect()
+}
+
+/// How many links were lost.
+fn lost_links(show: &Show) -> Option<String> {
+    let count = lost(show).len();
+    (count != 0).then(|| format!("{} lost, which ask for no CUE's number", counted(count, "link")))
+}
+
+/// `was 10.25 page 9`: what a memory that was numbered anew was before.
+pub fn was(anew: &Anew) -> String {
+    match anew.was.as_str() {
+        "" => "had no number".into(),
+        was => format!("was {was}"),
+    }
+}
+
+/// Why a link was lost. Where a CUE may well have what it asks for, that is no number which links follow.
+pub fn why_lost(lost: &Lost) -> String {
+    match lost.asked.as_str() {
+        "" => "the LINK asks for no cue".into(),
+        asked if tenths(asked).is_some() => format!("the LINK asks for {asked}, and no CUE has this number"),
+        asked => format!("the LINK asks for {asked}, and links follow numbers of 0 to 9999.9 alone, with one digit behind the point"),
+    }
 }
 
 /// Names are what an operator misses first.
@@ -84,7 +109,21 @@ pub fn has_names(passed: &[Passed]) -> bool {
 pub fn notes(show: &Show) -> Vec<String> {
     let mark = "the file begins with the byte order mark of UTF-8, three characters that are ignored (0701); save it without one";
     let mark = input::has_byte_order_mark(&show.stream).then(|| mark.to_string());
-    mark.into_iter().chain(channels_asked(show)).collect()
+    mark.into_iter().chain(channels_asked(show)).chain(cues_refused(show)).chain(shared_numbers(show)).collect()
+}
+
+/// Where cues were refused that a load with translation takes. It needs a desk that has groups and submasters.
+pub fn cues_refused(show: &Show) -> Option<String> {
+    let count = show.cues_refused();
+    let possible = show.desk.groups != 0 && show.desk.submasters != 0;
+    let were = if count == 1 { "was" } else { "were" };
+    let told = || format!("{} {were} not taken for number or page: try --translate, which numbers all anew", counted(count, "cue"));
+    (count != 0 && possible).then(told)
+}
+
+/// Where a link may lead to another cue than was meant.
+pub fn shared_numbers(show: &Show) -> impl Iterator<Item = String> {
+    shared(show).into_iter().map(|s| format!("{} cues have the number {}: a LINK to it leads to the last, {}", s.count, s.number, s.last))
 }
 
 /// Where the show has channels that the desk lacks: how many it asks for.

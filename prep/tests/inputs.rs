@@ -91,6 +91,43 @@ fn the_longest_stream_and_one_byte_more() {
     line("sheet /dev/zero").only_says(2, &format!("prep: /dev/zero: {why}\n"));
 }
 
+/// A desk with no groups, or with no submasters: the file is not at fault, and another desk helps.
+#[test]
+fn desks_that_cannot_number_anew() {
+    let why = "not loaded, R7: the desk has no groups, or no submasters, and a load with translation needs both; \
+               name a desk that has them with --desk";
+    for desk in ["6,6,10,0,0,1,1,1,1", "6,6,10,1,0,1,1,1,1", "6,6,10,0,1,1,1,1,1"] {
+        let house = "examples/house.asc";
+        prep(&["sheet", house, "--translate", "--desk", desk]).only_says(2, &format!("prep: {house}: {why}\n"));
+        let line = format!("not loaded  {house}: {why}\n1 file: 0 clean, 0 with reports, 1 not loaded\n");
+        prep(&["check", house, "--translate", "--desk", desk]).only_prints(2, &line);
+    }
+}
+
+/// A load that ends with a CUE that is accepted, and with a link that is lost: 0041 is under the number of that record.
+#[test]
+fn a_lost_link_is_not_of_the_last_record() {
+    let ran = prep_fed(&["sheet", "-", "--translate"], b"CUE 5\nLINK 7\nCUE 70");
+    let reports =
+        "REPORTS 2\n  (00003:0) 0041-W Invalid cue or group number\n      LINK 7\n      of record 2, in cue 1 page 1 (was 5):\n      \
+                   the LINK asks for 7, and no CUE has this number\n  (00003:0) 0100-E Data stream terminated without ENDDATA\n\n";
+    assert!(ran.out.contains(reports), "{}", ran.out);
+    assert!(ran.out.contains("    2       1         -         -         -         -         -    -   70\n"), "{}", ran.out);
+}
+
+#[test]
+fn cues_that_translation_would_take() {
+    let notes = |words: &[&str], stream: &[u8]| {
+        let ran = prep_fed(&[&["sheet", "-"], words].concat(), stream);
+        ran.out.lines().filter_map(|line| line.strip_prefix("  NOTE ")).collect::<Vec<_>>().join("\n")
+    };
+    let stream = b"CUE 1000\nCUE 5 9\nGROUP 5 9\nCUE 6\nLINK 1000\nENDDATA\n";
+    assert_eq!(notes(&[], stream), "2 cues were not taken for number or page: try --translate, which numbers all anew");
+    assert_eq!(notes(&[], b"CUE x\n"), "1 cue was not taken for number or page: try --translate, which numbers all anew");
+    assert_eq!(notes(&["--translate"], stream), "");
+    assert_eq!(notes(&["--desk", "6,6,10,0,0,1,1,1,1"], stream), "");
+}
+
 /// Samples with bytes changed, lost and put in: prep always ends by itself, and what it cleans is what it keeps.
 #[test]
 fn damaged_streams() {
@@ -132,6 +169,9 @@ fn same_when_cleaned(folder: &Folder, stream: &[u8], seed: u64) {
     assert_eq!(prep(&["clean", &file, "-o", &out, "--force"]).status, sheet.status, "seed {seed}");
     assert_eq!(prep(&["compare", &file, &out]).status, 0, "seed {seed}");
     assert_eq!(prep(&["sheet", &out]).status, 0, "seed {seed}");
+    let translated = prep(&["clean", &file, "-o", &out, "--force", "--translate"]);
+    assert!(translated.status <= 1 && translated.err.contains("; numbered anew; "), "seed {seed}: {}", translated.err);
+    assert_eq!(prep(&["compare", &file, &out, "--translate"]).status, 0, "seed {seed}");
 }
 
 #[test]

@@ -46,12 +46,14 @@ fn a_sheet_has_the_reports_of_the_examples() {
     for (name, desk) in samples() {
         let ran = prep(&["sheet", &format!("examples/{name}.asc"), "--desk", &desk]);
         let theirs = fs::read_to_string(repository().join(format!("examples/{name}.sheet"))).expect("the example's sheet");
-        let told = |sheet: &str| {
-            let words = |line: &str| line.split_whitespace().take(2).collect::<Vec<_>>().join(" ");
-            sheet.lines().filter(|line| line.starts_with("  (") || line.starts_with("CLOSING")).map(words).collect::<Vec<_>>()
-        };
         assert_eq!(told(&ran.out), told(&theirs), "{name}");
     }
+}
+
+/// The reports of a sheet, and its closing number.
+fn told(sheet: &str) -> Vec<String> {
+    let words = |line: &str| line.split_whitespace().take(2).collect::<Vec<_>>().join(" ");
+    sheet.lines().filter(|line| line.starts_with("  (") || line.starts_with("CLOSING")).map(words).collect()
 }
 
 #[test]
@@ -70,6 +72,44 @@ fn each_cleaned() {
         let same = prep(&["compare", &file, &out, "--desk", &desk]);
         assert!(same.status == 0 && same.out.ends_with("\nSAME the desk keeps the same of both\n"), "{name}: {}", same.out);
     }
+}
+
+/// Those that have a sheet with translation among the examples.
+fn translated() -> Vec<(String, String)> {
+    let has_sheet = |(name, _): &(String, String)| repository().join(format!("examples/{name}.translated")).is_file();
+    samples().into_iter().filter(has_sheet).collect()
+}
+
+/// As above: the sheet, the reports of the C example's sheet, the clean stream and that it is the same show.
+#[test]
+fn each_translated() {
+    let folder = Folder::new("translated");
+    assert!(!translated().is_empty());
+    for (name, desk) in translated() {
+        let (file, out) = (format!("examples/{name}.asc"), folder.path(&format!("{name}.asc")));
+        let sheet = prep(&["sheet", &file, "--desk", &desk, "--translate"]);
+        sheet.only_prints(1, &expected(&format!("{name}.translated.sheet")));
+        let theirs = fs::read_to_string(repository().join(format!("examples/{name}.translated"))).expect("the example's sheet");
+        assert_eq!(told(&sheet.out), told(&theirs), "{name}");
+
+        let ran = prep(&["clean", &file, "-o", &out, "--desk", &desk, "--translate"]);
+        let stream = fs::read_to_string(&out).expect("a clean stream");
+        assert_eq!(stream, expected(&format!("{name}.translated.clean")).replace('\n', "\r\n"), "{name}");
+        assert_eq!((ran.status, ran.out.as_str()), (1, ""), "{name}");
+        assert_eq!(prep(&["sheet", &out, "--desk", &desk]).status, 0, "{name}");
+        let same = prep(&["compare", &file, &out, "--desk", &desk, "--translate"]);
+        assert!(same.status == 0 && same.out.ends_with("\nSAME the desk keeps the same of both\n"), "{name}: {}", same.out);
+    }
+}
+
+#[test]
+fn what_cleaning_says_of_numbers() {
+    let message = "prep: examples/renumbered.asc: written; numbered anew; 2 reports, closing 0041-W Invalid cue or group number; \
+                   2 links lost, which ask for no CUE's number; 4 records passed over, names (TEXT) among them; \
+                   2 cues have the number 1003: a LINK to it leads to the last, cue 7 page 1; prep sheet --translate tells more\n";
+    assert_eq!(line("clean examples/renumbered.asc --translate -o -").err, message);
+    let message = "prep: examples/house.asc: written; numbered anew; prep sheet --translate tells more\n";
+    assert_eq!(line("clean examples/house.asc --translate -o -").err, message);
 }
 
 #[test]
@@ -91,6 +131,7 @@ fn what_cleaning_says_is_lost() {
 #[test]
 fn all_checked() {
     line("check examples").only_prints(1, &expected("examples.check"));
+    line("check examples --translate").only_prints(1, &expected("examples.translated.check"));
     let one = "reports     examples/bare_desk.asc: 2 cues, 0 groups, 0 submasters, 0 patched dimmers; 2 reports, \
                closing 0052-W Submasters not supported; 2 records passed over\n1 file: 0 clean, 1 with reports, 0 not loaded\n";
     line("check examples/bare_desk.asc --desk examples/bare_desk.limits").only_prints(1, one);

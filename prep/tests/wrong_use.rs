@@ -43,9 +43,20 @@ fn options() {
     wrong("clean x -o y -o z", "clean: -o is given twice (prep clean --help)");
     wrong("sheet x --desk house --desk=house", "sheet: --desk is given twice (prep sheet --help)");
     wrong("check x --all --all", "check: --all is given twice (prep check --help)");
+    wrong("sheet x --translate --translate", "sheet: --translate is given twice (prep sheet --help)");
+    wrong("sheet x --translate=yes", "sheet: no option '--translate=yes' (prep sheet --help)");
     wrong("rehearse x --large house", "rehearse: no --small DESK (prep rehearse --help)");
     wrong("rehearse x --small house", "rehearse: no --large DESK (prep rehearse --help)");
     wrong("rehearse x --desk house", "rehearse: no option '--desk' (prep rehearse --help)");
+}
+
+/// What is sure of two desks is of the normal load: it is said what to do in its stead.
+#[test]
+fn no_rehearsal_with_translation() {
+    let why = "rehearse: no --translate, since what is sure of two desks is not sure of numbers made anew; write the show numbered anew, \
+               prep clean FILE --translate -o OUT, and rehearse OUT (prep rehearse --help)";
+    wrong("rehearse x --small house --large largest --translate", why);
+    wrong("rehearse --translate", why);
 }
 
 #[test]

@@ -1,11 +1,14 @@
 //! Cues, groups and submasters as tables: a row a memory, its times as text and drawn, its link, its levels.
-use super::text::{counted, range};
+use super::text::{counted, escaped, range};
 use super::times::{self, Scale};
-use crate::words::longest_time;
+use crate::anew::{self, Anew};
+use crate::kind;
+use crate::words::{longest_time, was};
 use sphairune::{percent, time_text, Fade, Memory, Number};
 
 /// What a table is of, and what goes with it.
 pub struct Kind {
+    pub kind: kind::Kind,
     pub one: &'static str,
     pub title: &'static str,
     pub id: &'static str,
@@ -15,9 +18,10 @@ pub struct Kind {
     pub linked: bool,
 }
 
-pub const CUES: Kind = Kind { one: "cue", title: "Cues", id: "cues", timed: true, linked: true };
-pub const GROUPS: Kind = Kind { one: "group", title: "Groups", id: "groups", timed: false, linked: false };
-pub const SUBMASTERS: Kind = Kind { one: "submaster", title: "Submasters", id: "submasters", timed: true, linked: false };
+pub const CUES: Kind = Kind { kind: kind::Kind::Cue, one: "cue", title: "Cues", id: "cues", timed: true, linked: true };
+pub const GROUPS: Kind = Kind { kind: kind::Kind::Group, one: "group", title: "Groups", id: "groups", timed: false, linked: false };
+pub const SUBMASTERS: Kind =
+    Kind { kind: kind::Kind::Submaster, one: "submaster", title: "Submasters", id: "submasters", timed: true, linked: false };
 
 /// The levels of a longer table are laid out only as they come into sight.
 const LONG: usize = 100;
@@ -25,13 +29,13 @@ const LONG: usize = 100;
 /// Past so many characters a time needs wider columns.
 const LONG_TIME: usize = 9;
 
-/// A section with the memories of a kind, by page and number.
-pub fn section(kind: &Kind, memories: &[Memory]) -> String {
+/// A section with the memories of a kind, by page and number, and with what they were where they are numbered anew.
+pub fn section(kind: &Kind, memories: &[Memory], anew: &[Anew]) -> String {
     let Kind { title, id, .. } = kind;
     let heading = format!("<section id=\"{id}\" aria-labelledby=\"{id}-title\">\n<h2 id=\"{id}-title\">{title}</h2>\n");
     let body = match memories {
         [] => format!("<p>No {} is kept.</p>\n", kind.one),
-        _ => legend(kind) + &table(kind, memories),
+        _ => legend(kind) + &table(kind, memories, anew),
     };
     heading + &body + "</section>\n"
 }
@@ -45,18 +49,19 @@ fn legend(kind: &Kind) -> String {
     }
 }
 
-fn table(kind: &Kind, memories: &[Memory]) -> String {
+fn table(kind: &Kind, memories: &[Memory], anew: &[Anew]) -> String {
     let scale = Scale::of(memories);
     let long = if LONG < memories.len() { " long" } else { "" };
     let wide = if LONG_TIME < longest_time(memories) { " wide" } else { "" };
-    let mut text = format!("<table class=\"memories {}{long}{wide}\">\n{}", kind.id, columns(kind, &scale));
+    let renamed = if anew.is_empty() { "" } else { " anew" };
+    let mut text = format!("<table class=\"memories {}{long}{wide}{renamed}\">\n{}", kind.id, columns(kind, &scale));
     let on_page_1_alone = memories.iter().all(|m| m.page == 1);
     for page in memories.chunk_by(|a, b| a.page == b.page) {
         text += "<tbody>\n";
         if !on_page_1_alone {
             text += &page_row(kind, page);
         }
-        text.extend(page.iter().map(|memory| row(kind, memory, page, &scale)));
+        text.extend(page.iter().map(|memory| row(kind, memory, page, &scale, anew::of(anew, kind.kind, memory))));
         text += "</tbody>\n";
     }
     text + "</table>\n"
@@ -86,9 +91,10 @@ fn columns(kind: &Kind, scale: &Scale) -> String {
     text + &column("levels", "levels") + "</tr></thead>\n"
 }
 
-fn row(kind: &Kind, memory: &Memory, page: &[Memory], scale: &Scale) -> String {
-    let name = anchor(kind, memory.page, memory.number);
-    let mut text = format!("<tr class=\"memory\" id=\"{name}\"><th scope=\"row\" class=\"name\">{}</th>", memory.number);
+fn row(kind: &Kind, memory: &Memory, page: &[Memory], scale: &Scale, anew: Option<&Anew>) -> String {
+    let (name, number) = (anchor(kind, memory.page, memory.number), memory.number);
+    let before = anew.map_or(String::new(), |anew| format!(" <small class=\"was\">{}</small>", escaped(&was(anew))));
+    let mut text = format!("<tr class=\"memory\" id=\"{name}\"><th scope=\"row\" class=\"name\">{number}{before}</th>");
     if kind.timed {
         text += &(fade(memory.up) + &fade(memory.down));
     }
@@ -175,13 +181,13 @@ mod tests {
     #[test]
     fn a_row_a_memory_and_a_body_a_page() {
         let mut cues = [cue(1, None), cue(2, None), cue(1, None)];
-        assert_eq!(section(&CUES, &cues).matches("<tbody>").count(), 1);
+        assert_eq!(section(&CUES, &cues, &[]).matches("<tbody>").count(), 1);
         cues[2].page = 2;
-        let text = section(&CUES, &cues);
+        let text = section(&CUES, &cues, &[]);
         assert_eq!((text.matches("class=\"memory\"").count(), text.matches("<tbody>").count()), (3, 2));
         assert!(text.contains("id=\"cue-2-1\"") && text.contains("Page 2 <small>1 cue</small>"));
         let times = ["1:30 <small>delay 10</small>", "–", "0.5"].map(|time| format!("<td class=\"time\">{time}</td>"));
         assert!(text.contains(&times.concat()));
-        assert!(section(&GROUPS, &[]).contains("No group is kept."));
+        assert!(section(&GROUPS, &[], &[]).contains("No group is kept."));
     }
 }

@@ -92,11 +92,11 @@ fn cell(p: &Patched) -> String {
 #[cfg(test)]
 mod tests {
     use super::*;
-    use crate::show::Show;
+    use crate::show::{Load, Show};
 
     fn of(stream: &str) -> String {
         let desk = Desk { patch_pages: 2, ..Desk::HOUSE };
-        let show = Show::load("a.asc".into(), desk, stream.into()).unwrap();
+        let show = Show::load("a.asc".into(), desk, Load::Normal, stream.into()).unwrap();
         let kept = Kept { cues: show.cues(), groups: show.groups(), submasters: show.submasters(), patch: show.patch() };
         section(desk, &kept)
     }

@@ -23,7 +23,10 @@
 
   // What can be found: its element, its kind, its number or numbers, the channel or channels that it is about, and its text.
   const things = () => {
-    const memory = kind => row => ({ row, kind, numbers: ends(row.id.split('-')[2]), about: channel => Boolean(levelOf(row, channel)) });
+    // Where it was numbered anew, it is found by the number that it had as well.
+    const before = row => row.querySelector('.was')?.textContent.match(/^was (\d+(\.\d+)?)( |$)/)?.[1];
+    const memory = kind => row => ({ row, kind, numbers: ends(row.id.split('-')[2]), was: Number(before(row)),
+      about: channel => Boolean(levelOf(row, channel)) });
     const dimmer = row => ({ row, kind: 'dimmer', numbers: ends(row.querySelector('b').textContent), text: row.ariaLabel,
       about: channel => row.querySelector('span')?.textContent === String(channel) });
     const line = kind => row => ({ row, kind, numbers: ends(row.firstElementChild.textContent), about: () => false,
@@ -38,7 +41,7 @@
   // `channel 33`, `cue 4.5`, `33`: a number, of a kind or of any. All else is looked for as text.
   const kinds = { cue: ['cue'], group: ['group'], sub: ['submaster'], ch: [], dim: ['dimmer'], rec: ['record', 'report'] };
   const asked = query => {
-    const [, word = '', number] = /^(?:(cue|group|sub|ch|dim|rec)[a-z]*\s*)?(\d+(?:\.\d)?)$/i.exec(query) || [];
+    const [, word = '', number] = /^(?:(cue|group|sub|ch|dim|rec)[a-z]*\s*)?(\d+(?:\.\d+)?)$/i.exec(query) || [];
     const kind = word.toLowerCase();
     return { query, number, named: kind ? kinds[kind] : Object.values(kinds).flat(),
       channel: (!kind || kind === 'ch') && Number(number), inText: number && kind !== 'rec' };
@@ -49,7 +52,7 @@
       return thing => (thing.text || thing.row.textContent).toLowerCase().includes(text);
     }
     const among = new RegExp(`(^|[^\\w.])${number.replace('.', '\\.')}(?![\\w.])`);
-    return thing => named.includes(thing.kind) && within(thing.numbers, Number(number))
+    return thing => named.includes(thing.kind) && (within(thing.numbers, Number(number)) || thing.was === Number(number))
       || Boolean(channel) && thing.about(channel)
       || inText && among.test(thing.received || '');
   };
@@ -134,7 +137,8 @@
     const [, page, number] = rows[at.row].id.split('-');
     const level = levelOf(rows[at.row], at.channel);
     const shown = level ? `${level.textContent}% ${level.title}` : 'out';
-    readout.textContent = `cue ${number}, page ${page} \u00b7 channel ${at.channel} \u00b7 ${shown}`;
+    const was = rows[at.row].querySelector('.was');
+    readout.textContent = `cue ${number}, page ${page}${was ? `, ${was.textContent}` : ''} \u00b7 channel ${at.channel} \u00b7 ${shown}`;
     drawn('cursor', grid.left + (at.channel - 1) * grid.width, grid.top + at.row * grid.height, grid.width, grid.height);
   };
   plot.addEventListener('pointermove', event => {

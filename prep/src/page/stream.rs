@@ -1,11 +1,10 @@
 //! The stream's side of the page: the reports, what was passed over, and the records as received with the reports beside them.
 use super::text::{condition, counted, escaped, grouped, range, received};
+use crate::anew::{self, Lost};
 use crate::show::Show;
+use crate::words::{cues_refused, was, why_lost};
 use sphairune::{severity, Report};
 use std::collections::BTreeMap;
-
-/// The stream ends with no ENDDATA: a report of no record.
-const NO_ENDDATA: u32 = 100;
 
 /// The most channels that a desk can have.
 const MOST_CHANNELS: u32 = 512;
@@ -31,11 +30,14 @@ pub fn reports(show: &Show) -> String {
     if show.reports.is_empty() {
         return format!("<section id=\"reports\" class=\"none\" {heading}<p>Nothing: there is no report.</p>\n</section>\n");
     }
-    let (records, reported) = (show.records(), by_record(&show.reports));
-    let mut text = format!("<section id=\"reports\" {heading}{}{}", channels(show), by_condition(show));
+    let (records, reported) = (show.records(), by_record(show));
+    let mut text = format!("<section id=\"reports\" {heading}{}{}{}", channels(show), refused(show), by_condition(show));
     text += "<table class=\"lines\">\n<thead><tr><th scope=\"col\">record</th><th scope=\"col\">as received</th>";
     text += "<th scope=\"col\">condition</th></tr></thead>\n<tbody>\n";
-    text.extend(reported.iter().take(MOST_REPORTED).map(|own| report_row(own, &records)));
+    text.extend(reported.iter().take(MOST_REPORTED).map(|own| match show.is_of_the_end(&own[0]) {
+        true => end_row(show, own),
+        false => report_row(own, &records),
+    }));
     text += "</tbody>\n</table>\n";
     if MOST_REPORTED < reported.len() {
         let more = counted(reported.len() - MOST_REPORTED, "more record");
@@ -44,10 +46,15 @@ pub fn reports(show: &Show) -> String {
     text + "</section>\n"
 }
 
-/// The reports of each record together; that of the stream's end is by itself.
-fn by_record(reports: &[Report]) -> Vec<&[Report]> {
-    let of = |r: &Report| (r.record, r.condition == NO_ENDDATA);
-    reports.chunk_by(|a, b| of(a) == of(b)).collect()
+/// The reports of each record together; those of the stream's end are by themselves.
+fn by_record(show: &Show) -> Vec<&[Report]> {
+    let of = |r: &Report| (r.record, show.is_of_the_end(r));
+    show.reports.chunk_by(|a, b| of(a) == of(b)).collect()
+}
+
+/// Where a load with translation would help.
+fn refused(show: &Show) -> String {
+    cues_refused(show).map_or(String::new(), |told| format!("<p class=\"advice\">{}.</p>\n", escaped(&told)))
 }
 
 /// Where a larger desk would help.
@@ -77,22 +84,41 @@ fn by_condition(show: &Show) -> String {
 }
 
 fn report_row(own: &[Report], records: &[&[u8]]) -> String {
-    let (n, class, told) = (own[0].record, worst(own), told(own));
-    match record_of(&own[0], records) {
-        None => format!("<tr class=\"{class}\"><th scope=\"row\">end</th><td></td><td>{told}</td></tr>\n"),
-        Some(record) => {
-            let listed = n as usize <= MOST_LINES;
-            let name = if listed { format!("<a href=\"#record-{n}\">{n}</a>") } else { n.to_string() };
-            let text = received(record, &columns(own));
-            format!("<tr class=\"{class}\"><th scope=\"row\">{name}</th><td class=\"received\">{text}</td><td>{told}</td></tr>\n")
-        }
-    }
+    let (n, class, told) = (own[0].record as usize, worst(own), told(own));
+    let text = received(records[n - 1], &columns(own));
+    let name = record_name(n);
+    format!("<tr class=\"{class}\"><th scope=\"row\">{name}</th><td class=\"received\">{text}</td><td>{told}</td></tr>\n")
 }
 
-/// The record that a report is of.
-fn record_of<'a>(report: &Report, records: &[&'a [u8]]) -> Option<&'a [u8]> {
-    let place = (report.record as usize).checked_sub(1)?;
-    records.get(place).copied().filter(|_| report.condition != NO_ENDDATA)
+/// What is told when the load ends: the links that were lost, each with its LINK, and that there was no ENDDATA.
+fn end_row(show: &Show, own: &[Report]) -> String {
+    let (others, lost): (Vec<Report>, Vec<Report>) = own.iter().partition(|r| !show.is_lost_link(r));
+    let mut links = anew::lost(show).into_iter();
+    let lost = lost.iter().map(|r| {
+        let link = links.next().map_or(String::new(), |lost| of_link(&lost));
+        format!("<div class=\"report\">{}{link}</div>", condition(r.condition))
+    });
+    let told = lost.collect::<String>() + &told(&others);
+    format!("<tr class=\"{}\"><th scope=\"row\">end</th><td></td><td>{told}</td></tr>\n", worst(own))
+}
+
+fn of_link(lost: &Lost) -> String {
+    let Lost { record, cue, .. } = lost;
+    let place = format!(
+        "record {}, in <a href=\"#cue-{page}-{number}\">cue {number}</a>",
+        record_name(*record),
+        page = cue.page,
+        number = cue.number
+    );
+    format!("<span class=\"link\">{place}, {}: {}</span>", escaped(&was(cue)), escaped(&why_lost(lost)))
+}
+
+/// Leads to a record in the stream, where it is listed there.
+fn record_name(n: usize) -> String {
+    match n {
+        ..=MOST_LINES => format!("<a href=\"#record-{n}\">{n}</a>"),
+        _ => n.to_string(),
+    }
 }
 
 fn columns(own: &[Report]) -> Vec<u32> {
@@ -164,7 +190,7 @@ pub fn stream(show: &Show) -> String {
 }
 
 fn lines(show: &Show, records: &[&[u8]]) -> String {
-    let reported = by_record(&show.reports);
+    let reported = by_record(show);
     let (mut text, mut next, mut at, mut room) = (String::new(), reported.iter().peekable(), 0, MOST_LINES);
     while at < records.len() && 0 < room {
         let n = at + 1;
@@ -174,7 +200,7 @@ fn lines(show: &Show, records: &[&[u8]]) -> String {
             text += &format!("<tr class=\"empty\"><th scope=\"row\">{numbers}</th><td>{}</td></tr>\n", counted(empty, "empty record"));
             at += empty;
         } else {
-            text += &match next.next_if(|own| own[0].record as usize == n && own[0].condition != NO_ENDDATA) {
+            text += &match next.next_if(|own| own[0].record as usize == n && !show.is_of_the_end(&own[0])) {
                 Some(own) => reported_line(n, records[at], own),
                 None => line(n, records[at]),
             };
@@ -187,7 +213,7 @@ fn lines(show: &Show, records: &[&[u8]]) -> String {
         return text
             + &format!("<tr class=\"empty\"><th scope=\"row\">\u{2026}</th><td>{more} more are in the file itself; {listed}.</td></tr>\n");
     }
-    text.extend(next.map(|own| format!("<tr class=\"{}\"><th scope=\"row\">end</th><td></td><td>{}</td></tr>\n", worst(own), told(own))));
+    text.extend(next.map(|own| end_row(show, own)));
     text
 }
 

@@ -1,15 +1,20 @@
 //! The page as a whole, of the sample shows and of hostile ones.
 use super::*;
+use crate::show::Load;
 use std::fs;
 
 fn sample(name: &str, desk: Desk) -> Show {
+    loaded(name, desk, Load::Normal)
+}
+
+fn loaded(name: &str, desk: Desk, load: Load) -> Show {
     let path = format!("{}/../examples/{name}.asc", env!("CARGO_MANIFEST_DIR"));
     let stream = fs::read(&path).unwrap_or_else(|e| panic!("{path}: {e}"));
-    Show::load(format!("{name}.asc"), desk, stream).unwrap()
+    Show::load(format!("{name}.asc"), desk, load, stream).unwrap()
 }
 
 fn of(stream: &[u8]) -> String {
-    page(&Show::load("a.asc".into(), Desk::HOUSE, stream.to_vec()).unwrap())
+    page(&Show::load("a.asc".into(), Desk::HOUSE, Load::Normal, stream.to_vec()).unwrap())
 }
 
 fn samples() -> Vec<Show> {
@@ -18,6 +23,7 @@ fn samples() -> Vec<Show> {
     let mut shows: Vec<Show> =
         ["worked", "house", "foreign", "faults", "noise", "long_record", "other_version"].map(|name| sample(name, Desk::HOUSE)).into();
     shows.extend([sample("small_desk", small), sample("bare_desk", bare), sample("house", Desk::LARGEST), sample("times", Desk::HOUSE)]);
+    shows.extend(["renumbered", "faults", "house"].map(|name| loaded(name, Desk::HOUSE, Load::Translated)));
     shows
 }
 
@@ -39,9 +45,9 @@ fn every_report_is_shown_twice() {
     for show in samples() {
         let text = page(&show);
         for report in &show.reports {
-            let (listed, beside) = match report.condition {
-                100 => (">end<".to_string(), ">end<".to_string()),
-                _ => (format!("#record-{}\"", report.record), format!("id=\"record-{}\"", report.record)),
+            let (listed, beside) = match show.is_of_the_end(report) {
+                true => (">end<".to_string(), ">end<".to_string()),
+                false => (format!("#record-{}\"", report.record), format!("id=\"record-{}\"", report.record)),
             };
             for row in [row(part(&text, "reports"), &listed), row(part(&text, "stream"), &beside)] {
                 let told = &row[row.find(&condition(report.condition)).expect("the condition is in its row")..];
@@ -129,6 +135,23 @@ fn cue_names_are_said_to_be_lost() {
 }
 
 #[test]
+fn what_was_numbered_anew() {
+    let text = page(&loaded("renumbered", Desk::HOUSE, Load::Translated));
+    assert!(text.contains("<strong>Loaded with translation.</strong>"));
+    for (id, was) in [("cue-1-2", "was 1000 page 9"), ("cue-1-4", "was 10.25"), ("cue-1-8", "had no number"), ("group-1-2", "was front")] {
+        assert!(row(&text, &format!("id=\"{id}\"")).contains(&format!("<small class=\"was\">{was}</small>")), "{id}");
+    }
+    assert!(text.contains("2 cues have the number 1003: a LINK to it leads to the last, cue 7 page 1."));
+    let end = row(part(&text, "reports"), ">end<");
+    assert_eq!(end.matches("0041-W").count(), 2);
+    assert!(end.contains(
+        "<a href=\"#record-23\">23</a>, in <a href=\"#cue-1-4\">cue 4</a>, was 10.25: the LINK asks for 99, and no CUE has this number"
+    ));
+    let normal = page(&sample("renumbered", Desk::HOUSE));
+    assert!(!normal.contains("translation.") && normal.contains("8 cues were not taken for number or page: try --translate"));
+}
+
+#[test]
 fn links_lead_somewhere() {
     for show in samples() {
         let text = page(&show);
@@ -144,10 +167,13 @@ fn links_lead_somewhere() {
 fn a_stream_of_scripts_does_no_harm() {
     let script = "<script>alert(1)</script><img src=x onerror=alert(2)>";
     let stream = format!("{script}\nCUE 1 ! {script}\nCHAN {script} ' onload=\"x\"\n${script}\nTEXT </code></table></main>{script}\n");
-    let show = Show::load(format!("{script}\"'.asc"), Desk::HOUSE, stream.into()).unwrap();
-    let text = page(&show);
-    assert_eq!((text.matches("<script").count(), text.matches("<img").count(), text.matches("</main>").count()), (1, 0, 1));
-    assert!(text.contains("&lt;script&gt;alert(1)&lt;/script&gt;"));
+    for load in [Load::Normal, Load::Translated] {
+        let stream = format!("{stream}CUE {script}\nLINK {script}\n");
+        let show = Show::load(format!("{script}\"'.asc"), Desk::HOUSE, load, stream.into()).unwrap();
+        let text = page(&show);
+        assert_eq!((text.matches("<script").count(), text.matches("<img").count(), text.matches("</main>").count()), (1, 0, 1));
+        assert!(text.contains("&lt;script&gt;alert(1)&lt;/script&gt;"));
+    }
     let mut every = Vec::from(*b"CUE 1\n");
     for c in 0..=255 {
         every.extend([c, b'\n']);
