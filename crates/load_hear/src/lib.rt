@@ -77,7 +77,7 @@ pub fn hear(numbers: Numbers, text: &[u8], outcome: Outcome) -> Heard
     }
     let start = text_fields::field_start(text, 0);
     if start < text.len() {
-        let said = text_fields::keyword_at(text, start);
+        let said = text_fields::keyword_again(text, start);
         let k = said.keyword;
         return family_heard(load_naming::family_of(k), text, said.end, outcome);
     }

@@ -67,7 +67,7 @@ fn text_bearing(text: &[u8]) -> Bearing
 {
     let start = text_fields::field_start(text, 0);
     if start < text.len() {
-        let said = text_fields::keyword_at(text, start);
+        let said = text_fields::keyword_again(text, start);
         let k = said.keyword;
         return family_bearing(load_naming::family_of(k), text, said.end);
     }

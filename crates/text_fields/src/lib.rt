@@ -418,6 +418,19 @@ pub fn keyword_at(text: &[u8], at: usize) -> Said
     }
 }
 
+// The same, for a load with translation, which asks a second time. It is a function of its own so that `keyword_at` has one caller: the compiler
+// then puts that in line, and every record gains by it.
+pub fn keyword_again(text: &[u8], at: usize) -> Said
+    requires { ⌜ at < length (now text) ⌝ }
+    ensures { λ r. ⌜ r ≡ saidAt (now (text .entry)) at ⌝ }
+{
+    let w = key_at(text, at);
+    Said {
+        keyword: keyword_of(byte(text, at), byte(text, at + 1), w.key),
+        end: w.end,
+    }
+}
+
 // The CLEAR item that stands at `at`.
 pub fn item_at(text: &[u8], at: usize) -> SaidItem
     requires { ⌜ at ≤ length (now text) ⌝ }

@@ -11,8 +11,8 @@ returns c = not-anew (c .before .before .before .args .numbers) _ (c .if1 .taken
 field-start-requires : tie.Need-field-start-requires
 field-start-requires c κs = search needs
 
-keyword-at-requires : tie.Need-keyword-at-requires
-keyword-at-requires c κs = search needs
+keyword-again-requires : tie.Need-keyword-again-requires
+keyword-again-requires c κs = search needs
 
 family-of-requires : tie.Need-family-of-requires
 family-of-requires c κs = search needs
@@ -20,12 +20,12 @@ family-of-requires c κs = search needs
 family-heard-requires : tie.Need-family-heard-requires
 family-heard-requires c κs = let k = c .before in
     let f = k .before .before in
-    said-line _ (f .before .before .before .before .args .outcome) (f .field-start .ensures) (k .keyword-at .ensures) (f .before .before .before .before .pre)
+    said-line _ (f .before .before .before .before .args .outcome) (f .field-start .ensures) (k .keyword-again .ensures) (f .before .before .before .before .pre)
 
 returns-2 : tie.Need-returns-2
 returns-2 c = let k = c .before .before in
     let f = k .before .before in
-    anew-heard (f .before .before .before .before .args .numbers) _ (f .before .if1 .left) (family-heard _ _ (f .field-start .ensures) (k .keyword-at .ensures) (k .before .if2 .taken) (c .before .family-of .ensures) (c .family-heard .ensures))
+    anew-heard (f .before .before .before .before .args .numbers) _ (f .before .if1 .left) (family-heard _ _ (f .field-start .ensures) (k .keyword-again .ensures) (k .before .if2 .taken) (c .before .family-of .ensures) (c .family-heard .ensures))
 
 returns-3 : tie.Need-returns-3
 returns-3 c = let f = c .before in
@@ -37,7 +37,7 @@ hear-spec =
     (tie.spec
     returns
     field-start-requires
-    keyword-at-requires
+    keyword-again-requires
     family-of-requires
     family-heard-requires
     returns-2
