@@ -22,17 +22,19 @@ use Rattle.store.specs.Change.{emptied}
 use Rattle.store.specs.Good.{Ready}
 use Rattle.store.proofs.Empty.{empty-good}
 use Rattle.load.specs.declared.Totals.{Totals}
-use Rattle.load.specs.Run.{loadOf, totalsOf, storedIn, allReports}
+use Rattle.load.specs.Run.{Run, loadOf, totalsOf, storedIn, allReports}
+use Rattle.load.specs.Translated.{translatedOf}
 use Rattle.save.specs.Lines.{streamOf}
 use Rattle.show.specs.declared.Admission.{Admission}
 use Rattle.show.specs.declared.Admission.the-variants.{Admitted, Away}
 use Rattle.show.specs.declared.Loaded.the-variants.{Done as LoadDone}
 use Rattle.show.specs.declared.Written.the-variants.{Done as WriteDone}
 use Rattle.show.specs.declared.Emptied.the-variants.{Done as EmptyDone}
-use Rattle.show.specs.Calls.{mostBytes, lentAdmission, admissionOf, LoadCall, loadDone, loadBy, loadCall, LoadPromise}
+use Rattle.show.specs.Calls.{mostBytes, lentAdmission, thenAdmission, admissionOf, LoadCall, loadDone, loadBy, loadCall, LoadPromise}
+use Rattle.show.specs.Calls.{kindsAdmission, translateAdmission, translateCall, TranslatePromise}
 use Rattle.show.specs.Calls.{WriteCall, writeReply, writtenAs, putCall, writeBy, writeCall, WritePromise, EmptyCall, emptyBy, emptyCall, EmptyPromise}
-use Rattle.show.proofs.Laws.{let-in, admitted, load-long, load-by, put-long, put-short, write-by, by-lent, empty-by, empty-done}
-use Rattle.show.proofs.OneAnswer.{one-load, one-write, one-empty}
+use Rattle.show.proofs.Laws.{let-in, admitted, load-long, load-by, translate-long, translate-by, put-long, put-short, write-by, by-lent, empty-by, empty-done}
+use Rattle.show.proofs.OneAnswer.{one-load, one-translate, one-write, one-empty}
 
 -- ---- let in
 
@@ -46,13 +48,16 @@ none-refused r e z = let l = refusal-some r in absurd (let o : ⊥ = omega arith
 
 -- ---- load
 
--- what an answered load says
-pub record LoadAnswered (d : Desk) (s reps stream : List ℕ) (x : Totals) (t q : List ℕ) : Type 0 where
+-- what an answered load says, of the run that it is
+pub record RunAnswered (d : Desk) (s reps stream : List ℕ) (run : Run) (x : Totals) (t q : List ℕ) : Type 0 where
   pub ready : Ready d s
   pub short : length stream ≤ mostBytes
-  pub told : x ≡ totalsOf (loadOf d s stream)
-  pub store : t ≡ loadOf d s stream .store
-  pub list : q ≡ storedIn reps (allReports (loadOf d s stream))
+  pub told : x ≡ totalsOf run
+  pub store : t ≡ run .store
+  pub list : q ≡ storedIn reps (allReports run)
+
+abbrev pub LoadAnswered : Desk → List ℕ → List ℕ → List ℕ → Totals → List ℕ → List ℕ → Type 0
+LoadAnswered d s reps stream x t q = RunAnswered d s reps stream (loadOf d s stream) x t q
 
 module _ (d : Desk) (s reps stream : List ℕ) where
   -- a load into a store in good form, of a stream that is short enough, is answered
@@ -78,6 +83,47 @@ module _ (d : Desk) (s reps stream : List ℕ) where
       let p = load-let-in (ap (λ (y : LoadCall). y .reply .number) (sym e)) in
       let run = loadOf d s stream in
       let o = one-load d s reps stream {a = LoadDone x} {b = LoadDone (totalsOf run)} e (sym (load-answers (p .0) (p .1))) in
+      let f : LoadDone x ≡ LoadDone (totalsOf run) = o .0 in
+      record { ready = p .0; short = p .1; told = cc; store = o .1; list = o .2 }
+
+-- ---- translate
+
+-- a store in good form is let in, but for R7
+pub kinds-left : (d : Desk) (s : List ℕ) → Ready d s → kindsAdmission d ≡ translateAdmission d s
+unfolding translateAdmission thenAdmission
+kinds-left d s r = ap (λ (a : Admission). thenAdmission a (kindsAdmission d)) (not-away d s r)
+
+module _ (d : Desk) (s reps stream : List ℕ) where
+  translate-admitted : (a : Admission) → a ≡ admissionOf d s
+      → loadBy (thenAdmission a (kindsAdmission d)) (translatedOf d s stream) s reps .reply .number ≡ 0 → Admitted ≡ admissionOf d s
+  unfolding thenAdmission loadBy
+  translate-admitted Admitted e z = e
+  translate-admitted (Away r) e z = none-refused r refl z
+
+  kinds-admitted : (a : Admission) → a ≡ translateAdmission d s → loadBy a (translatedOf d s stream) s reps .reply .number ≡ 0
+      → Admitted ≡ translateAdmission d s
+  unfolding loadBy
+  kinds-admitted Admitted e z = e
+  kinds-admitted (Away r) e z = none-refused r refl z
+
+  translate-let-in : translateCall d s reps stream .reply .number ≡ 0
+      → Ready d s × (length stream ≤ mostBytes) × (Admitted ≡ translateAdmission d s)
+  unfolding translateAdmission
+  translate-let-in z =
+      by-le (length stream) mostBytes
+      (λ h.
+      let n = ap (λ (y : LoadCall). y .reply .number) (translate-by d s reps stream (translateAdmission d s) refl h) ∙ z in
+      (let-in d s (translate-admitted (admissionOf d s) refl n), h, kinds-admitted (translateAdmission d s) refl n))
+      (λ h. none-refused R1 (ap (λ (y : LoadCall). y .reply .number) (translate-long d s reps stream h)) z)
+
+  pub translate-answered : {x : Totals} {t q : List ℕ} → TranslatePromise d s reps stream (LoadDone x) t q
+      → RunAnswered d s reps stream (translatedOf d s stream) x t q
+  unfolding loadBy
+  translate-answered {x} e =
+      let p = translate-let-in (ap (λ (y : LoadCall). y .reply .number) (sym e)) in
+      let run = translatedOf d s stream in
+      let g = translate-by d s reps stream Admitted (p .2) (p .1) in
+      let o = one-translate d s reps stream {a = LoadDone x} {b = LoadDone (totalsOf run)} e g in
       let f : LoadDone x ≡ LoadDone (totalsOf run) = o .0 in
       record { ready = p .0; short = p .1; told = cc; store = o .1; list = o .2 }
 

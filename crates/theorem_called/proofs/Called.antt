@@ -18,27 +18,30 @@ use Rattle.store.specs.Slots.{find}
 use Rattle.text_records.specs.Received.{longest}
 use Rattle.load.specs.declared.Totals.{Totals}
 use Rattle.load.specs.Run.{loadOf, totalsOf, storedIn, allReports}
+use Rattle.load.specs.Translated.{translatedOf}
 use Rattle.save.specs.Lines.{streamOf}
+use Rattle.show.specs.declared.Admission.{Admission}
 use Rattle.show.specs.declared.Admission.the-variants.{Admitted}
 use Rattle.show.specs.declared.Loaded.{Loaded}
 use Rattle.show.specs.declared.Written.{Written}
 use Rattle.show.specs.declared.Emptied.{Emptied}
 use Rattle.show.specs.declared.Placed.{Placed}
-use Rattle.show.specs.Calls.{mostBytes, LoadCall, loadReply, LoadPromise, WriteCall, writeReply, writeBy, WritePromise}
+use Rattle.show.specs.Calls.{mostBytes, LoadCall, loadReply, loadBy, LoadPromise, kindsAdmission, TranslatePromise, WriteCall, writeReply, writeBy, WritePromise}
 use Rattle.show.specs.Calls.{EmptyCall, emptyReply, emptiedAs, emptyCall, EmptyPromise, Look, lookAt, lookBy, lookCall, LookPromise}
 use Rattle.show.specs.Calls.{cueName, cueKey, findReply, placedAt, findBy, FindPromise}
-use Rattle.show.proofs.Laws.{load-long, put-long, put-short, write-by, empty-done, look-by, find-by}
+use Rattle.show.proofs.Laws.{load-long, translate-long, translate-by, by-kinds, put-long, put-short, write-by, empty-done, look-by, find-by}
 use Rattle.theorem_told.specs.Answer.{noReport}
 use Rattle.theorem_told.specs.Reports.{reportAt}
 use Rattle.theorem_told.proofs.Columns.{load-columns}
 use Rattle.theorem_told.proofs.Lent.{stored-length}
+use Rattle.theorem_translated.proofs.Good.{translated-ready}
 use Rattle.theorem_same_show.specs.Show.{SameShow, ReadBack}
 use Rattle.theorem_same_show.proofs.Theorem.{written-reads-back}
 use Rattle.theorem_rehearse.specs.Rehearse.{HadRoom, Rehearsal, loaded, Carries, KeepsWithin, PatchedAlike, Ships, Complete, SamePatch}
 use Rattle.theorem_rehearse.proofs.Seen.{saw-room}
 use Rattle.theorem_rehearse.proofs.Rehearse.{rehearsed}
 use Rattle.theorem_called.specs.Called.{ReadBackAs, WriteThenLoad, WrittenIsLoaded, NotTurnedAway, LetIn, GoodAfter, SeenRoom, RehearsedCalls}
-use Rattle.theorem_called.proofs.Answered.{not-away, load-answers, LoadAnswered, load-answered}
+use Rattle.theorem_called.proofs.Answered.{not-away, load-answers, LoadAnswered, load-answered, kinds-left, translate-answered}
 use Rattle.load.proofs.Steps.{load-ready}
 use Rattle.theorem_called.proofs.Answered.{write-answers, write-answered, empty-answered}
 
@@ -107,6 +110,24 @@ module _ (d : Desk) (s : List ℕ) (r : Ready d s) where
       let z : loadReply a .number ≡ 1 = ap (λ (y : LoadCall). y .reply .number) (e ∙ sym (load-long d s reps stream h)) in
       before-away (loadReply a .number) (omega arith))
 
+  translate-through : (reps stream : List ℕ) {n : ℕ} → n ≡ loadBy (kindsAdmission d) (translatedOf d s stream) s reps .reply .number → NotTurnedAway n
+  unfolding loadBy
+  translate-through reps stream {n} =
+      by-kinds d (λ (k : Admission). n ≡ loadBy k (translatedOf d s stream) s reps .reply .number → NotTurnedAway n)
+      (λ f z. let y : n ≡ 7 = z in between-away n (omega arith) (omega arith))
+      (λ f g z. let y : n ≡ 0 = z in before-away n (omega arith))
+
+  translate-let : (reps stream : List ℕ) (a : Loaded) (t q : List ℕ) → TranslatePromise d s reps stream a t q
+      → NotTurnedAway (loadReply a .number)
+  translate-let reps stream a t q e =
+      by-le (length stream) mostBytes
+      (λ h.
+      let f = e ∙ sym (translate-by d s reps stream (kindsAdmission d) (kinds-left d s r) h) in
+      translate-through reps stream (ap (λ (y : LoadCall). y .reply .number) f))
+      (λ h.
+      let z : loadReply a .number ≡ 1 = ap (λ (y : LoadCall). y .reply .number) (e ∙ sym (translate-long d s reps stream h)) in
+      before-away (loadReply a .number) (omega arith))
+
   write-let : (out : List ℕ) (a : Written) (o : List ℕ) → WritePromise d s out a o → NotTurnedAway (writeReply a .number)
   unfolding writeBy
   write-let out a o e =
@@ -152,7 +173,7 @@ module _ (d : Desk) (s : List ℕ) (r : Ready d s) where
       subst NotTurnedAway (sym z) (placed-through d f)
 
   ready-let : LetIn d s
-  ready-let = record { load = load-let; write = write-let; empty = empty-let; look = look-let; find = find-let }
+  ready-let = record { load = load-let; translate = translate-let; write = write-let; empty = empty-let; look = look-let; find = find-let }
 
 pub good-after : (d : Desk) → GoodAfter d
 good-after d =
@@ -162,6 +183,10 @@ good-after d =
           λ s reps stream x t q e.
           let l = load-answered d s reps stream e in
           ready-let d t (subst (Ready d) (sym (l .store)) (load-ready d s stream (l .ready)));
+      translated =
+          λ s reps stream x t q e.
+          let l = translate-answered d s reps stream e in
+          ready-let d t (subst (Ready d) (sym (l .store)) (translated-ready d s stream (l .ready)));
     }
 
 -- ---- demand 3

@@ -22,7 +22,7 @@ use Rattle.show.specs.declared.Written.the-variants.{Done as WriteDone}
 use Rattle.show.specs.declared.Emptied.{Emptied}
 use Rattle.show.specs.declared.Emptied.the-variants.{Done as EmptyDone}
 use Rattle.show.specs.declared.Placed.{Placed}
-use Rattle.show.specs.Calls.{loadReply, LoadPromise, writeReply, WritePromise, emptyReply, EmptyPromise, LookPromise, findReply, FindPromise, loadCall}
+use Rattle.show.specs.Calls.{loadReply, LoadPromise, TranslatePromise, writeReply, WritePromise, emptyReply, EmptyPromise, LookPromise, findReply, FindPromise, loadCall}
 use Rattle.theorem_told.specs.Edges.{Edge, edges, cueOf, keptBy}
 use Rattle.theorem_same_show.specs.Show.{SameShow, allObeyed}
 use Rattle.theorem_rehearse.specs.Rehearse.{Larger, HadRoom, storedFull, Carries, KeepsWithin, PatchedAlike}
@@ -63,6 +63,7 @@ pub record NotTurnedAway (n : ℕ) : Type 0 where
 
 pub record LetIn (d : Desk) (s : List ℕ) : Type 0 where
   pub load : (reps stream : List ℕ) (a : Loaded) (t q : List ℕ) → LoadPromise d s reps stream a t q → NotTurnedAway (loadReply a .number)
+  pub translate : (reps stream : List ℕ) (a : Loaded) (t q : List ℕ) → TranslatePromise d s reps stream a t q → NotTurnedAway (loadReply a .number)
   pub write : (out : List ℕ) (a : Written) (o : List ℕ) → WritePromise d s out a o → NotTurnedAway (writeReply a .number)
   pub empty : (a : Emptied) (t : List ℕ) → EmptyPromise d s a t → NotTurnedAway (emptyReply a .number)
   pub look : (v r : RefT (List ℕ)) (page whole tenths answer : ℕ) → now v ≡ s → LookPromise d v page whole tenths r answer
@@ -72,6 +73,7 @@ pub record LetIn (d : Desk) (s : List ℕ) : Type 0 where
 pub record GoodAfter (d : Desk) : Type 0 where
   pub emptied : (v s : List ℕ) → EmptyPromise d v EmptyDone s → LetIn d s
   pub loaded : (s reps stream : List ℕ) (x : Totals) (t q : List ℕ) → LoadPromise d s reps stream (LoadDone x) t q → LetIn d t
+  pub translated : (s reps stream : List ℕ) (x : Totals) (t q : List ℕ) → TranslatePromise d s reps stream (LoadDone x) t q → LetIn d t
 
 -- ---- demand 3: two emptied desks load the same stream
 
