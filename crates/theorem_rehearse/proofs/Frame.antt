@@ -28,15 +28,17 @@ use Rattle.store.proofs.Patches.{patch-view, patch-memory, patch-tail, patch-go
 use Rattle.store.proofs.Patches.{clear-patch-view, clear-patch-memory, clear-patch-tail, clear-patch-good}
 use Rattle.load.specs.declared.Entry.{Entry}
 use Rattle.load.specs.declared.Entry.the-variants.{Level, Patch, Faulty}
+use Rattle.load.specs.declared.Numbers.{Numbers}
 use Rattle.load.specs.declared.State.{State}
 use Rattle.load.specs.Item.{Target, memory, page, done, allDone}
 use Rattle.load.specs.Ask.{Wipe, table, dimmers, Ask, rests, skips, opens, edits, items, clears, name, askOf}
-use Rattle.load.specs.Step.{wiped, openedBy, acted, recordStep}
+use Rattle.load.specs.Step.{wiped, openedBy, acted}
 use Rattle.load.specs.Fits.{AllFit}
 use Rattle.load.proofs.Read.{ChangeOk}
 use Rattle.load.proofs.Deed.{WipesFit, Deed, resting, skipping, opening, editing, setting, patching, clearing, record-deed}
+use Rattle.load.proofs.Anew.{anew-record-deed}
 use Rattle.load.proofs.Steps.{level-ready}
-use Rattle.theorem_rehearse.specs.Frame.{wipesMemory, wipesDimmers, patchesDimmer, Framed, OnlyMemory, OnlyDimmers, NamesOpen, Frame}
+use Rattle.theorem_rehearse.specs.Frame.{wipesMemory, wipesDimmers, patchesDimmer, Framed, OnlyMemory, OnlyDimmers, NamesOpen, Framing, Frame, FrameIn}
 
 -- ---- what an ask may change, for all forms at once
 unfoldable pub targetsMemory : Target → Name → Bool
@@ -217,17 +219,16 @@ module _ (d : Desk) where
   ask-framed t r s (items (page p) es) f = triples-framed p (f .0) es (f .1) t r
   ask-framed t r s (clears xs) f = wipes-framed xs t (wiped-seen xs f t r)
 
-module _ (d : Desk) (t : List ℕ) (s : State) (x : List ℕ) where
+module _ (d : Desk) (t : List ℕ) (s : State) {n : ℕ} {x : Ask} (deed : Deed d s n x) where
   abbrev Given : Ask → Type 0
-  Given a = AskFits d s a × (Ready d t → Framed d t (recordStep d s x t .store) (changesMemory a) (changesDimmer a))
+  Given a = AskFits d s a × (Ready d t → Framed d t (acted d s t x .store) (changesMemory a) (changesDimmer a))
 
-  given : (a : Ask) → askOf d s x ≡ a → Given a
-  unfolding recordStep
-  given a h = subst Given h (ask-fits d s x, λ r. ask-framed d t r s (askOf d s x) (ask-fits d s x))
+  given : (a : Ask) → x ≡ a → Given a
+  given a h = subst Given h (deed-fits deed, λ r. ask-framed d t r s x (deed-fits deed))
 
-  pub framed : Frame d t s x
-  unfolding recordStep acted changesMemory targetsMemory changesDimmer targetsDimmer
-  framed =
+  deed-framing : Framing d t s x
+  unfolding acted changesMemory targetsMemory changesDimmer targetsDimmer
+  deed-framing =
       record {
         opens = λ k y h. given (opens k y) h .1;
         edits = λ n e h. (given (edits n e) h .0 .0, given (edits n e) h .1);
@@ -237,3 +238,10 @@ module _ (d : Desk) (t : List ℕ) (s : State) (x : List ℕ) where
         rests = λ o h. ap (λ (a : Ask). acted d s t a .store) h;
         skips = λ o h. ap (λ (a : Ask). acted d s t a .store) h;
       }
+
+module _ (d : Desk) (t : List ℕ) where
+  pub framed : (s : State) (r : List ℕ) → Frame d t s r
+  framed s r = deed-framing d t s (record-deed d s r)
+
+  pub framed-in : (b : Numbers) (s : State) (r : List ℕ) → FrameIn d t b s r
+  framed-in b s r = deed-framing d t s (anew-record-deed d b s r)

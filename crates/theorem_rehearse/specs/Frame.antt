@@ -18,12 +18,14 @@ use Rattle.store.specs.Change.{onPage, hits}
 use Rattle.store.specs.Good.{Ready}
 use Rattle.load.specs.declared.Entry.{Entry}
 use Rattle.load.specs.declared.Entry.the-variants.{Level, Patch, Faulty}
+use Rattle.load.specs.declared.Numbers.{Numbers}
 use Rattle.load.specs.declared.Open.the-variants.{Memory}
 use Rattle.load.specs.declared.Outcome.{Outcome}
 use Rattle.load.specs.declared.State.{State}
 use Rattle.load.specs.Item.{memory, page}
-use Rattle.load.specs.Ask.{Wipe, table, dimmers, rests, skips, opens, edits, items, clears, name, askOf}
-use Rattle.load.specs.Step.{recordStep}
+use Rattle.load.specs.Ask.{Wipe, table, dimmers, Ask, rests, skips, opens, edits, items, clears, name, askOf}
+use Rattle.load.specs.Anew.{askIn}
+use Rattle.load.specs.Step.{acted}
 
 -- ---- what a CLEAR removes, and what a PATCH names
 
@@ -63,28 +65,34 @@ OnlyMemory d t u n = Framed d t u (λ m. eqName m n) (λ p q. false)
 abbrev pub OnlyDimmers : Desk → List ℕ → List ℕ → ℕ → (ℕ → Bool) → Type 0
 OnlyDimmers d t u on dimmer = Framed d t u (λ m. false) (λ p q. eqb on p && dimmer q)
 
--- ---- the frame, of a record r in a state s on a store t
+-- ---- the frame, of what a record asks for in a state s on a store t
 
 -- it is the open memory
 abbrev pub NamesOpen : State → Name → Type 0
 NamesOpen s n = (s .«open» ≡ Memory (n .kind)) × (n .key ≡ s .key)
 
 -- the store after it
-abbrev pub after : Desk → List ℕ → State → List ℕ → List ℕ
-after d t s r = recordStep d s r t .store
+abbrev pub after : Desk → List ℕ → State → Ask → List ℕ
+after d t s a = acted d s t a .store
 
-pub record Frame (d : Desk) (t : List ℕ) (s : State) (r : List ℕ) : Type 0 where
+pub record Framing (d : Desk) (t : List ℕ) (s : State) (a : Ask) : Type 0 where
   -- a primary changes only the memory that it names
-  pub opens : (k : Kind) (key : Key) → askOf d s r ≡ opens k key → Ready d t → OnlyMemory d t (after d t s r) (name k key)
+  pub opens : (k : Kind) (key : Key) → a ≡ opens k key → Ready d t → OnlyMemory d t (after d t s a) (name k key)
   -- UP, DOWN, FOLLOWON and LINK name the open memory, and change only it
-  pub edits : (n : Name) (e : Edit) → askOf d s r ≡ edits n e → NamesOpen s n × (Ready d t → OnlyMemory d t (after d t s r) n)
+  pub edits : (n : Name) (e : Edit) → a ≡ edits n e → NamesOpen s n × (Ready d t → OnlyMemory d t (after d t s a) n)
   -- so does CHAN
-  pub pairs : (n : Name) (es : List Entry) → askOf d s r ≡ items (memory n) es → NamesOpen s n × (Ready d t → OnlyMemory d t (after d t s r) n)
+  pub pairs : (n : Name) (es : List Entry) → a ≡ items (memory n) es → NamesOpen s n × (Ready d t → OnlyMemory d t (after d t s a) n)
   -- PATCH changes only the dimmers of its good triples, on its page
-  pub triples : (p : ℕ) (es : List Entry) → askOf d s r ≡ items (page p) es → Ready d t → OnlyDimmers d t (after d t s r) p (patchesDimmer es)
+  pub triples : (p : ℕ) (es : List Entry) → a ≡ items (page p) es → Ready d t → OnlyDimmers d t (after d t s a) p (patchesDimmer es)
   -- CLEAR changes only what it removes
-  pub clears : (ws : List Wipe) → askOf d s r ≡ clears ws → Ready d t
-      → Framed d t (after d t s r) (wipesMemory ws) (λ p q. wipesDimmers ws p)
+  pub clears : (ws : List Wipe) → a ≡ clears ws → Ready d t → Framed d t (after d t s a) (wipesMemory ws) (λ p q. wipesDimmers ws p)
   -- every other record changes no byte, on whatever store
-  pub rests : (o : Outcome) → askOf d s r ≡ rests o → after d t s r ≡ t
-  pub skips : (o : Outcome) → askOf d s r ≡ skips o → after d t s r ≡ t
+  pub rests : (o : Outcome) → a ≡ rests o → after d t s a ≡ t
+  pub skips : (o : Outcome) → a ≡ skips o → after d t s a ≡ t
+
+-- of a record r, whose step is `acted` of what it asks for: in a normal load, and in either, with memories numbered as b says
+abbrev pub Frame : Desk → List ℕ → State → List ℕ → Type 0
+Frame d t s r = Framing d t s (askOf d s r)
+
+abbrev pub FrameIn : Desk → List ℕ → Numbers → State → List ℕ → Type 0
+FrameIn d t b s r = Framing d t s (askIn d b s r)
