@@ -1,3 +1,3 @@
 pub mod Bits
-pub mod Hearing
 pub mod Noting
+pub mod Booking

@@ -1,17 +1,15 @@
--- What is noted of a load with translation while it goes: a mark, one bit, for each CUE record, in their order, set where it was accepted; and what
--- the cue of each slot asked for (paper 02, C-13). No promise above the load names these.
+-- What is noted of a load with translation while it goes: a mark, one bit, for each CUE record, in their order, set where it was accepted (paper 02,
+-- C-13). No promise above the load names these.
 -- Assumes nothing.
 use mathlib.Core.Bool.{Bool}
 use mathlib.Core.List.{List, [], _∷_}
-use Prim.Native.Nat.{ℕ, zero, suc, _+_, _*_, _/_, _%_, _≤_}
+use Prim.Native.Nat.{ℕ, zero, suc, _+_, _*_, _/_, _%_}
 use lib.Dec.{eqb}
 use lib.ListN.{getD, set}
 use Rattle.store_desk.specs.declared.Kind.the-variants.{Cue, Group, Sub}
-use Rattle.value.specs.Integer.{cap}
-use Rattle.value.specs.Number.{noNumber}
 use Rattle.load.specs.declared.Heard.{Heard}
 use Rattle.load.specs.declared.Heard.the-variants.{Other, Accepted, Refused, Link as Asked}
-use Rattle.load.specs.Translated.{Note, askedAt}
+use Rattle.load.specs.Translated.{Note}
 
 -- ---- bits of a byte, the lowest first
 
@@ -54,24 +52,6 @@ triedAt tried (Refused Cue) = tried + 1
 triedAt tried (Refused Group) = tried
 triedAt tried (Refused Sub) = tried
 triedAt tried (Asked m) = tried
-
-pub record Noted : Type 0 where
-  pub tried : ℕ
-  pub marks : List ℕ
-  pub asked : List ℕ
-
-abbrev pub noting : ℕ → List ℕ → List ℕ → Noted
-noting n ms qs = record { tried = n; marks = ms; asked = qs }
-
-abbrev pub notedAt : ℕ → List ℕ → List ℕ → Heard → ℕ → Noted
-notedAt tried ms qs h slot = noting (triedAt tried h) (markedAt ms tried h) (askedAt qs slot h)
-
--- a number that a LINK asks for is far below what wraps
-abbrev pub AskFits : Heard → Type 0
-AskFits Other = Unit {0}
-AskFits (Accepted k) = Unit {0}
-AskFits (Refused k) = Unit {0}
-AskFits (Asked m) = m ≤ noNumber + cap
 
 -- ---- the marks of all the records that were read
 unfoldable pub marksBy : List ℕ → ℕ → List Note → List ℕ

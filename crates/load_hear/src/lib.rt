@@ -1,113 +1,45 @@
-// What a load with translation hears of a record beside what the record asks for, and what it notes of it: how many of each kind were accepted,
-// which CUE records were, and which number each cue's LINK asked for (paper 02, C-13).
+// What a load with translation notes of a record beside what the record asks for: how many of each kind were accepted, which CUE records were, and
+// which number each cue's LINK asked for (paper 02, C-13).
 ghost use mathlib.Core.Path.{_≡_};
-ghost use mathlib.Core.Bool.{cond};
+ghost use mathlib.Core.Bool.{true};
+ghost use mathlib.Core.List.{[]};
 ghost use Prim.Native.Nat.{_≤_, _<_};
-ghost use lib.ListN.{length, set};
-ghost use Rattle.text_records.specs.Received.{longest};
-ghost use Rattle.text_fields.specs.Words.{wordsOf};
-ghost use Rattle.text_fields.specs.Places.{wordsFrom};
-ghost use Rattle.load.specs.Anew.{isObeyed, familyHeard, fieldsHeard, numbered};
-ghost use Rattle.load.specs.Fits.{NumbersFit};
-ghost use Rattle.load_naming.specs.Line.{Line};
-ghost use Rattle.load_hear.specs.Marks.{power, bitOf, withBit, marked, isMarked, noting, notedAt, AskFits};
-use load::Family;
-use load::Heard;
+ghost use lib.ListN.{length, getD, set};
+ghost use Rattle.load.specs.declared.Family.the-variants.{Primary};
+ghost use Rattle.load.specs.declared.Heard.the-variants.{Accepted, Refused};
+ghost use Rattle.load.specs.Anew.{isObeyed, familyHeard};
+ghost use Rattle.load.specs.Fits.{mostRecords};
+ghost use Rattle.load_hear.specs.Marks.{power, bitOf, withBit, marked, isMarked};
+ghost use Rattle.load_hear.specs.Book.{isAnew, numbersIn, oneMoreAt, countedAt, CountersFit, booking, heardBy, bookedAt};
 use load::Numbers;
 use load::Outcome;
-use load::Secondary;
 use store_desk::Kind;
 
-// ---- a record heard
+// The counters, in the order in which they lie: the cues, groups and submasters that were accepted, and the CUE records, accepted or not.
+const CUES: usize = 0;
 
-fn is_obeyed(outcome: Outcome) -> bool
-    ensures { λ r. ⌜ r ≡ isObeyed outcome ⌝ }
+const GROUPS: usize = 1;
+
+const SUBS: usize = 2;
+
+const TRIED: usize = 3;
+
+// A normal load lends a shorter list.
+pub fn is_anew(numbers: &[u32]) -> bool
+    ensures { λ r. ⌜ r ≡ isAnew (now (numbers .entry)) ⌝ }
 {
-    match outcome {
-        Outcome::Blank => false,
-        Outcome::Passed => false,
-        Outcome::Dropped(_) => false,
-        Outcome::Obeyed => true,
-        Outcome::Stopped(_) => false,
-    }
+    TRIED < numbers.len()
 }
 
-// An accepted primary, or a refused one.
-fn primary_heard(kind: Kind, outcome: Outcome) -> Heard
-    ensures { λ r. ⌜ r ≡ cond (isObeyed outcome) (Heard.Accepted kind) (Heard.Refused kind) ⌝ }
+pub fn numbers_in(numbers: &[u32]) -> Numbers
+    requires { ⌜ isAnew (now numbers) ≡ true ⌝ }
+    ensures { λ r. ⌜ r ≡ numbersIn (now (numbers .entry)) ⌝ }
 {
-    if is_obeyed(outcome) {
-        return Heard::Accepted(kind);
-    }
-    Heard::Refused(kind)
-}
-
-// A LINK that was obeyed, with the number that it asks for.
-fn link_heard(e: Secondary, text: &[u8], at: usize, outcome: Outcome) -> Heard
-    requires { ⌜ Line (now text) at ⌝ }
-    ensures { λ r. ⌜ r ≡ familyHeard (Family.Augments e) (wordsFrom (now (text .entry)) at) outcome ⌝ }
-{
-    if !is_obeyed(outcome) {
-        return Heard::Other;
-    }
-    if !load_naming::is_link(e) {
-        return Heard::Other;
-    }
-    Heard::Link(load_naming::borne_at(text, at))
-}
-
-fn family_heard(f: Family, text: &[u8], at: usize, outcome: Outcome) -> Heard
-    requires { ⌜ Line (now text) at ⌝ }
-    ensures { λ r. ⌜ r ≡ familyHeard f (wordsFrom (now (text .entry)) at) outcome ⌝ }
-{
-    match f {
-        Family::Primary(kind) => primary_heard(kind, outcome),
-        Family::Augments(e) => link_heard(e, text, at, outcome),
-        Family::Basic(_) => Heard::Other,
-    }
-}
-
-// A record's text. A normal load hears nothing of it.
-pub fn hear(numbers: Numbers, text: &[u8], outcome: Outcome) -> Heard
-    requires { ⌜ length (now text) ≤ longest ⌝ }
-    ensures { λ r. ⌜ r ≡ cond (numbers .anew) (fieldsHeard (wordsOf 0 (now (text .entry))) outcome) Heard.Other ⌝ }
-{
-    if !numbers.anew {
-        return Heard::Other;
-    }
-    let start = text_fields::field_start(text, 0);
-    if start < text.len() {
-        let said = text_fields::keyword_again(text, start);
-        let k = said.keyword;
-        return family_heard(load_naming::family_of(k), text, said.end, outcome);
-    }
-    Heard::Other
-}
-
-// An accepted primary uses a number.
-pub fn renumbered(numbers: Numbers, heard: Heard) -> Numbers
-    requires { ⌜ NumbersFit numbers ⌝ }
-    ensures { λ r. ⌜ r ≡ numbered numbers heard ⌝ }
-{
-    let mut n = numbers;
-    match heard {
-        Heard::Other => n,
-        Heard::Accepted(kind) => match kind {
-            Kind::Cue => {
-                n.cues = numbers.cues + 1;
-                n
-            }
-            Kind::Group => {
-                n.groups = numbers.groups + 1;
-                n
-            }
-            Kind::Sub => {
-                n.subs = numbers.subs + 1;
-                n
-            }
-        },
-        Heard::Refused(_) => n,
-        Heard::Link(_) => n,
+    Numbers {
+        anew: true,
+        cues: numbers[CUES],
+        groups: numbers[GROUPS],
+        subs: numbers[SUBS],
     }
 }
 
@@ -167,8 +99,8 @@ pub fn is_mark(marks: &[u8], n: usize) -> bool
 
 // ---- a record noted
 
-// Past its end the list stays as it is.
-fn ask(asked: &mut [u32], slot: usize, number: u32)
+// What the cue in a slot asked for, and 1; past its end the list stays as it is.
+pub fn ask(asked: &mut [u32], slot: usize, number: u32)
     ensures { λ _. ⌜ now (asked .exit) ≡ set (now (asked .entry)) slot number ⌝ }
 {
     if slot < asked.len() {
@@ -176,32 +108,74 @@ fn ask(asked: &mut [u32], slot: usize, number: u32)
     }
 }
 
-// After so many CUE records: their marks, and what the cue in a slot asked for, and 1. A cue that starts afresh has asked for nothing. How many CUE
-// records there are then is the answer.
-pub fn note(marks: &mut [u8], asked: &mut [u32], tried: usize, heard: Heard, slot: usize) -> usize
-    requires { ⌜ tried < 262144 ⌝ }
-    requires { ⌜ AskFits heard ⌝ }
-    ensures { λ r. ⌜ noting r (now (marks .exit)) (now (asked .exit)) ≡ notedAt tried (now (marks .entry)) (now (asked .entry)) heard slot ⌝ }
+fn is_obeyed(outcome: Outcome) -> bool
+    ensures { λ r. ⌜ r ≡ isObeyed outcome ⌝ }
 {
-    match heard {
-        Heard::Other => tried,
-        Heard::Accepted(kind) => match kind {
-            Kind::Cue => {
-                mark(marks, tried);
-                ask(asked, slot, 0);
-                tried + 1
-            }
-            Kind::Group => tried,
-            Kind::Sub => tried,
-        },
-        Heard::Refused(kind) => match kind {
-            Kind::Cue => tried + 1,
-            Kind::Group => tried,
-            Kind::Sub => tried,
-        },
-        Heard::Link(number) => {
-            ask(asked, slot, number + 1);
-            tried
-        }
+    match outcome {
+        Outcome::Blank => false,
+        Outcome::Passed => false,
+        Outcome::Dropped(_) => false,
+        Outcome::Obeyed => true,
+        Outcome::Stopped(_) => false,
     }
+}
+
+fn one_more(numbers: &mut [u32], i: usize)
+    requires { ⌜ i < length (now numbers) ⌝ }
+    requires { ⌜ getD (now numbers) i 0 ≤ mostRecords ⌝ }
+    ensures { λ _. ⌜ now (numbers .exit) ≡ oneMoreAt (now (numbers .entry)) i ⌝ }
+{
+    numbers[i] += 1;
+}
+
+// An accepted primary uses a number. A CUE that is accepted is marked, and has asked for nothing, whatever its slot held before.
+fn accept(numbers: &mut [u32], marks: &mut [u8], asked: &mut [u32], kind: Kind, slot: usize)
+    requires { ⌜ isAnew (now numbers) ≡ true ⌝ }
+    requires { ⌜ CountersFit (now numbers) ⌝ }
+    ensures { λ _. ⌜ booking (now (numbers .exit)) (now (marks .exit)) (now (asked .exit)) ≡ bookedAt (now (numbers .entry)) (now (marks .entry)) (now (asked .entry)) (Accepted kind) slot ⌝ }
+{
+    match kind {
+        Kind::Cue => {
+            mark(marks, numbers[TRIED] as usize);
+            ask(asked, slot, 0);
+            one_more(&mut *numbers, CUES);
+            one_more(numbers, TRIED)
+        }
+        Kind::Group => one_more(numbers, GROUPS),
+        Kind::Sub => one_more(numbers, SUBS),
+    }
+}
+
+// A refused one uses none; a CUE was tried.
+fn refuse(numbers: &mut [u32], kind: Kind)
+    requires { ⌜ isAnew (now numbers) ≡ true ⌝ }
+    requires { ⌜ CountersFit (now numbers) ⌝ }
+    ensures { λ _. ⌜ now (numbers .exit) ≡ countedAt (now (numbers .entry)) (Refused kind) ⌝ }
+{
+    match kind {
+        Kind::Cue => one_more(numbers, TRIED),
+        Kind::Group => (),
+        Kind::Sub => (),
+    }
+}
+
+// A primary, by its outcome, with the slot that it opened. A normal load notes nothing.
+pub fn note_primary(
+    numbers: &mut [u32],
+    marks: &mut [u8],
+    asked: &mut [u32],
+    kind: Kind,
+    outcome: Outcome,
+    slot: usize,
+)
+    requires { ⌜ CountersFit (now numbers) ⌝ }
+    ensures { λ _. ⌜ booking (now (numbers .exit)) (now (marks .exit)) (now (asked .exit)) ≡ bookedAt (now (numbers .entry)) (now (marks .entry)) (now (asked .entry)) (heardBy (now (numbers .entry)) (familyHeard (Primary kind) [] outcome)) slot ⌝ }
+{
+    if !is_anew(numbers) {
+        return;
+    }
+    if is_obeyed(outcome) {
+        return accept(numbers, marks, asked, kind, slot);
+    }
+    refuse(numbers, kind)
 }

@@ -11,11 +11,11 @@ use Rattle.load_held.specs.declared.Held.{Held}
 use Rattle.load_held.specs.Held.{heldOf, HeldReady}
 use Rattle.load_held.proofs.Holding.{nothing-ready}
 use Rattle.load_step.proofs.Laws.{step-keeps}
-use Rattle.load_run.specs.Loaded.{begunOf}
+use Rattle.load_run.specs.Loaded.{nothingBegun}
 
-pub ready-begun : (d : Desk) (b : Numbers) (t : List ℕ) → HeldReady d t (begunOf b .held)
-unfolding begunOf
-ready-begun d b t = nothing-ready d t refl
+pub ready-begun : (d : Desk) (t : List ℕ) → HeldReady d t (nothingBegun .held)
+unfolding nothingBegun
+ready-begun d t = nothing-ready d t refl
 
 pub ready-record : (d : Desk) (b : Numbers) (h : Held) (r t : List ℕ) → Fitting d t → HeldReady d t h
     → HeldReady d (stepIn d b (h .state) r t .store) (heldOf d (stepIn d b (h .state) r t .store) (stepIn d b (h .state) r t .state))

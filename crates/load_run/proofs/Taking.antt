@@ -2,7 +2,7 @@
 -- By unfolding the definitions along those equations.
 -- Assumes nothing.
 use mathlib.Core.Path.{_≡_, refl, sym, ap, _∙_, subst}
-use mathlib.Core.Bool.{Bool, true, false, cond, not, _||_}
+use mathlib.Core.Bool.{Bool, true, false, not, _||_}
 use mathlib.Core.List.{List, [], _∷_, _++_}
 use Prim.Native.Nat.{ℕ, _+_, _-_, _≤_}
 use native.Mathlib.Omega.{arith}
@@ -32,9 +32,9 @@ use Rattle.load.specs.declared.Outcome.the-variants.{Stopped, Blank}
 use Rattle.load.specs.Condition.{overLongRecord}
 use Rattle.load.specs.Item.{blameNone}
 use Rattle.load.specs.Ask.{isOverLong}
-use Rattle.load.specs.Anew.{askIn, fieldsHeard, heardIn, numbered}
+use Rattle.load.specs.Anew.{askIn, fieldsHeard, heardIn}
 use Rattle.load.specs.Step.{Step, ended, acted, ignoredIn, outcomeFaults, reportedOf}
-use Rattle.load.specs.Translated.{stepIn}
+use Rattle.load.specs.Translated.{stepIn, askedAt}
 use Rattle.load.specs.Run.{stops}
 use Rattle.load.specs.Fits.{Small, Near, mostRecords, textStep}
 use Rattle.load.proofs.Anew.{heard-empty, heard-long}
@@ -46,10 +46,12 @@ use Rattle.load_items.proofs.Faults.{faults-back}
 use Rattle.load_held.specs.declared.Held.{Held}
 use Rattle.load_held.specs.declared.Stepped.{Stepped}
 use Rattle.load_held.specs.Held.{heldOf, HeldReady, Room, ResAll, steppingAll, steppedOf, steppedAll}
+use Rattle.load_hear.specs.Marks.{markedAt}
+use Rattle.load_hear.specs.Book.{Book, numbersIn, countedAt, booking, heardBy, bookedAt}
 use Rattle.load_tell.specs.declared.Count.{Count}
 use Rattle.load_run.specs.declared.Progress.{Progress}
 use Rattle.load_tell.specs.Count.{tallied, told, toldAs, toldAll, ignoredBy, faultsAs, Tellable, Countable}
-use Rattle.load_run.specs.Take.{taken, takenBy, textTaken, recordTaken, blankTaken, TextOf, Spans, Taking}
+use Rattle.load_run.specs.Take.{taken, takenBy, textTaken, recordTaken, textBooked, recordBooked, blankTaken, TextOf, Spans, Taking}
 use Rattle.load_tell.proofs.Telling.{near-more, none-told, told-single, said-room}
 
 -- ---- what the step ensures, part by part
@@ -74,6 +76,12 @@ module _ (d : Desk) (x : Step) (fs : List ℕ) {s : Stepped} {t ws : List ℕ} (
   unfolding steppedAll steppedOf
   stepped-count = ap (λ (r : ResAll). r .res .stepped .faults) e
 
+  -- what is noted of it, as the code has it
+  pub step-booked : (text l ms qs : List ℕ) {h : Held} {b : Book} → h ≡ s .held
+      → b ≡ bookedAt l ms qs (heardBy l (fieldsHeard (wordsOf 0 text) (s .outcome))) (s .held .slot)
+      → b ≡ bookedAt l ms qs (heardBy l (fieldsHeard (wordsOf 0 text) (x .outcome))) (h .slot)
+  step-booked text l ms qs y v = v ∙ (λ i. bookedAt l ms qs (heardBy l (fieldsHeard (wordsOf 0 text) (stepped-outcome i))) (sym y i .slot))
+
   module _ (g : Small (x .faults)) (few : s .faults ≤ mostFaults) (room : Room fs) where
     stepped-faults : faultsAs (take (s .faults) ws) ≡ x .faults
     unfolding faultsAs
@@ -86,24 +94,18 @@ module _ (d : Desk) (x : Step) (fs : List ℕ) {s : Stepped} {t ws : List ℕ} (
     said-same ig = λ i. ig ++ (outcomeFaults (stepped-outcome i) ++ stepped-faults i)
 
     -- the step taken
-    pub step-taken : (n : Count) (b : Numbers) (r text l : List ℕ) (ig : List Fault) {h : Held} {c : Count} {k : List ℕ} {m : Numbers} {a : Heard} {g : Bool}
+    pub step-taken : (n : Count) (r l : List ℕ) (ig : List Fault) {h : Held} {c : Count} {k : List ℕ} {g : Bool}
         → h ≡ s .held
         → told c k ≡ toldAll r (told (tallied n (s .outcome)) l) (ig ++ (outcomeFaults (s .outcome) ++ faultsAs (take (s .faults) ws)))
-        → a ≡ cond (b .anew) (fieldsHeard (wordsOf 0 text) (s .outcome)) Other
-        → m ≡ numbered b a
         → g ≡ stops (s .outcome)
-        → taken (record { held = h; count = c; numbers = m; heard = a; stopped = g }) t k
-        ≡ takenBy d n b r l x (ig ++ saidBy x) (cond (b .anew) (fieldsHeard (wordsOf 0 text) (x .outcome)) Other)
+        → taken (record { held = h; count = c; stopped = g }) t k ≡ takenBy d n r l x (ig ++ saidBy x)
     unfolding takenBy
-    step-taken n b r text l ig {h} {c} {k} {m} {a} {g} y f j e z =
+    step-taken n r l ig {h} {c} {k} {g} y f z =
         let q : told c k ≡ toldAll r (told (tallied n (x .outcome)) l) (ig ++ saidBy x) =
         f ∙ (λ i. toldAll r (told (tallied n (stepped-outcome i)) l) (said-same ig i)) in
         let u : g ≡ stops (x .outcome) = z ∙ ap stops stepped-outcome in
         let v : h ≡ heldOf d (x .store) (x .state) = y ∙ stepped-held in
-        let o : a ≡ cond (b .anew) (fieldsHeard (wordsOf 0 text) (x .outcome)) Other =
-        j ∙ (λ i. cond (b .anew) (fieldsHeard (wordsOf 0 text) (stepped-outcome i)) Other) in
-        let w : m ≡ numbered b (cond (b .anew) (fieldsHeard (wordsOf 0 text) (x .outcome)) Other) = e ∙ ap (λ (y : Heard). numbered b y) o in
-        λ i. taken (record { held = v i; count = q i .count; numbers = w i; heard = o i; stopped = u i }) (stepped-store i) (q i .list)
+        λ i. taken (record { held = v i; count = q i .count; stopped = u i }) (stepped-store i) (q i .list)
 
     -- there is room for its faults
     pub step-room : (n : Count) (r : List ℕ) (size : ℕ) (high control : Bool) → Countable n → n .reports + size ≤ mostRecords → length r ≤ longest
@@ -209,16 +211,28 @@ module _ (s : List ℕ) (at end : ℕ) {plain : Bool} (w : Spans s at end plain)
       pub short-chars : length chars ≤ longest
       short-chars = omega (arith, chars-length, short-size)
 
+-- ---- a record of which nothing is heard
+nothing-booked : (l ms qs : List ℕ) (slot : ℕ) {h : Heard} → h ≡ Other → booking l ms qs ≡ bookedAt l ms qs h slot
+unfolding countedAt markedAt askedAt
+nothing-booked l ms qs slot e = ap (λ (x : Heard). bookedAt l ms qs x slot) (sym e)
+
 -- ---- a record that is not over-long
 module _ {xs bytes : List ℕ} {n : ℕ} {high control : Bool} (w : Texted xs bytes n high control) where
-  pub text-taken : (d : Desk) (p : Progress) (t l : List ℕ) → isOverLong xs ≡ false
-      → textTaken d p xs (take n bytes) high control t l ≡ recordTaken d p xs t l
-  unfolding stepIn askIn reportedOf ignoredIn fieldsOf heardIn
-  text-taken d p t l o =
+  pub text-taken : (d : Desk) (b : Numbers) (p : Progress) (t l : List ℕ) → isOverLong xs ≡ false
+      → textTaken d b p xs (take n bytes) high control t l ≡ recordTaken d b p xs t l
+  unfolding stepIn askIn reportedOf ignoredIn fieldsOf
+  text-taken d b p t l o =
       rw o (λ i.
-      let x = textStep d (p .numbers) (p .held .state) (wordsOf 0 (w .text i)) t in
-      takenBy d (p .count) (p .numbers) xs l x (ignoredBy (w .highs i) (w .controls i) ++ saidBy x)
-      (cond (p .numbers .anew) (fieldsHeard (wordsOf 0 (w .text i)) (x .outcome)) Other))
+      let x = textStep d b (p .held .state) (wordsOf 0 (w .text i)) t in
+      takenBy d (p .count) xs l x (ignoredBy (w .highs i) (w .controls i) ++ saidBy x))
+
+  pub text-booked : (d : Desk) (p : Progress) (t l ms qs : List ℕ) (slot : ℕ) → isOverLong xs ≡ false
+      → textBooked d p (take n bytes) t l ms qs slot ≡ recordBooked d p xs t l ms qs slot
+  unfolding stepIn askIn fieldsOf heardIn numbersIn
+  text-booked d p t l ms qs slot o =
+      rw o (λ i.
+      let ws = wordsOf 0 (w .text i) in
+      bookedAt l ms qs (heardBy l (fieldsHeard ws (textStep d (numbersIn l) (p .held .state) ws t .outcome))) slot)
 
   pub text-room : {d : Desk} {p : Progress} {t : List ℕ} → length xs ≤ longest → Taking d p (length xs) t
       → TextOf xs (take n bytes) high control × Taking d p (length (take n bytes)) t
@@ -227,32 +241,38 @@ module _ {xs bytes : List ℕ} {n : ℕ} {high control : Bool} (w : Texted xs by
       let b : length (keptOf xs) ≤ length xs = kept-length xs in
       let f : p .count .reports + length xs ≤ mostRecords = k .room in (
         record { short = h; within = omega arith; marred = λ i. w .highs i || w .controls i },
-        record { fitting = k .fitting; ready = k .ready; numbered = k .numbered; countable = k .countable; room = omega arith },
+        record { fitting = k .fitting; ready = k .ready; countable = k .countable; room = omega arith },
       )
 
 -- ---- an over-long one
-pub long-taken : (d : Desk) (p : Progress) (r t l : List ℕ) {n : Count} {k : List ℕ} → isOverLong r ≡ true → HeldReady d t (p .held)
+pub long-taken : (d : Desk) (b : Numbers) (p : Progress) (r t l : List ℕ) {n : Count} {k : List ℕ} → isOverLong r ≡ true → HeldReady d t (p .held)
     → told n k ≡ toldAs (told (tallied (p .count) (Stopped (blameNone overLongRecord))) l) overLongRecord 0
-    → taken (record { held = p .held; count = n; numbers = p .numbers; heard = Other; stopped = true }) t k ≡ recordTaken d p r t l
-unfolding stepIn askIn acted reportedOf outcomeFaults takenBy stops numbered
-long-taken d p r t l {n} {k} o h e =
+    → taken (record { held = p .held; count = n; stopped = true }) t k ≡ recordTaken d b p r t l
+unfolding stepIn askIn acted reportedOf outcomeFaults takenBy stops
+long-taken d b p r t l {n} {k} o h e =
     let q : told n k ≡ toldAll r (told (tallied (p .count) (Stopped (blameNone overLongRecord))) l) (blameNone overLongRecord ∷ []) =
     e ∙ none-told r _ overLongRecord ∙ told-single r _ (blameNone overLongRecord) in
-    let b = p .numbers in
-    let a : Other ≡ heardIn b r (Stopped (blameNone overLongRecord)) = sym (heard-long b r (Stopped (blameNone overLongRecord)) o) in
-    rw o (λ i. taken (record { held = h .same i; count = q i .count; numbers = numbered b (a i); heard = a i; stopped = true }) t (q i .list))
+    rw o (λ i. taken (record { held = h .same i; count = q i .count; stopped = true }) t (q i .list))
+
+pub long-booked : (d : Desk) (p : Progress) (r t l ms qs : List ℕ) (slot : ℕ) → isOverLong r ≡ true
+    → booking l ms qs ≡ recordBooked d p r t l ms qs slot
+long-booked d p r t l ms qs slot o = nothing-booked l ms qs slot (heard-long (numbersIn l) r _ o)
 
 -- ---- one with no character
-pub blank-taken : (d : Desk) (p : Progress) (r t l : List ℕ) {q : Progress} → r ≡ [] → HeldReady d t (p .held) → q ≡ blankTaken p
-    → taken q t l ≡ recordTaken d p r t l
-unfolding takenBy stops toldAll numbered
-blank-taken d p r t l {q} e h f =
-    let s = p .held .state in
-    let b = p .numbers in
-    let a : Other ≡ heardIn b [] Blank = sym (heard-empty b Blank) in
-    let x : ended s Blank t ≡ stepIn d b s [] t = sym (blank-step-in d b s t) in
-    (λ i. taken (f i) t l)
-    ∙ (λ i. taken (record { held = h .same i; count = tallied (p .count) Blank; numbers = numbered b (a i); heard = a i; stopped = false }) t l)
-    ∙ (λ i. takenBy d (p .count) b [] l (ended s Blank t) (sym (blank-said s t) i) (heardIn b [] Blank))
-    ∙ (λ i. takenBy d (p .count) b [] l (x i) (reportedOf [] (x i)) (heardIn b [] (x i .outcome)))
-    ∙ (λ i. recordTaken d p (sym e i) t l)
+module _ (d : Desk) (p : Progress) (r t : List ℕ) (e : r ≡ []) where
+  pub blank-taken : (b : Numbers) (l : List ℕ) {q : Progress} → HeldReady d t (p .held) → q ≡ blankTaken p → taken q t l ≡ recordTaken d b p r t l
+  unfolding takenBy stops toldAll
+  blank-taken b l h f =
+      let s = p .held .state in
+      let x : ended s Blank t ≡ stepIn d b s [] t = sym (blank-step-in d b s t) in
+      (λ i. taken (f i) t l)
+      ∙ (λ i. taken (record { held = h .same i; count = tallied (p .count) Blank; stopped = false }) t l)
+      ∙ (λ i. takenBy d (p .count) [] l (ended s Blank t) (sym (blank-said s t) i))
+      ∙ (λ i. takenBy d (p .count) [] l (x i) (reportedOf [] (x i)))
+      ∙ (λ i. recordTaken d b p (sym e i) t l)
+
+  pub blank-booked : (l ms qs : List ℕ) (slot : ℕ) → booking l ms qs ≡ recordBooked d p r t l ms qs slot
+  blank-booked l ms qs slot =
+      let b = numbersIn l in
+      nothing-booked l ms qs slot (heard-empty b (stepIn d b (p .held .state) [] t .outcome))
+      ∙ (λ i. recordBooked d p (sym e i) t l ms qs slot)

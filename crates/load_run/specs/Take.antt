@@ -1,6 +1,6 @@
 -- One record taken into the load: its step done, its outcome tallied, its conditions told (paper 01, "Reports, tallies, closing number").
 -- Assumes nothing.
-use mathlib.Core.Bool.{Bool, false, cond, _||_}
+use mathlib.Core.Bool.{Bool, false, _||_}
 use mathlib.Core.Path.{_≡_}
 use mathlib.Core.List.{List, _++_}
 use Prim.Native.Nat.{ℕ, _+_, _≤_}
@@ -13,19 +13,18 @@ use Rattle.text_records.specs.Window.{plainEnd}
 use Rattle.text_fields.specs.Words.{wordsOf}
 use Rattle.store_code.specs.Fits.{Fitting}
 use Rattle.load.specs.Step.{Step, outcomeFaults, reportedOf}
-use Rattle.load.specs.Anew.{fieldsHeard, heardIn, numbered}
+use Rattle.load.specs.Anew.{fieldsHeard, heardIn}
 use Rattle.load.specs.Translated.{stepIn}
-use Rattle.load.specs.declared.Heard.{Heard}
-use Rattle.load.specs.declared.Heard.the-variants.{Other}
 use Rattle.load.specs.declared.Numbers.{Numbers}
 use Rattle.load.specs.declared.Fault.{Fault}
 use Rattle.load.specs.declared.Outcome.the-variants.{Blank}
 use Rattle.load.specs.Run.{stops}
+use Rattle.load_hear.specs.Book.{Book, numbersIn, heardBy, bookedAt}
 use Rattle.load_held.specs.Held.{heldOf, HeldReady}
 use Rattle.load_tell.specs.declared.Count.{Count}
 use Rattle.load_run.specs.declared.Progress.{Progress}
 use Rattle.load_tell.specs.Count.{told, toldAll, tallied, ignoredBy, Marred, Countable}
-use Rattle.load.specs.Fits.{mostRecords, NumbersFit, textStep}
+use Rattle.load.specs.Fits.{mostRecords, textStep}
 
 -- how far a load is, the store and the lent list
 pub record Took : Type 0 where
@@ -36,31 +35,35 @@ pub record Took : Type 0 where
 abbrev pub taken : Progress → List ℕ → List ℕ → Took
 taken p t reps = record { done = p; store = t; reports = reps }
 
--- after a step of the record with the characters r, its faults, and what was heard of it
-unfoldable pub takenBy : Desk → Count → Numbers → List ℕ → List ℕ → Step → List Fault → Heard → Took
-takenBy d n b r reps x fs h =
+-- after a step of the record with the characters r, and its faults
+unfoldable pub takenBy : Desk → Count → List ℕ → List ℕ → Step → List Fault → Took
+takenBy d n r reps x fs =
     let y = toldAll r (told (tallied n (x .outcome)) reps) fs in
-    taken
-    (record { held = heldOf d (x .store) (x .state); count = y .count; numbers = numbered b h; heard = h; stopped = stops (x .outcome) })
-    (x .store)
-    (y .list)
+    taken (record { held = heldOf d (x .store) (x .state); count = y .count; stopped = stops (x .outcome) }) (x .store) (y .list)
 
 -- after the record with the characters r
-abbrev pub recordTaken : Desk → Progress → List ℕ → List ℕ → List ℕ → Took
-recordTaken d p r t reps =
-    let x = stepIn d (p .numbers) (p .held .state) r t in
-    takenBy d (p .count) (p .numbers) r reps x (reportedOf r x) (heardIn (p .numbers) r (x .outcome))
+abbrev pub recordTaken : Desk → Numbers → Progress → List ℕ → List ℕ → List ℕ → Took
+recordTaken d b p r t reps = let x = stepIn d b (p .held .state) r t in takenBy d (p .count) r reps x (reportedOf r x)
 
 -- after a record that is not over-long, from its text and the sorts of ignored characters in it
-abbrev pub textTaken : Desk → Progress → List ℕ → List ℕ → Bool → Bool → List ℕ → List ℕ → Took
-textTaken d p r text high control t reps =
-    let x = textStep d (p .numbers) (p .held .state) (wordsOf 0 text) t in
-    takenBy d (p .count) (p .numbers) r reps x (ignoredBy high control ++ (outcomeFaults (x .outcome) ++ x .faults))
-    (cond (p .numbers .anew) (fieldsHeard (wordsOf 0 text) (x .outcome)) Other)
+abbrev pub textTaken : Desk → Numbers → Progress → List ℕ → List ℕ → Bool → Bool → List ℕ → List ℕ → Took
+textTaken d b p r text high control t reps =
+    let x = textStep d b (p .held .state) (wordsOf 0 text) t in
+    takenBy d (p .count) r reps x (ignoredBy high control ++ (outcomeFaults (x .outcome) ++ x .faults))
+
+-- what is noted beside it, with the slot of the memory that is open after it
+abbrev pub recordBooked : Desk → Progress → List ℕ → List ℕ → List ℕ → List ℕ → List ℕ → ℕ → Book
+recordBooked d p r t l ms qs slot =
+    let b = numbersIn l in
+    bookedAt l ms qs (heardIn b r (stepIn d b (p .held .state) r t .outcome)) slot
+
+abbrev pub textBooked : Desk → Progress → List ℕ → List ℕ → List ℕ → List ℕ → List ℕ → ℕ → Book
+textBooked d p text t l ms qs slot =
+    bookedAt l ms qs (heardBy l (fieldsHeard (wordsOf 0 text) (textStep d (numbersIn l) (p .held .state) (wordsOf 0 text) t .outcome))) slot
 
 -- after a record with no character
 abbrev pub blankTaken : Progress → Progress
-blankTaken p = record { held = p .held; count = tallied (p .count) Blank; numbers = p .numbers; heard = Other; stopped = false }
+blankTaken p = record { held = p .held; count = tallied (p .count) Blank; stopped = false }
 
 -- a text of a record with the characters r that is not over-long, and whether r has ignored characters of each sort
 pub record TextOf (r text : List ℕ) (high control : Bool) : Type 0 where
@@ -78,6 +81,5 @@ pub record Spans (s : List ℕ) (at end : ℕ) (plain : Bool) : Type 0 where
 pub record Taking (d : Desk) (p : Progress) (size : ℕ) (t : List ℕ) : Type 0 where
   pub fitting : Fitting d t
   pub ready : HeldReady d t (p .held)
-  pub numbered : NumbersFit (p .numbers)
   pub countable : Countable (p .count)
   pub room : p .count .reports + size ≤ mostRecords

@@ -9,10 +9,9 @@ ghost use Rattle.load.specs.Run.{loadOf};
 ghost use Rattle.load_held.specs.Held.{Room};
 ghost use Rattle.load_tell.specs.Count.{Reportable, Countable};
 ghost use Rattle.load.specs.Fits.{mostRecords};
-ghost use Rattle.load_run.specs.Take.{taken, textTaken, recordTaken, blankTaken, TextOf, Taking, Spans};
-ghost use Rattle.load_run.specs.Loaded.{runLoaded, loadedOf, begunOf, FromNone, walked, walkOf, closed, closeOf};
-use load::Heard;
-use load::Numbers;
+ghost use Rattle.load_hear.specs.Book.{numbersIn, CountersFit, booking};
+ghost use Rattle.load_run.specs.Take.{taken, textTaken, recordTaken, textBooked, recordBooked, blankTaken, TextOf, Taking, Spans};
+ghost use Rattle.load_run.specs.Loaded.{runLoaded, loadedOf, nothingBegun, FromNone, walked, walkOf, closed, closeOf};
 use load::Open;
 use load::Outcome;
 use load::State;
@@ -21,13 +20,10 @@ use load_held::Held;
 use load_tell::Count;
 use store_desk::Desk;
 
-// How far a load is: what is open, what was counted, how memories are numbered, what was heard of the last record, and whether it stopped the
-// load.
+// How far a load is: what is open, what was counted, and whether a record stopped it.
 pub struct Progress {
     pub held: Held,
     pub count: Count,
-    pub numbers: Numbers,
-    pub heard: Heard,
     pub stopped: bool,
 }
 
@@ -65,15 +61,19 @@ fn take_text(
     store: &mut [u8],
     reports: &mut [u64],
     faults: &mut [u32],
+    numbers: &mut [u32],
+    marks: &mut [u8],
+    asked: &mut [u32],
 ) -> Progress
     requires { ⌜ TextOf (now received) (now text) high control ⌝ }
     requires { ⌜ Taking desk done (length (now text)) (now store) ⌝ }
     requires { ⌜ Room (now faults) ⌝ }
-    ensures { λ r. ⌜ taken r (now (store .exit)) (now (reports .exit)) ≡ textTaken desk done (now (received .entry)) (now (text .entry)) high control (now (store .entry)) (now (reports .entry)) ⌝ }
+    requires { ⌜ CountersFit (now numbers) ⌝ }
+    ensures { λ r. ⌜ taken r (now (store .exit)) (now (reports .exit)) ≡ textTaken desk (numbersIn (now (numbers .entry))) done (now (received .entry)) (now (text .entry)) high control (now (store .entry)) (now (reports .entry)) ⌝ }
+    ensures { λ r. ⌜ booking (now (numbers .exit)) (now (marks .exit)) (now (asked .exit)) ≡ textBooked desk done (now (text .entry)) (now (store .entry)) (now (numbers .entry)) (now (marks .entry)) (now (asked .entry)) (r .held .slot) ⌝ }
 {
     let held = done.held;
-    let numbers = done.numbers;
-    let s = load_step::step(desk, held, numbers, text, store, &mut *faults);
+    let s = load_step::step(desk, held, text, store, &mut *faults, numbers, marks, asked);
     let count = done.count;
     let outcome = s.outcome;
     let n = s.faults;
@@ -87,13 +87,9 @@ fn take_text(
         &faults[..n],
     );
     let held = parted(s.held);
-    let heard = load_hear::hear(numbers, text, outcome);
-    let numbers = load_hear::renumbered(numbers, heard);
     Progress {
         held,
         count,
-        numbers,
-        heard,
         stopped: load_tell::stops(outcome),
     }
 }
@@ -109,11 +105,16 @@ fn take_record(
     store: &mut [u8],
     reports: &mut [u64],
     faults: &mut [u32],
+    numbers: &mut [u32],
+    marks: &mut [u8],
+    asked: &mut [u32],
 ) -> Progress
     requires { ⌜ Spans (now stream) at end plain ⌝ }
     requires { ⌜ Taking desk done (end - at) (now store) ⌝ }
     requires { ⌜ Room (now faults) ⌝ }
-    ensures { λ r. ⌜ taken r (now (store .exit)) (now (reports .exit)) ≡ recordTaken desk done (take (end - at) (drop at (now (stream .entry)))) (now (store .entry)) (now (reports .entry)) ⌝ }
+    requires { ⌜ CountersFit (now numbers) ⌝ }
+    ensures { λ r. ⌜ taken r (now (store .exit)) (now (reports .exit)) ≡ recordTaken desk (numbersIn (now (numbers .entry))) done (take (end - at) (drop at (now (stream .entry)))) (now (store .entry)) (now (reports .entry)) ⌝ }
+    ensures { λ r. ⌜ booking (now (numbers .exit)) (now (marks .exit)) (now (asked .exit)) ≡ recordBooked desk done (take (end - at) (drop at (now (stream .entry)))) (now (store .entry)) (now (numbers .entry)) (now (marks .entry)) (now (asked .entry)) (r .held .slot) ⌝ }
 {
     let r = text_records::receive(stream, at, end);
     // Ahead of the test, so that both copies are made of what was just read, and none of what was just stored.
@@ -121,12 +122,9 @@ fn take_record(
     if text_records::over_long(r) {
         let held = done.held;
         let count = done.count;
-        let numbers = done.numbers;
         return Progress {
             held,
             count: load_tell::tell_long(reports, count),
-            numbers,
-            heard: Heard::Other,
             stopped: true,
         };
     }
@@ -149,6 +147,9 @@ fn take_record(
         store,
         reports,
         faults,
+        numbers,
+        marks,
+        asked,
     )
 }
 
@@ -159,12 +160,9 @@ fn take_blank(done: Progress) -> Progress
 {
     let held = done.held;
     let count = done.count;
-    let numbers = done.numbers;
     Progress {
         held,
         count: load_tell::tally(count, Outcome::Blank),
-        numbers,
-        heard: Heard::Other,
         stopped: false,
     }
 }
@@ -172,8 +170,8 @@ fn take_blank(done: Progress) -> Progress
 // ---- the load
 
 // Nothing is open, and nothing was read.
-fn begun(numbers: Numbers) -> Progress
-    ensures { λ r. ⌜ r ≡ begunOf numbers ⌝ }
+fn begun() -> Progress
+    ensures { λ r. ⌜ r ≡ nothingBegun ⌝ }
 {
     let key = store_desk::Key {
         page: 0,
@@ -189,31 +187,29 @@ fn begun(numbers: Numbers) -> Progress
     Progress {
         held,
         count,
-        numbers,
-        heard: Heard::Other,
         stopped: false,
     }
 }
 
-// Every record of a stream in its turn, until one stops the load. In a load with translation CUE records are marked where they are accepted, and
-// what the cue of each slot asked for is noted; in a normal load both lists stay as they are.
+// Every record of a stream in its turn, until one stops the load. In a load with translation what is accepted and every CUE record are counted,
+// CUE records are marked where they are accepted, and what the cue of each slot asked for is noted; in a normal load the three lists stay as they
+// are.
 pub fn walk(
     desk: Desk,
-    numbers: Numbers,
     store: &mut [u8],
     stream: &[u8],
     reports: &mut [u64],
+    numbers: &mut [u32],
     marks: &mut [u8],
     asked: &mut [u32],
 ) -> Progress
     requires { ⌜ Fitting desk (now store) ⌝ }
     requires { ⌜ length (now stream) ≤ mostRecords ⌝ }
-    requires { ⌜ FromNone numbers ⌝ }
-    ensures { λ r. ⌜ walked r (now (store .exit)) (now (reports .exit)) (now (marks .exit)) (now (asked .exit)) ≡ walkOf desk numbers (now (store .entry)) (now (stream .entry)) (now (reports .entry)) (now (marks .entry)) (now (asked .entry)) ⌝ }
+    requires { ⌜ FromNone (now numbers) ⌝ }
+    ensures { λ r. ⌜ walked r (now (store .exit)) (now (reports .exit)) (now (numbers .exit)) (now (marks .exit)) (now (asked .exit)) ≡ walkOf desk (now (store .entry)) (now (stream .entry)) (now (reports .entry)) (now (numbers .entry)) (now (marks .entry)) (now (asked .entry)) ⌝ }
 {
     let mut faults = [0u32; 40];
-    let mut done = begun(numbers);
-    let mut tried = 0;
+    let mut done = begun();
     let mut at = 0;
     while at < stream.len() {
         if text_records::is_end(stream[at]) {
@@ -233,10 +229,10 @@ pub fn walk(
             store,
             reports,
             &mut faults,
+            numbers,
+            marks,
+            asked,
         );
-        let heard = done.heard;
-        let held = done.held;
-        tried = load_hear::note(marks, asked, tried, heard, held.slot);
         if done.stopped {
             return done;
         }
@@ -264,18 +260,13 @@ pub fn run(desk: Desk, store: &mut [u8], stream: &[u8], reports: &mut [u64]) -> 
 {
     let mut marks = [0u8; 1];
     let mut asked = [0u32; 1];
-    let numbers = Numbers {
-        anew: false,
-        cues: 0,
-        groups: 0,
-        subs: 0,
-    };
+    let mut numbers = [0u32; 1];
     let done = walk(
         desk,
-        numbers,
         store,
         stream,
         reports,
+        &mut numbers,
         &mut marks,
         &mut asked,
     );

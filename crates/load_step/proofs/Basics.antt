@@ -200,24 +200,29 @@ module _ (d : Desk) (m : Numbers) (s : State) (k : Keyword) (w : Word) (ws : Lis
   unfolding familyAskIn anewFamilyAsk familyAsk
   family-primary t fs {kind} h z = asked-all d s t fs (family-as h) (primary-all d s t m kind w ws fs z)
 
-  secondary-as : {y : Secondary} → x ≡ Augments y → secondaryAskIn (m .anew) d s y w ws ≡ familyAskIn d m s (familyOf k) w ws
-  unfolding familyAskIn anewFamilyAsk familyAsk
-  secondary-as {y} h =
-      cond-and (m .anew) (asksLink (s .«open») y) (rests Obeyed) (secondaryAsk d (s .key) (s .«open») y w ws) ∙ family-as h
+  module _ {a : Bool} (n : a ≡ m .anew) where
+    secondary-as : {y : Secondary} → x ≡ Augments y → secondaryAskIn a d s y w ws ≡ familyAskIn d m s (familyOf k) w ws
+    unfolding familyAskIn anewFamilyAsk familyAsk
+    secondary-as {y} h =
+        ap (λ (b : Bool). secondaryAskIn b d s y w ws) n
+        ∙ cond-and (m .anew) (asksLink (s .«open») y) (rests Obeyed) (secondaryAsk d (s .key) (s .«open») y w ws)
+        ∙ family-as h
 
-  pub family-basic : {b : Basic} → x ≡ BasicOf b → basicAskIn (m .anew) d b w ws ≡ familyAskIn d m s (familyOf k) w ws
-  unfolding familyAskIn anewFamilyAsk familyAsk
-  family-basic {b} h =
-      cond-and (m .anew) (isClear b) (itemAsk d (itemOf (headOf ws .chars)) w []) (basicAsk d b w ws) ∙ family-as h
+    pub family-basic : {b : Basic} → x ≡ BasicOf b → basicAskIn a d b w ws ≡ familyAskIn d m s (familyOf k) w ws
+    unfolding familyAskIn anewFamilyAsk familyAsk
+    family-basic {b} h =
+        ap (λ (c : Bool). basicAskIn c d b w ws) n
+        ∙ cond-and (m .anew) (isClear b) (itemAsk d (itemOf (headOf ws .chars)) w []) (basicAsk d b w ws)
+        ∙ family-as h
 
 -- a secondary leaves open what was open
-pub family-secondary : (d : Desk) (m : Numbers) (k : Keyword) (w : Word) (ws : List Word) {x : Family} → x ≡ familyOf k → (t fs : List ℕ) {h : Held}
-    → HeldReady d t h → Fitting d t → {y : Secondary} → x ≡ Augments y → {r : Did} {q : Stepped} {u us : List ℕ}
-    → doingAll r u us ≡ didAll (acted d (h .state) t (secondaryAskIn (m .anew) d (h .state) y w ws)) fs → q ≡ withHeld h r
+pub family-secondary : (d : Desk) (m : Numbers) (k : Keyword) (w : Word) (ws : List Word) {x : Family} → x ≡ familyOf k → {a : Bool} → a ≡ m .anew
+    → (t fs : List ℕ) {h : Held} → HeldReady d t h → Fitting d t → {y : Secondary} → x ≡ Augments y → {r : Did} {q : Stepped} {u us : List ℕ}
+    → doingAll r u us ≡ didAll (acted d (h .state) t (secondaryAskIn a d (h .state) y w ws)) fs → q ≡ withHeld h r
     → steppingAll q u us ≡ steppedAll d (acted d (h .state) t (familyAskIn d m (h .state) (familyOf k) w ws)) fs
-family-secondary d m k w ws e t fs {h} g f {y} c z v =
-    asked-all d (h .state) t fs (secondary-as d m (h .state) k w ws e c)
-    (held-with d (acted d (h .state) t (secondaryAskIn (m .anew) d (h .state) y w ws)) fs (secondary-stays d t g f (m .anew) y w ws) z v)
+family-secondary d m k w ws e {a} n t fs {h} g f {y} c z v =
+    asked-all d (h .state) t fs (secondary-as d m (h .state) k w ws e n c)
+    (held-with d (acted d (h .state) t (secondaryAskIn a d (h .state) y w ws)) fs (secondary-stays d t g f a y w ws) z v)
 
 -- ---- a record's first field
 pub step-blank : (d : Desk) (m : Numbers) (s : State) (text : List ℕ) {start : ℕ} → start ≡ startAt text 0 → length text ≤ start
@@ -249,11 +254,16 @@ module _ (text : List ℕ) {start : ℕ} (e : start ≡ startAt text 0) {said : 
       ∙ sym (ap (λ (ws : List Word). fieldsAskIn d m s ws) (words-some text 0 q))
 
 -- and at most forty faults
-pub step-told : (d : Desk) (m : Numbers) (s : State) (t text fs : List ℕ) → length text ≤ longest → {r : Stepped} {u us : List ℕ}
-    → steppingAll r u us ≡ steppedAll d (textStep d m s (wordsOf 0 text) t) fs
-    → (steppingAll r u us ≡ steppedAll d (textStep d m s (wordsOf 0 text) t) fs) × (r .faults ≤ mostFaults)
+step-few : (d : Desk) (m : Numbers) (s : State) (t text fs : List ℕ) → length text ≤ longest → {r : Stepped} {u us : List ℕ}
+    → steppingAll r u us ≡ steppedAll d (textStep d m s (wordsOf 0 text) t) fs → r .faults ≤ mostFaults
 unfolding steppedAll steppedOf
-step-told d m s t text fs h {r} e =
+step-few d m s t text fs h {r} e =
     let a : r .faults ≡ length (textStep d m s (wordsOf 0 text) t .faults) = ap (λ (y : ResAll). y .res .stepped .faults) e in
     let b : length (textStep d m s (wordsOf 0 text) t .faults) ≤ mostFaults = text-in-few d m s text t h in
-    (e, (let z : r .faults ≤ mostFaults = omega arith in z))
+    omega arith
+
+-- all that a step tells
+pub step-told : (d : Desk) (m : Numbers) (s : State) (t text fs : List ℕ) → length text ≤ longest → {r : Stepped} {u us : List ℕ} {Noted : Type 0}
+    → steppingAll r u us ≡ steppedAll d (textStep d m s (wordsOf 0 text) t) fs → Noted
+    → (steppingAll r u us ≡ steppedAll d (textStep d m s (wordsOf 0 text) t) fs) × ((r .faults ≤ mostFaults) × Noted)
+step-told d m s t text fs h e n = (e, (step-few d m s t text fs h e, n))

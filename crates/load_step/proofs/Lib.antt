@@ -1,4 +1,5 @@
 pub mod Primaries
 pub mod Secondaries
 pub mod Basics
+pub mod Booked
 pub mod Laws

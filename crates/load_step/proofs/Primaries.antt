@@ -1,5 +1,5 @@
--- A primary in either load: its memory started at a seat, no room; refused, not supported; what was open plays no part. By cases on the seat
--- and the name.
+-- A primary in either load: its name; its memory started at a seat, no room; refused, not supported; what was open plays no part. By cases on the
+-- seat and the name.
 -- Assumes nothing.
 use mathlib.Core.Path.{_≡_, refl, sym, ap, _∙_, subst}
 use mathlib.Core.Bool.{Bool, true, false, cond}
@@ -32,7 +32,7 @@ use Rattle.load.specs.Condition.{fullOf, unsupportedOf}
 use Rattle.load.specs.Item.{blame, blameNone}
 use Rattle.load.specs.Ask.{Ask, skips, opens, name, namedOf, namedAsk, primaryAsk}
 use Rattle.load.specs.Anew.{nextNamed, anewPrimaryAsk}
-use Rattle.load.specs.Fits.{namedIn, primaryAskIn}
+use Rattle.load.specs.Fits.{NumbersFit, namedIn, primaryAskIn}
 use Rattle.load.specs.Step.{Step, ended, nothingOpen, skipping, opened, slotBy, openedBy, acted}
 use Rattle.load.proofs.Read.{NamedOk, accepted-ok}
 use Rattle.load.proofs.Anew.{next-named-ok}
@@ -42,6 +42,7 @@ use Rattle.load_held.specs.declared.Stepped.{Stepped}
 use Rattle.load_held.specs.Held.{heldOf, stepping, steppedOf, steppingAll, steppedAll}
 use Rattle.load_held.specs.Parts.{resting, endedAs}
 use Rattle.load_held.proofs.Answers.{ended-as, step-all, skips-as}
+use Rattle.load_hear.specs.Book.{isAnew, numbersIn, CountersFit}
 
 -- ---- an accepted one
 module _ (d : Desk) (k : Kind) (key : Key) (t : List ℕ) {p : Place} {u : List ℕ} (s : startedAs p u ≡ startOf d t (name k key)) where
@@ -79,6 +80,19 @@ module _ (d : Desk) (k : Kind) (key : Key) (t : List ℕ) {p : Place} {u : List 
       ∙ skips-as d nothingOpen t (Dropped f) e
       ∙ ap (λ (x : Fault). steppedOf d (ended skipping (Dropped x) t)) (b ∙ ap (λ (x : ℕ). blameNone x) g)
       ∙ ap (λ (x : Step). steppedOf d x) (opened-by a)
+
+-- ---- the name, in either load
+pub counters-fit : {l : List ℕ} {n : Numbers} → n ≡ numbersIn l → CountersFit l → NumbersFit n
+counters-fit e f = subst (λ (x : Numbers). NumbersFit x) (sym e) (f .numbers)
+
+module _ (d : Desk) (l : List ℕ) (k : Kind) (ws : List Word) {b : Bool} (a : b ≡ isAnew l) {r : Named} where
+  pub name-anew : b ≡ true → {n : Numbers} → n ≡ numbersIn l → r ≡ nextNamed d n k ws → r ≡ namedIn d (numbersIn l) k ws
+  unfolding numbersIn
+  name-anew t e z = z ∙ ap (λ (x : Numbers). nextNamed d x k ws) e ∙ sym (cond-true (isAnew l) _ _ (sym a ∙ t))
+
+  pub name-given : b ≡ false → r ≡ namedOf d k ws → r ≡ namedIn d (numbersIn l) k ws
+  unfolding numbersIn
+  name-given f z = z ∙ sym (cond-false (isAnew l) _ _ (sym a ∙ f))
 
 -- ---- support, then the name, in either load
 module _ (d : Desk) (m : Numbers) (k : Kind) (w : Word) (ws : List Word) where

@@ -8,8 +8,9 @@ ghost use Rattle.text_fields.specs.Places.{wordsFrom};
 ghost use Rattle.value.specs.Field.{versionOf};
 ghost use Rattle.store_code.specs.Fits.{Fitting};
 ghost use Rattle.load.specs.Ask.{name, opens, changeAsk, obeyedAsk, secondaryAsk, patchAsk, identOutcome, familyOf};
-ghost use Rattle.load.specs.Anew.{asksLink, familyAskIn};
-ghost use Rattle.load.specs.Fits.{NumbersFit, namedIn, primaryAskIn, secondaryAskIn, basicAskIn, textStep};
+ghost use Rattle.load.specs.Anew.{asksLink, familyAskIn, familyHeard, fieldsHeard};
+ghost use Rattle.load.specs.Fits.{namedIn, primaryAskIn, secondaryAskIn, basicAskIn, textStep};
+ghost use Rattle.load.specs.Translated.{askedAt};
 ghost use Rattle.load.specs.Condition.{identMismatch};
 ghost use Rattle.load.specs.Item.{blame};
 ghost use Rattle.load.specs.Step.{nothingOpen, acted};
@@ -17,12 +18,12 @@ ghost use Rattle.load_naming.specs.Line.{Line};
 ghost use Rattle.load_items.specs.Done.{mostFaults};
 ghost use Rattle.load_held.specs.Held.{HeldReady, Stepping, Room, stepping, steppedOf, steppingAll, steppedAll};
 ghost use Rattle.load_held.specs.Parts.{openName, IsOpen, keywordIn, resting as restingAs, endedAs, doing, doingAll, didOf, didAll};
+ghost use Rattle.load_hear.specs.Book.{isAnew, numbersIn, CountersFit, booking, heardBy, bookedAt};
 ghost use Rattle.load_step.specs.Parts.{hasItems, ReadingFits};
 use load::Basic;
 use load::Family;
 use load::Fault;
 use load::Named;
-use load::Numbers;
 use load::Open;
 use load::Outcome;
 use load::Reading;
@@ -82,14 +83,14 @@ fn opened(desk: Desk, kind: Kind, key: Key, store: &mut [u8]) -> Stepped
 }
 
 // A primary's name: as its fields have it, or the next one.
-fn name_in(desk: Desk, numbers: Numbers, kind: Kind, text: &[u8], at: usize) -> Named
+fn name_in(desk: Desk, numbers: &[u32], kind: Kind, text: &[u8], at: usize) -> Named
     requires { ⌜ supported desk kind ≡ true ⌝ }
-    requires { ⌜ NumbersFit numbers ⌝ }
+    requires { ⌜ CountersFit (now numbers) ⌝ }
     requires { ⌜ Line (now text) at ⌝ }
-    ensures { λ r. ⌜ r ≡ namedIn desk numbers kind (wordsFrom (now (text .entry)) at) ⌝ }
+    ensures { λ r. ⌜ r ≡ namedIn desk (numbersIn (now (numbers .entry))) kind (wordsFrom (now (text .entry)) at) ⌝ }
 {
-    if numbers.anew {
-        return load_naming::next_name(desk, numbers, kind, text, at);
+    if load_hear::is_anew(numbers) {
+        return load_naming::next_name(desk, load_hear::numbers_in(numbers), kind, text, at);
     }
     load_naming::name_at(desk, kind, text, at)
 }
@@ -97,16 +98,16 @@ fn name_in(desk: Desk, numbers: Numbers, kind: Kind, text: &[u8], at: usize) -> 
 // Support, then number, page, room.
 fn primary(
     desk: Desk,
-    numbers: Numbers,
+    numbers: &[u32],
     kind: Kind,
     text: &[u8],
     at: usize,
     store: &mut [u8],
 ) -> Stepped
     requires { ⌜ Fitting desk (now store) ⌝ }
-    requires { ⌜ NumbersFit numbers ⌝ }
+    requires { ⌜ CountersFit (now numbers) ⌝ }
     requires { ⌜ Line (now text) at ⌝ }
-    ensures { λ r. ⌜ stepping r (now (store .exit)) ≡ steppedOf desk (acted desk nothingOpen (now (store .entry)) (primaryAskIn desk numbers kind (keywordIn (now (text .entry))) (wordsFrom (now (text .entry)) at))) ⌝ }
+    ensures { λ r. ⌜ stepping r (now (store .exit)) ≡ steppedOf desk (acted desk nothingOpen (now (store .entry)) (primaryAskIn desk (numbersIn (now (numbers .entry))) kind (keywordIn (now (text .entry))) (wordsFrom (now (text .entry)) at))) ⌝ }
 {
     if store_desk::supports(desk, kind) {
         match name_in(desk, numbers, kind, text, at) {
@@ -240,20 +241,23 @@ fn asks_link(held: Held, anew: bool, e: Secondary) -> bool
 fn augmented(
     desk: Desk,
     held: Held,
-    anew: bool,
     e: Secondary,
     text: &[u8],
     at: usize,
     store: &mut [u8],
     faults: &mut [u32],
+    numbers: &[u32],
+    asked: &mut [u32],
 ) -> Did
     requires { ⌜ Fitting desk (now store) ⌝ }
     requires { ⌜ Line (now text) at ⌝ }
     requires { ⌜ HeldReady desk (now store) held ⌝ }
     requires { ⌜ Room (now faults) ⌝ }
-    ensures { λ r. ⌜ doingAll r (now (store .exit)) (now (faults .exit)) ≡ didAll (acted desk (held .state) (now (store .entry)) (secondaryAskIn anew desk (held .state) e (keywordIn (now (text .entry))) (wordsFrom (now (text .entry)) at))) (now (faults .entry)) ⌝ }
+    ensures { λ r. ⌜ doingAll r (now (store .exit)) (now (faults .exit)) ≡ didAll (acted desk (held .state) (now (store .entry)) (secondaryAskIn (isAnew (now (numbers .entry))) desk (held .state) e (keywordIn (now (text .entry))) (wordsFrom (now (text .entry)) at))) (now (faults .entry)) ⌝ }
+    ensures { λ r. ⌜ now (asked .exit) ≡ askedAt (now (asked .entry)) (held .slot) (heardBy (now (numbers .entry)) (familyHeard (Family.Augments e) (wordsFrom (now (text .entry)) at) (r .outcome))) ⌝ }
 {
-    if asks_link(held, anew, e) {
+    if asks_link(held, load_hear::is_anew(numbers), e) {
+        load_hear::ask(asked, held.slot, load_naming::borne_at(text, at) + 1);
         return answered(Outcome::Obeyed);
     }
     secondary(desk, held, e, text, at, store, faults)
@@ -337,27 +341,39 @@ fn obey_basic(
 fn obey(
     desk: Desk,
     held: Held,
-    numbers: Numbers,
     k: Keyword,
     text: &[u8],
     at: usize,
     store: &mut [u8],
     faults: &mut [u32],
+    numbers: &mut [u32],
+    marks: &mut [u8],
+    asked: &mut [u32],
 ) -> Stepped
     requires { ⌜ Fitting desk (now store) ⌝ }
-    requires { ⌜ NumbersFit numbers ⌝ }
+    requires { ⌜ CountersFit (now numbers) ⌝ }
     requires { ⌜ Line (now text) at ⌝ }
     requires { ⌜ HeldReady desk (now store) held ⌝ }
     requires { ⌜ Room (now faults) ⌝ }
-    ensures { λ r. ⌜ steppingAll r (now (store .exit)) (now (faults .exit)) ≡ steppedAll desk (acted desk (held .state) (now (store .entry)) (familyAskIn desk numbers (held .state) (familyOf k) (keywordIn (now (text .entry))) (wordsFrom (now (text .entry)) at))) (now (faults .entry)) ⌝ }
+    ensures { λ r. ⌜ steppingAll r (now (store .exit)) (now (faults .exit)) ≡ steppedAll desk (acted desk (held .state) (now (store .entry)) (familyAskIn desk (numbersIn (now (numbers .entry))) (held .state) (familyOf k) (keywordIn (now (text .entry))) (wordsFrom (now (text .entry)) at))) (now (faults .entry)) ⌝ }
+    ensures { λ r. ⌜ booking (now (numbers .exit)) (now (marks .exit)) (now (asked .exit)) ≡ bookedAt (now (numbers .entry)) (now (marks .entry)) (now (asked .entry)) (heardBy (now (numbers .entry)) (familyHeard (familyOf k) (wordsFrom (now (text .entry)) at) (r .outcome))) (r .held .slot) ⌝ }
 {
     match load_naming::family_of(k) {
-        Family::Primary(kind) => primary(desk, numbers, kind, text, at, store),
+        Family::Primary(kind) => {
+            let s = primary(desk, numbers, kind, text, at, store);
+            let held = s.held;
+            let outcome = s.outcome;
+            load_hear::note_primary(numbers, marks, asked, kind, outcome, held.slot);
+            s
+        }
         Family::Augments(e) => {
-            let did = augmented(desk, held, numbers.anew, e, text, at, store, faults);
+            let did = augmented(desk, held, e, text, at, store, faults, numbers, asked);
             with_held(held, did)
         }
-        Family::Basic(b) => obey_basic(desk, held, numbers.anew, b, text, at, store, faults),
+        Family::Basic(b) => {
+            let anew = load_hear::is_anew(numbers);
+            obey_basic(desk, held, anew, b, text, at, store, faults)
+        }
     }
 }
 
@@ -365,22 +381,36 @@ fn obey(
 pub fn step(
     desk: Desk,
     held: Held,
-    numbers: Numbers,
     text: &[u8],
     store: &mut [u8],
     faults: &mut [u32],
+    numbers: &mut [u32],
+    marks: &mut [u8],
+    asked: &mut [u32],
 ) -> Stepped
     requires { ⌜ Stepping desk held (now text) (now store) ⌝ }
-    requires { ⌜ NumbersFit numbers ⌝ }
+    requires { ⌜ CountersFit (now numbers) ⌝ }
     requires { ⌜ Room (now faults) ⌝ }
-    ensures { λ r. ⌜ steppingAll r (now (store .exit)) (now (faults .exit)) ≡ steppedAll desk (textStep desk numbers (held .state) (wordsOf 0 (now (text .entry))) (now (store .entry))) (now (faults .entry)) ⌝ }
+    ensures { λ r. ⌜ steppingAll r (now (store .exit)) (now (faults .exit)) ≡ steppedAll desk (textStep desk (numbersIn (now (numbers .entry))) (held .state) (wordsOf 0 (now (text .entry))) (now (store .entry))) (now (faults .entry)) ⌝ }
     ensures { λ r. ⌜ r .faults ≤ mostFaults ⌝ }
+    ensures { λ r. ⌜ booking (now (numbers .exit)) (now (marks .exit)) (now (asked .exit)) ≡ bookedAt (now (numbers .entry)) (now (marks .entry)) (now (asked .entry)) (heardBy (now (numbers .entry)) (fieldsHeard (wordsOf 0 (now (text .entry))) (r .outcome))) (r .held .slot) ⌝ }
 {
     let start = text_fields::field_start(text, 0);
     if start < text.len() {
         let said = text_fields::keyword_at(text, start);
         let k = said.keyword;
-        return obey(desk, held, numbers, k, text, said.end, store, faults);
+        return obey(
+            desk,
+            held,
+            k,
+            text,
+            said.end,
+            store,
+            faults,
+            numbers,
+            marks,
+            asked,
+        );
     }
     ended(held, Outcome::Blank)
 }

@@ -9,7 +9,7 @@ use Prim.Native.Nat.{ℕ, zero, suc, _+_, _-_, _*_, _/_, _%_, _≤_, _<_, zero-l
 use native.Mathlib.Nat.{le-refl, not-suc-le-zero}
 use native.Mathlib.Omega.{arith}
 use lib.Dec.{eqb, leb}
-use lib.ListN.{length, getD, set, take, drop, replicate, length-take, length-drop, length-map, length-set, length-replicate, getD-replicate}
+use lib.ListN.{length, getD, set, take, drop, replicate, length-take, length-drop, length-map, length-set, length-replicate}
 use lib.ListN.{List·getD-eq-default}
 use lib.Seq.{getD-drop, getD-set-same, getD-set-other}
 use borrow.Author.Tests.{leb-true, not-false}
@@ -42,6 +42,7 @@ use Rattle.load.specs.Run.{stops}
 use Rattle.load.specs.Translated.{Note, anewFromOne, stepIn, numbersAfter, notesIn, isAcceptedCue, borneIn, bornes}
 use Rattle.load_hear.specs.Marks.{bitOf, withBit, marked, isMarked, markedAt, triedAt, marksBy}
 use Rattle.load_hear.proofs.Bits.{no-bit}
+use Rattle.load_run.proofs.Closing.{zero-at}
 use Rattle.load_translate.specs.declared.Bearing.{Bearing}
 use Rattle.load_translate.specs.declared.Bearing.the-variants.{Other as Bare, Cue as Bears}
 use Rattle.load_translate.specs.Bearing.{familyBearing, fieldsBearing, bearingIn, onBearing, markedBornes}
@@ -101,11 +102,6 @@ mark-other ms n k h =
     (λ e. ap (λ (c : ℕ). eqb (bitOf (k % 8) c) 1) (getD-set-other ms (n / 8) (k / 8) (withBit (n % 8) (getD ms (n / 8) 0)) 0 e))
 
 -- of zeros none is set
-zero-at : (n i : ℕ) → _≡_ {A = ℕ} (getD (replicate n 0) i 0) 0
-zero-at n i =
-    by-lt i n (λ h. getD-replicate n i 0 0 h)
-    (λ h. List·getD-eq-default (replicate n 0) 0 (subst (λ (k : ℕ). k ≤ i) (sym (length-replicate n 0)) h))
-
 none-marked : (n k : ℕ) → isMarked (replicate n 0) k ≡ false
 unfolding isMarked
 none-marked n k =

@@ -22,6 +22,7 @@ use Rattle.load.specs.Translated.{anewFromOne, Note, runIn, notesIn, mostCues, 
 use Rattle.load.proofs.Counts.{run-in-records, run-in-reports}
 use Rattle.load.proofs.Anew.{notes-count}
 use Rattle.load_hear.specs.Marks.{marksBy}
+use Rattle.load_hear.specs.Book.{isAnew, numbersIn, countsBy}
 use Rattle.load_tell.specs.declared.Count.{Count}
 use Rattle.load_tell.specs.Count.{countOf, Told, told, Reportable}
 use Rattle.load_tell.proofs.Counting.{after, count-reportable}
@@ -93,18 +94,19 @@ module _ (d : Desk) (t₀ stream reps₀ : List ℕ) (long : length stream ≤ m
       let b : length (flatten (recordsOf stream)) ≤ length stream = characters-few stream in
       omega arith
 
-  module _ (p : Progress) {t reps ms qs : List ℕ}
-      (e : walked p t reps ms qs ≡ walkOf d anewFromOne t₀ stream reps₀ (replicate 8192 0) (replicate mostCues 0)) where
-    walk-is : walked p t reps ms qs
+  module _ (p : Progress) {t reps l ms qs : List ℕ}
+      (e : walked p t reps l ms qs ≡ walkOf d t₀ stream reps₀ (replicate 4 0) (replicate 8192 0) (replicate mostCues 0)) where
+    walk-is : walked p t reps l ms qs
         ≡ record {
           count = countOf (run .outcomes) (run .reports);
           stopped = run .stopped;
           store = run .store;
           reports = storedIn reps₀ (run .reports);
+          numbers = countsBy (replicate 4 0) notes;
           marks = marksBy (replicate 8192 0) 0 notes;
           asked = askedBy (replicate mostCues 0) notes;
         }
-    unfolding walkOf walkedBy
+    unfolding walkOf walkedBy numbersIn isAnew
     walk-is = e
 
     walked-records : p .count .records ≡ length (run .outcomes)

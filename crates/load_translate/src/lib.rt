@@ -22,10 +22,8 @@ ghost use Rattle.load_run.specs.Loaded.{runLoaded, loadedOf};
 ghost use Rattle.load_translate.specs.Bearing.{familyBearing, fieldsBearing, bearingIn, Bearable, markedBornes, bearerNow, metFrom, foundBy, meeting, metBy, Countable, soughtBy};
 ghost use Rattle.load_translate.specs.Links.{linking, linkOn, linksOn, linkedBy, anyAsked, Losing};
 use load::Family;
-use load::Numbers;
 use load::Totals;
 use load_tell::Count;
-use store::Edit;
 use store_desk::Desk;
 use store_desk::Kind;
 
@@ -212,7 +210,7 @@ fn link_slot(
         return load_tell::report(reports, count, BAD_NUMBER, 0);
     }
     let key = load_naming::next_key(desk, Kind::Cue, bearer - 1);
-    store_code::edit(desk, store, slot, Edit::Link(key.whole, 0));
+    store_code::set_link(desk, store, slot, key.whole, 0);
     count
 }
 
@@ -282,18 +280,13 @@ pub fn run(desk: Desk, store: &mut [u8], stream: &[u8], reports: &mut [u64]) -> 
 {
     let mut marks = [0u8; 8192];
     let mut asked = [0u32; 600];
-    let numbers = Numbers {
-        anew: true,
-        cues: 0,
-        groups: 0,
-        subs: 0,
-    };
+    let mut numbers = [0u32; 4];
     let done = load_run::walk(
         desk,
-        numbers,
         store,
         stream,
         reports,
+        &mut numbers,
         &mut marks,
         &mut asked,
     );

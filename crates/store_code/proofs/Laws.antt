@@ -29,7 +29,7 @@ use Rattle.store_head.specs.Layout.{encodeHead, decodeHead, encodePatch, decode
 use Rattle.store_head.specs.Fits.{HeadFits}
 use Rattle.store_head.proofs.Laws.{length-encode, decode-fits, length-encode-patch}
 use Rattle.store.specs.declared.Edit.{Edit}
-use Rattle.store.specs.declared.Edit.the-variants.{Level}
+use Rattle.store.specs.declared.Edit.the-variants.{Link, Level}
 use Rattle.store.specs.Slots.{slotAt, putSlot, entryAt, putEntry, levelsAt, levelPlace}
 use Rattle.store.specs.Change.{blankHead, blankSlot, editHead, withHead, editSlot, editAt, hitsAt, clearFrom, patchPageLength, clearedPatch, patchEntry, patched, cleared}
 use Rattle.store.specs.Fits.{EditFits}
@@ -50,6 +50,10 @@ module _ (d : Desk) (i : ℕ) (h : i < slotsOf d) where
 
   pub slot-room : {s : List ℕ} → Fitting d s → i * slotLength d + slotLength d ≤ length s
   slot-room f = let a = slot-end d i h in let b = slots-end d in let c = f .long in omega arith
+
+-- where one has room, each before it has
+pub slot-before : (d : Desk) {i j n : ℕ} → i ≤ j → j * slotLength d + slotLength d ≤ n → i * slotLength d + slotLength d ≤ n
+slot-before d {i} {j} h r = let l : i * slotLength d ≤ j * slotLength d = products (slotLength d) h in omega arith
 
 pub slot-long : (d : Desk) → 24 ≤ slotLength d
 unfolding slotLength
@@ -165,6 +169,10 @@ change-fits d e x f l = let g = slot-long d in (edit-fits e (decodeHead x) (deco
 -- the slot after it, by the arms
 pub edit-by : (d : Desk) (xs : List ℕ) {x v : Edit} {t : List ℕ} → x ≡ v → ((y : List ℕ) → withHead v y ≡ editSlot d v y) → t ≡ withHead x xs → t ≡ editSlot d x xs
 edit-by d xs {x} {v} {t} e f r = r ∙ subst (λ (z : Edit). withHead z xs ≡ editSlot d z xs) (sym e) (f xs)
+
+pub edit-link : (d : Desk) (xs : List ℕ) (w f : ℕ) {t : List ℕ} → t ≡ withHead (Link w f) xs → t ≡ editSlot d (Link w f) xs
+unfolding editSlot
+edit-link d xs w f r = r
 
 pub edit-level : (d : Desk) (xs : List ℕ) {x v : Edit} {t : List ℕ} → x ≡ v → t ≡ editSlot d v xs → t ≡ editSlot d x xs
 edit-level d xs {x} {v} {t} e r = r ∙ ap (λ (z : Edit). editSlot d z xs) (sym e)

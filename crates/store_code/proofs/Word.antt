@@ -13,7 +13,7 @@ use Rattle.cells.proofs.Put.{tail-is}
 use lib.Dec.{leb, ltb, eqb}
 use borrow.Author.Tests.{eqb-true, eq-eqb, ne-eqb, leb-true, le-leb, ltb-true, lt-ltb, le-ltb}
 use Rattle.cells.specs.Search.{Found, at, firstFrom}
-use Rattle.cells.proofs.Search.{first-same, search-hit, search-miss}
+use Rattle.cells.proofs.Search.{first-nowhere, first-same, first-skip, first-front, search-hit, search-miss}
 use Rattle.cells.proofs.Split.{by-bool, by-lt, same-test, and-true, and-left, and-right, or-true-left, or-true-right, by-or, not-of-true, not-of-false}
 use Rattle.store_desk.specs.declared.Desk.{Desk}
 use Rattle.store_desk.specs.declared.Key.{Key}
@@ -24,13 +24,16 @@ use Rattle.store_desk.proofs.Name.{eq-key, eq-key-true, kind-end}
 use Rattle.store_head.specs.Pack.{Bytes}
 use Rattle.store_head.specs.Fits.{usedWord, pageWord, wholeWord, wordOf, quickOf}
 use Rattle.store_head.proofs.Laws.{word-sum}
-use Rattle.store.specs.Slots.{slotAt, headAt, keyOf, isUsed, holdsAt, find}
+use Rattle.store.specs.declared.Place.{Place}
+use Rattle.store.specs.declared.Place.the-variants.{At, Nowhere}
+use Rattle.store.specs.Slots.{slotAt, headAt, keyOf, isUsed, holdsAt, find, placeOf}
 use Rattle.store.specs.Change.{onPage, hitsAt, lowestUnused}
 use Rattle.store_code.specs.Fits.{Fitting}
 use Rattle.store.specs.Order.{slotWord}
 use Rattle.store.proofs.Find.{head-fits}
 use Rattle.store.proofs.Ordered.{word-is}
-use Rattle.store_code.specs.Answer.{nameOf}
+use Rattle.store_code.specs.Answer.{nameOf, isWord}
+use Rattle.store_code.proofs.Found.{place-at, place-nowhere}
 
 module _ (d : Desk) (s : List ℕ) (i : ℕ) (f : Fitting d s) (h : i < slotsOf d) (b : Bytes s) where
   sum-at : {w : ℕ} → w ≡ slotWord d s i
@@ -143,45 +146,6 @@ module _ (d : Desk) (s : List ℕ) (i : ℕ) (f : Fitting d s) (h : i < slotsOf 
         let m : p ≡ headAt d s i .page = on-page (and-right (isUsed (headAt d s i)) (onPage p (headAt d s i .page)) t) in
         lt-ltb w _ (omega (arith, l .whole, l .fraction)))
 
--- ---- the searches, as the code makes them
-abbrev pub isWord : Desk → List ℕ → ℕ → ℕ → Bool
-isWord d s w i = eqb (slotWord d s i) w
-
-abbrev pub isBelow : Desk → List ℕ → ℕ → ℕ → Bool
-isBelow d s w i = ltb (slotWord d s i) w
-
-module _ (d : Desk) (s : List ℕ) (k : Kind) (f : Fitting d s) (b : Bytes s) {first count : ℕ} (ef : first ≡ firstSlot d k) (ec : count ≡ slotCount d k) where
-  of-kind : (p q : ℕ → Bool) → ((i : ℕ) → i < slotsOf d → p i ≡ q i)
-      → firstFrom p (first + count - first) first ≡ firstFrom q (slotCount d k) (firstSlot d k)
-  of-kind p q g =
-      let m : first + count - first ≡ slotCount d k = omega arith in
-      ap (λ (z : ℕ). firstFrom p z first) m
-      ∙ ap (λ (z : ℕ). firstFrom p (slotCount d k) z) ef
-      ∙ first-same p q (slotCount d k) (firstSlot d k) (λ i h l. g i (let e = kind-end d k in omega arith))
-
-  pub find-words : (key : Key) → KeyFits key → (wanted : ℕ) → wanted ≡ wordOf 1 (key .page) (key .whole) (key .fraction)
-      → firstFrom (isWord d s wanted) (first + count - first) first ≡ find d s (nameOf k key)
-  unfolding find
-  find-words key kf wanted q = of-kind (isWord d s wanted) (holdsAt d s key) (λ i h. word-test d s i f h b key kf refl q)
-
-  pub unused-words : firstFrom (isBelow d s usedWord) (first + count - first) first ≡ lowestUnused d s k
-  unfolding lowestUnused
-  unused-words = of-kind (isBelow d s usedWord) (λ i. not (isUsed (headAt d s i))) (λ i h. unused-test d s i f h b refl)
-
--- one turn of either
-module _ (d : Desk) (s : List ℕ) {w x e i : ℕ} {a : Found} (h : i < e) (q : x ≡ slotWord d s i) where
-  pub word-hit : x ≡ w → firstFrom (isWord d s w) (e - i) i ≡ a → at i ≡ a
-  word-hit t g = search-hit (isWord d s w) e i h (ap (λ (z : ℕ). eqb z w) q) (eq-eqb x w t) g
-
-  pub word-miss : (x ≡ w → ⊥) → firstFrom (isWord d s w) (e - i) i ≡ a → firstFrom (isWord d s w) (e - (i + 1)) (i + 1) ≡ a
-  word-miss t g = search-miss (isWord d s w) e i h (ap (λ (z : ℕ). eqb z w) q) (ne-eqb x w t) g
-
-  pub below-hit : x < w → firstFrom (isBelow d s w) (e - i) i ≡ a → at i ≡ a
-  below-hit t g = search-hit (isBelow d s w) e i h (ap (λ (z : ℕ). ltb z w) q) (lt-ltb x w t) g
-
-  pub below-miss : w ≤ x → firstFrom (isBelow d s w) (e - i) i ≡ a → firstFrom (isBelow d s w) (e - (i + 1)) (i + 1) ≡ a
-  below-miss t g = search-miss (isBelow d s w) e i h (ap (λ (z : ℕ). ltb z w) q) (le-ltb x w t) g
-
 -- ---- slots that lie by themselves: those of the store from one on
 module _ (d : Desk) (s : List ℕ) {first from i : ℕ} (e : from ≡ first * slotLength d) (h : first ≤ i) where
   part-at : from + (i - first) * slotLength d ≡ i * slotLength d
@@ -189,10 +153,10 @@ module _ (d : Desk) (s : List ℕ) {first from i : ℕ} (e : from ≡ first * sl
       let b : first + (i - first) ≡ i = omega arith in
       ap (λ (k : ℕ). k + (i - first) * slotLength d) e ∙ sym (add-mul first (i - first) (slotLength d)) ∙ ap (λ (k : ℕ). k * slotLength d) b
 
-  pub part-word : {x : ℕ} → x ≡ slotWord d (take (length s - from) (drop from s)) (i - first) → x ≡ slotWord d s i
+  part-word : slotWord d (take (length s - from) (drop from s)) (i - first) ≡ slotWord d s i
   unfolding slotWord slotAt
-  part-word q =
-      q ∙ ap (λ (z : List ℕ). quickOf (take (slotLength d) (drop ((i - first) * slotLength d) z))) (tail-is s from)
+  part-word =
+      ap (λ (z : List ℕ). quickOf (take (slotLength d) (drop ((i - first) * slotLength d) z))) (tail-is s from)
       ∙ ap (λ (z : List ℕ). quickOf (take (slotLength d) z)) (drop-drop ((i - first) * slotLength d) from s)
       ∙ ap (λ (k : ℕ). quickOf (take (slotLength d) (drop k s))) part-at
 
@@ -201,3 +165,56 @@ module _ (d : Desk) (s : List ℕ) {first from i : ℕ} (e : from ≡ first * sl
       let a : length (take (length s - from) (drop from s)) ≡ length s - from = ap length (tail-is s from) ∙ length-drop from s in
       let p : from + (i - first) * slotLength d ≡ i * slotLength d = part-at in
       omega arith
+
+-- ---- the searches, as the code makes them
+abbrev pub isBelow : Desk → List ℕ → ℕ → ℕ → Bool
+isBelow d s w i = ltb (slotWord d s i) w
+
+module _ (d : Desk) (s : List ℕ) (k : Kind) (f : Fitting d s) (b : Bytes s) {first count : ℕ} (ef : first ≡ firstSlot d k) (ec : count ≡ slotCount d k) where
+  of-kind : (p q : ℕ → Bool) → ((i : ℕ) → first ≤ i → i < slotsOf d → p i ≡ q i)
+      → firstFrom p (first + count - first) first ≡ firstFrom q (slotCount d k) (firstSlot d k)
+  of-kind p q g =
+      let m : first + count - first ≡ slotCount d k = omega arith in
+      ap (λ (z : ℕ). firstFrom p z first) m
+      ∙ first-same p q (slotCount d k) first (λ i h l. g i h (let e = kind-end d k in omega arith))
+      ∙ ap (λ (z : ℕ). firstFrom q (slotCount d k) z) ef
+
+  pub find-words : (key : Key) → KeyFits key → (wanted : ℕ) → wanted ≡ wordOf 1 (key .page) (key .whole) (key .fraction) → {from : ℕ} → from ≡ first * slotLength d
+      → firstFrom (isWord d (take (length s - from) (drop from s)) first wanted) (first + count - first) first ≡ find d s (nameOf k key)
+  unfolding find
+  find-words key kf wanted q {from} e =
+      of-kind (isWord d (take (length s - from) (drop from s)) first wanted) (holdsAt d s key) (λ i l h. word-test d s i f h b key kf (part-word d s e l) q)
+
+  pub unused-words : firstFrom (isBelow d s usedWord) (first + count - first) first ≡ lowestUnused d s k
+  unfolding lowestUnused
+  unused-words = of-kind (isBelow d s usedWord) (λ i. not (isUsed (headAt d s i))) (λ i l h. unused-test d s i f h b refl)
+
+-- one turn of the look-up
+module _ (d : Desk) (s : List ℕ) (first : ℕ) {w x e i : ℕ} {a : Found} (h : i < e) (q : x ≡ slotWord d s (i - first)) where
+  pub word-hit : x ≡ w → firstFrom (isWord d s first w) (e - i) i ≡ a → at i ≡ a
+  word-hit t g = search-hit (isWord d s first w) e i h (ap (λ (z : ℕ). eqb z w) q) (eq-eqb x w t) g
+
+  pub word-miss : (x ≡ w → ⊥) → firstFrom (isWord d s first w) (e - i) i ≡ a → firstFrom (isWord d s first w) (e - (i + 1)) (i + 1) ≡ a
+  word-miss t g = search-miss (isWord d s first w) e i h (ap (λ (z : ℕ). eqb z w) q) (ne-eqb x w t) g
+
+-- and one of four slots
+module _ (d : Desk) (s : List ℕ) (first w e i : ℕ) {r : Place} (h : i + 4 ≤ e) (q : r ≡ placeOf (firstFrom (isWord d s first w) 4 i)) where
+  past-four : e - i ≡ 4 + (e - (i + 4))
+  past-four = omega arith
+
+  pub four-hit : {j : ℕ} {a : Found} → r ≡ At j → firstFrom (isWord d s first w) (e - i) i ≡ a → at j ≡ a
+  four-hit {j} t g =
+      sym (first-front (isWord d s first w) 4 (e - (i + 4)) i j (place-at q t)) ∙ ap (λ (z : ℕ). firstFrom (isWord d s first w) z i) (sym past-four) ∙ g
+
+  pub four-miss : {a : Found} → r ≡ Nowhere → firstFrom (isWord d s first w) (e - i) i ≡ a → firstFrom (isWord d s first w) (e - (i + 4)) (i + 4) ≡ a
+  four-miss t g =
+      sym (first-skip (isWord d s first w) 4 (e - (i + 4)) i (first-nowhere (isWord d s first w) 4 i (place-nowhere q t)))
+      ∙ ap (λ (z : ℕ). firstFrom (isWord d s first w) z i) (sym past-four) ∙ g
+
+-- one turn of the look for an unused slot
+module _ (d : Desk) (s : List ℕ) {w x e i : ℕ} {a : Found} (h : i < e) (q : x ≡ slotWord d s i) where
+  pub below-hit : x < w → firstFrom (isBelow d s w) (e - i) i ≡ a → at i ≡ a
+  below-hit t g = search-hit (isBelow d s w) e i h (ap (λ (z : ℕ). ltb z w) q) (lt-ltb x w t) g
+
+  pub below-miss : w ≤ x → firstFrom (isBelow d s w) (e - i) i ≡ a → firstFrom (isBelow d s w) (e - (i + 1)) (i + 1) ≡ a
+  below-miss t g = search-miss (isBelow d s w) e i h (ap (λ (z : ℕ). ltb z w) q) (le-ltb x w t) g

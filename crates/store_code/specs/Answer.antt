@@ -2,8 +2,10 @@
 -- "The store": "the levels are handed out as the very C bytes in the store").
 -- Assumes nothing.
 use mathlib.Core.Path.{_≡_}
+use mathlib.Core.Bool.{Bool}
 use mathlib.Core.List.{List}
-use Prim.Native.Nat.{ℕ, _+_, _*_}
+use Prim.Native.Nat.{ℕ, _+_, _-_, _*_}
+use lib.Dec.{eqb}
 use denote.Ref.{RefT, ptr, now}
 use Rattle.store_desk.specs.declared.Desk.{Desk}
 use Rattle.store_desk.specs.declared.Key.{Key}
@@ -13,10 +15,15 @@ use Rattle.store_desk.specs.Name.{Name}
 use Rattle.store.specs.declared.Place.{Place}
 use Rattle.store.specs.Slots.{levelsAt, placeOf}
 use Rattle.store.specs.Change.{seat, started}
+use Rattle.store.specs.Order.{slotWord}
 
 -- the name that a call gives by its parts
 abbrev pub nameOf : Kind → Key → Name
 nameOf kind key = record { kind = kind; key = key }
+
+-- slot i has this word, where the bytes s are the slots from first on
+abbrev pub isWord : Desk → List ℕ → ℕ → ℕ → ℕ → Bool
+isWord d s first w i = eqb (slotWord d s (i - first)) w
 
 -- a place, and the store
 pub record Started : Type 0 where

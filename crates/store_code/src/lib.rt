@@ -5,6 +5,7 @@ ghost use mathlib.Core.List.{_++_};
 ghost use Prim.Native.Nat.{_+_, _-_, _*_, _≤_, _<_};
 ghost use lib.ListN.{length, replicate};
 ghost use Rattle.cells.specs.Put.{put};
+ghost use Rattle.cells.specs.Search.{firstFrom};
 ghost use Rattle.store_desk.specs.Size.{Within, InRange, headLength, entryLength, slotLength, slotsOf, patchStart, entriesOf};
 ghost use Rattle.store_desk.specs.Name.{okName, KeyFits};
 ghost use Rattle.store_head.specs.Layout.{encodeHead, decodeHead};
@@ -15,7 +16,7 @@ ghost use Rattle.store.specs.Change.{lowestUnused, newSeat, seat as seatOf, bla
 ghost use Rattle.store.specs.Form.{hasTimes, hasLink};
 ghost use Rattle.store.specs.Order.{slotWord};
 ghost use Rattle.store_code.specs.Fits.{Fitting, Editing, OnPatch};
-ghost use Rattle.store_code.specs.Answer.{nameOf, startedAs, startOf, LevelsOf};
+ghost use Rattle.store_code.specs.Answer.{nameOf, startedAs, startOf, LevelsOf, isWord};
 use store::Edit;
 use store::Place;
 use store_desk::Desk;
@@ -129,8 +130,35 @@ fn word_in(desk: Desk, slots: &[u8], slot: usize) -> u32
     store_head::quick(&slots[at..end])
 }
 
+// Which of the four slots from i on has this word first, where the slots from `first` on lie by themselves.
+fn among_four(desk: Desk, slots: &[u8], first: usize, i: usize, wanted: u32) -> Place
+    requires { ⌜ InRange desk ⌝ }
+    requires { ⌜ first ≤ i ⌝ }
+    requires { ⌜ i + 3 < slotsOf desk ⌝ }
+    requires { ⌜ (i + 3 - first) * slotLength desk + slotLength desk ≤ length (now slots) ⌝ }
+    ensures { λ r. ⌜ r ≡ placeOf (firstFrom (isWord desk (now (slots .entry)) first wanted) 4 i) ⌝ }
+{
+    if word_in(desk, slots, i - first) == wanted {
+        return Place::At(i);
+    }
+    let second = i + 1;
+    if word_in(desk, slots, second - first) == wanted {
+        return Place::At(second);
+    }
+    let third = second + 1;
+    if word_in(desk, slots, third - first) == wanted {
+        return Place::At(third);
+    }
+    let fourth = third + 1;
+    if word_in(desk, slots, fourth - first) == wanted {
+        return Place::At(fourth);
+    }
+    Place::Nowhere
+}
+
 // The slot that keeps this memory. The slots of its kind are looked at as a part of the store of their own: in a load the compiler then keeps
-// where they begin at hand, and does not fetch it again for each slot.
+// where they begin at hand, and does not fetch it again for each slot. Four are looked at a turn, and what is left one by one: the compiler then
+// does not put the search in line, and a load that searches much is the faster for it.
 pub fn find(desk: Desk, store: &[u8], kind: Kind, key: Key) -> Place
     requires { ⌜ Fitting desk (now store) ⌝ }
     requires { ⌜ KeyFits key ⌝ }
@@ -142,6 +170,13 @@ pub fn find(desk: Desk, store: &[u8], kind: Kind, key: Key) -> Place
     let from = first * desk.slot_length();
     let slots = &store[from..];
     let mut i = first;
+    while i + 4 <= end {
+        match among_four(desk, slots, first, i, wanted) {
+            Place::At(j) => return Place::At(j),
+            Place::Nowhere => {}
+        }
+        i += 4;
+    }
     while i < end {
         if word_in(desk, slots, i - first) == wanted {
             return Place::At(i);
@@ -262,6 +297,17 @@ pub fn start(desk: Desk, store: &mut [u8], kind: Kind, key: Key) -> Place
 
 // ---- a change of one memory
 
+// A head with a link set.
+fn linked(h: Head, whole: u32, fraction: u32) -> Head
+    ensures { λ r. ⌜ r ≡ editHead (Edit.Link whole fraction) h ⌝ }
+{
+    let mut n = h;
+    n.link = 1;
+    n.link_whole = whole;
+    n.link_fraction = fraction;
+    n
+}
+
 // A head with a time or a link set.
 fn changed(e: Edit, h: Head) -> Head
     ensures { λ r. ⌜ r ≡ editHead e h ⌝ }
@@ -285,12 +331,7 @@ fn changed(e: Edit, h: Head) -> Head
             n.followon_time = time;
             n
         }
-        Edit::Link(whole, fraction) => {
-            n.link = 1;
-            n.link_whole = whole;
-            n.link_fraction = fraction;
-            n
-        }
+        Edit::Link(whole, fraction) => linked(h, whole, fraction),
         Edit::Level(_, _) => n,
     }
 }
@@ -302,6 +343,17 @@ fn change_head(slot: &mut [u8], e: Edit)
     ensures { λ _. ⌜ now (slot .exit) ≡ withHead e (now (slot .entry)) ⌝ }
 {
     let h = changed(e, store_head::decode(slot));
+    let bytes = store_head::encode(h);
+    cells::copy(&mut *slot, &bytes);
+}
+
+// The same for a link.
+fn relink(slot: &mut [u8], whole: u32, fraction: u32)
+    requires { ⌜ HeadFits (editHead (Edit.Link whole fraction) (decodeHead (now slot))) ⌝ }
+    requires { ⌜ headLength ≤ length (now slot) ⌝ }
+    ensures { λ _. ⌜ now (slot .exit) ≡ withHead (Edit.Link whole fraction) (now (slot .entry)) ⌝ }
+{
+    let h = linked(store_head::decode(slot), whole, fraction);
     let bytes = store_head::encode(h);
     cells::copy(&mut *slot, &bytes);
 }
@@ -343,6 +395,19 @@ pub fn edit(desk: Desk, store: &mut [u8], slot: usize, e: Edit)
     let at = slot_start(desk, slot);
     let end = slot_end(desk, slot);
     edit_slot(desk, &mut store[at..end], e);
+}
+
+// A link, at the end of a load with translation. It stands beside `edit` so that a head is changed in one place of the walk, and the compiler puts
+// that in line there.
+pub fn set_link(desk: Desk, store: &mut [u8], slot: usize, whole: u32, fraction: u32)
+    requires { ⌜ Fitting desk (now store) ⌝ }
+    requires { ⌜ slot < slotsOf desk ⌝ }
+    requires { ⌜ Editing desk (Edit.Link whole fraction) ⌝ }
+    ensures { λ _. ⌜ now (store .exit) ≡ editAt desk (now (store .entry)) slot (Edit.Link whole fraction) ⌝ }
+{
+    let at = slot_start(desk, slot);
+    let end = slot_end(desk, slot);
+    relink(&mut store[at..end], whole, fraction);
 }
 
 // ---- the patch

@@ -2,20 +2,20 @@
 -- of them alone is its own text. By a character's tests, and by induction on the characters.
 -- Assumes nothing.
 use mathlib.Core.Path.{_≡_, refl, sym, ap, _∙_}
-use mathlib.Core.Bool.{Bool, true, false, cond, not, _||_}
+use mathlib.Core.Bool.{Bool, true, false, cond, not, _||_, _&&_}
 use mathlib.Core.List.{List, [], _∷_}
 use Prim.Native.Nat.{ℕ, suc, _+_, _-_, _≤_, _<_}
 use native.Mathlib.Omega.{arith}
 use lib.Dec.{eqb, ltb, leb}
 use lib.ListN.{length, getD, take, drop, length-drop, length-take}
 use lib.Seq.{drop-drop, getD-take, length-take-le}
-use borrow.Author.Tests.{lt-ltb, le-ltb, lt-leb, eq-eqb, ne-eqb, ltb-true, ltb-false, leb-false, not-true, not-false}
+use borrow.Author.Tests.{lt-ltb, le-ltb, lt-leb, le-leb, eq-eqb, ne-eqb, ltb-true, ltb-false, leb-false, not-true, not-false}
 use Rattle.cells.specs.Scan.{span}
 use Rattle.cells.proofs.Scan.{span-past, span-stop, span-below, span-le, span-within}
-use Rattle.cells.proofs.Split.{by-test, by-lt, by-eq, cond-false, or-true-left, or-true-right, or-false, or-left, or-right, or-none, not-of-true, not-of-false}
+use Rattle.cells.proofs.Split.{by-test, by-lt, by-eq, cond-false, and-true, and-false-left, and-false-right, or-true-left, or-true-right, or-false, or-left, or-right, or-none, not-of-true, not-of-false}
 use Rattle.text_records.specs.Stream.{CR, LF, isEnd, isText, recordEnd}
 use Rattle.text_records.specs.Cleaning.{isHigh, isControl, isMark, has, keptOf}
-use Rattle.text_records.specs.Window.{isSpecial, isPlain, allPlain, plainEnd}
+use Rattle.text_records.specs.Window.{isSpecial, isGraphic, isPlain, allPlain, plainEnd}
 use Rattle.text_records.proofs.Cleaning.{has-none, none-has, kept-this}
 
 -- ---- one character, as the code tests it
@@ -39,6 +39,30 @@ special-is c =
     (λ ne.
     or-true-right (ltb c 32) (leb 127 c || eqb c 33) (or-true-right (leb 127 c) (eqb c 33) (eq-eqb c 33 (omega arith)))
     ∙ sym (not-of-false (eqb c 32) (ne-eqb c 32 ne)))))
+
+-- special exactly if it is neither graphic nor a space
+pub special-neither : (c : ℕ) → isSpecial c ≡ (not (isGraphic c) && not (eqb c 32))
+unfolding isGraphic
+special-neither c =
+    by-lt 33 c
+    (λ h. by-lt c 127
+    (λ l. simp (special-is c, lt-ltb 33 c h, lt-ltb c 127 l, lt-leb 127 c l))
+    (λ l. simp (special-is c, lt-ltb 33 c h, le-ltb c 127 l, le-leb 127 c l, ne-eqb c 32 (omega arith))))
+    (λ h. simp (special-is c, le-ltb 33 c h))
+
+module _ (c : ℕ) {g : Bool} (e : g ≡ isGraphic c) where
+  pub graphic-plain : not g ≡ false → isPlain c ≡ true
+  graphic-plain f = not-of-false (isSpecial c) (special-neither c ∙ and-false-left (not (isGraphic c)) (not (eqb c 32)) (ap not (sym e) ∙ f))
+
+  pub neither-special : not g ≡ true → (c ≡ 32 → ⊥) → isPlain c ≡ false
+  neither-special t n =
+      not-of-true (isSpecial c)
+      (special-neither c ∙ and-true (not (isGraphic c)) (not (eqb c 32)) (ap not (sym e) ∙ t) (not-of-false (eqb c 32) (ne-eqb c 32 n)))
+
+pub space-plain : (c : ℕ) → c ≡ 32 → isPlain c ≡ true
+space-plain c e =
+    not-of-false (isSpecial c)
+    (special-neither c ∙ and-false-right (not (isGraphic c)) (not (eqb c 32)) (not-of-true (eqb c 32) (eq-eqb c 32 e)))
 
 pub plain-all : (s : List ℕ) {b : Bool} → b ≡ has isSpecial s → not b ≡ allPlain s
 unfolding allPlain

@@ -2,7 +2,7 @@
 -- text at the front of its bytes. The laws say that this makes what specs/Stream.antt and specs/Cleaning.antt say. No promise above the load
 -- names these.
 -- Assumes nothing.
-use mathlib.Core.Bool.{Bool, cond, not, _||_}
+use mathlib.Core.Bool.{Bool, cond, not, _||_, _&&_}
 use mathlib.Core.List.{List}
 use Prim.Native.Nat.{ℕ, _+_, _-_}
 use lib.Dec.{eqb, ltb, leb}
@@ -34,6 +34,10 @@ textOf r = take (r .count) (r .bytes)
 -- not plain: below 20 hex, above 7E hex, or `!`
 unfoldable pub isSpecial : ℕ → Bool
 isSpecial c = ltb c 32 || (leb 127 c || eqb c 33)
+
+-- plain, and no space
+unfoldable pub isGraphic : ℕ → Bool
+isGraphic c = ltb 33 c && ltb c 127
 
 abbrev pub isPlain : ℕ → Bool
 isPlain c = not (isSpecial c)

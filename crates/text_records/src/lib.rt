@@ -10,7 +10,7 @@ ghost use Rattle.cells.specs.Put.{put};
 ghost use Rattle.text_records.specs.Stream.{isEnd, terminated, recordEnd, nextStart};
 ghost use Rattle.text_records.specs.Received.{longest};
 ghost use Rattle.text_records.specs.Cleaning.{isControl, keptOf, columnOf};
-ghost use Rattle.text_records.specs.Window.{windowOf, overLong, isSpecial, isKept, block, allPlain, plainEnd, controlOf, seenOf, markOf, inFront, cleanedOf, leftBehind};
+ghost use Rattle.text_records.specs.Window.{windowOf, overLong, isSpecial, isGraphic, isKept, block, allPlain, plainEnd, controlOf, seenOf, markOf, inFront, cleanedOf, leftBehind};
 use cells::byte;
 
 // How many characters a record may have.
@@ -63,6 +63,17 @@ fn is_other(c: u8) -> bool
     c != SPACE
 }
 
+// A plain character that is no space. It stands beside the test above, for a scan that goes character by character: one test tells most
+// characters, and a second one a space.
+fn is_graphic(c: u8) -> bool
+    ensures { λ r. ⌜ r ≡ isGraphic c ⌝ }
+{
+    if c <= MARK {
+        return false;
+    }
+    c < DELETE
+}
+
 // Whether a block is plain; looked at to its end, so that it goes in one step.
 fn is_plain(s: &[u8]) -> bool
     requires { ⌜ length (now s) ≡ block ⌝ }
@@ -86,8 +97,11 @@ pub fn plain_end(stream: &[u8], at: usize) -> usize
 {
     let mut i = plain_blocks(stream, at);
     while i < stream.len() {
-        if is_other(stream[i]) {
-            return i;
+        let c = stream[i];
+        if !is_graphic(c) {
+            if c != SPACE {
+                return i;
+            }
         }
         i += 1;
     }

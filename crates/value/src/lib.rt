@@ -6,7 +6,7 @@ ghost use Prim.Native.Nat.{_+_, _*_, _<_, _≤_, min};
 ghost use lib.ListN.{length};
 ghost use Rattle.value.specs.Integer.{cap, digitOf, runOf, integerOf, AtMost};
 ghost use Rattle.value.specs.Digits.{isDigit, digitsAt};
-ghost use Rattle.value.specs.Parts.{cutAt, decimalsOf};
+ghost use Rattle.value.specs.Parts.{point, cutAt, before, decimalsOf};
 ghost use Rattle.value.specs.Number.{numberedOf, numberOf, borneBy, borneOf};
 ghost use Rattle.value.specs.Time.{partMax, partOf, joinOf, laterOf, clockOf, timeOf};
 ghost use Rattle.value.specs.Field.{versionedOf, versionOf, pageOf};
@@ -252,12 +252,30 @@ fn sized(whole: Integer, fraction: Integer) -> Numbered
     })
 }
 
+// A number's whole part by the digits that it begins with: malformed where there are none, or where neither the point nor the end follows.
+fn whole_by(s: &[u8], d: DigitRun) -> Integer
+    requires { ⌜ d ≡ digitsAt 10 (now s) 0 ⌝ }
+    ensures { λ r. ⌜ r ≡ integerOf (before (cutAt point (now (s .entry))) (now (s .entry))) ⌝ }
+{
+    let end = d.end;
+    if end == 0 {
+        return Integer::Malformed;
+    }
+    if end < s.len() {
+        if s[end] != b'.' {
+            return Integer::Malformed;
+        }
+    }
+    Integer::Value(d.value)
+}
+
+// The whole part is read in the one scan that finds its end.
 pub fn read_number(s: &[u8]) -> Numbered
     ensures { λ r. ⌜ r ≡ numberOf (now (s .entry)) ⌝ }
 {
-    let point = cut(s, b'.');
-    let whole = read_integer(&s[..point]);
-    sized(whole, decimals(s, point, FRACTION_DIGITS))
+    let d = digits_at(s, 0);
+    let whole = whole_by(s, d);
+    sized(whole, decimals(s, d.end, FRACTION_DIGITS))
 }
 
 // The number that two parts write, whatever the desk could keep; NO_NUMBER where they write none.

@@ -1,7 +1,7 @@
 -- `take_record` meets its contract: an over-long record by its length, any other by its text, which is itself where all is plain.
 -- Assumes nothing.
 use Rattle.load_run.proofs.Taking.{Texted, texted-as, spans-in, part-taking, is-long, short-within, short-chars, plain-texted, cleaned-texted}
-use Rattle.load_run.proofs.Taking.{text-taken, text-room, long-taken}
+use Rattle.load_run.proofs.Taking.{text-taken, text-booked, text-room, long-taken, long-booked}
 use lib.ListN.{length, take, drop}
 use lib.Seq.{length-take-le}
 use Prim.Native.Nat.{_-_, _≤_}
@@ -12,20 +12,20 @@ use Rattle.load_run.proofs.take_record.Statement.{statement}
 use Rattle.load_run.proofs.take_record.Tie as tie
 
 -- the places that the answers speak of, each from a later one
-abbrev began : tie.After-slice-known3 → tie.Start
-began c = c .before .before .before .before
+abbrev began : tie.After-slice-known6 → tie.Start
+began c = c .before .before .before .before .before .before .before
 
 abbrev received : tie.After-over-long → tie.After-receive
 received c = c .before .before
 
 abbrev long : tie.After-tell-long → tie.Then1
-long c = c .before .before .before .before .before
+long c = c .before .before .before .before
 
-abbrev joined : tie.After-take-text-arg4 → tie.Joined2
-joined c = c .before .before .before .before .before
+abbrev joined : tie.After-take-text-arg7 → tie.Joined2
+joined c = c .before .before .before .before .before .before .before .before
 
-abbrev text-told : tie.After-slice-known7 → tie.After-take-text
-text-told c = c .before .before .before .before .before .before
+abbrev text-told : tie.After-slice-known13 → tie.After-take-text
+text-told c = c .before .before .before .before .before .before .before .before .before .before .before .before
 
 -- where a plain record and another meet
 texted : (c : tie.Joined2)
@@ -66,7 +66,8 @@ returns c =
     let o = t .before in
     let r = received o in
     let s = began (r .before) in
-    long-taken _ (s .args .done) _ _ _ (is-long _ _ _ (s .pre .0) (r .receive .ensures) (o .over-long .ensures) (t .if1 .taken)) (s .pre .1 .0 .ready) (y .tell-long .ensures)
+    let g = is-long _ _ _ (s .pre .0) (r .receive .ensures) (o .over-long .ensures) (t .if1 .taken) in
+    (long-taken _ _ (s .args .done) _ _ _ g (s .pre .1 .0 .ready) (y .tell-long .ensures), long-booked _ (s .args .done) _ _ _ _ _ _ g)
 
 array-borrow-prefix-bytes : tie.Need-array-borrow-prefix-bytes
 array-borrow-prefix-bytes c = within (c .before)
@@ -111,6 +112,15 @@ same-length-3 c = search needs
 same-length-4 : tie.Need-same-length-4
 same-length-4 c = search needs
 
+same-length-5 : tie.Need-same-length-5
+same-length-5 c = search needs
+
+same-length-6 : tie.Need-same-length-6
+same-length-6 c = search needs
+
+same-length-7 : tie.Need-same-length-7
+same-length-7 c = search needs
+
 returns-2 : tie.Need-returns-2
 returns-2 c =
     let x = text-told c in
@@ -119,8 +129,8 @@ returns-2 c =
     let o = l .before in
     let r = received o in
     let s = began (r .before) in
-    x .take-text .ensures
-    ∙ text-taken (texted j) _ (s .args .done) _ _ (is-long _ _ _ (s .pre .0) (r .receive .ensures) (o .over-long .ensures) (l .if1 .left))
+    let g = is-long _ _ _ (s .pre .0) (r .receive .ensures) (o .over-long .ensures) (l .if1 .left) in
+    (x .take-text .ensures .0 ∙ text-taken (texted j) _ _ (s .args .done) _ _ g, x .take-text .ensures .1 ∙ text-booked (texted j) _ (s .args .done) _ _ _ _ _ g)
 
 pub take-record-spec : {M : Type 1} → statement M
 take-record-spec =
@@ -143,4 +153,7 @@ take-record-spec =
     same-length-2
     same-length-3
     same-length-4
+    same-length-5
+    same-length-6
+    same-length-7
     returns-2)

@@ -4,8 +4,10 @@ use mathlib.Core.Path.{sym, _∙_}
 use mathlib.Core.List.{List}
 use Rattle.text_fields.specs.Words.{Word}
 use Rattle.text_fields.specs.Places.{wordsFrom}
+use Rattle.load.specs.declared.Numbers.{Numbers}
 use Rattle.load_held.specs.Parts.{keywordIn}
 use Rattle.load_held.proofs.Answers.{asked-as, skips-as}
+use Rattle.load_hear.specs.Book.{numbersIn}
 use Rattle.load_step.proofs.Primaries.{primary-unsupported, primary-refused, primary-opened, primary-ok}
 use borrow.Author.Needs.{needs}
 use Rattle.load_step.proofs.primary.Statement.{statement}
@@ -18,15 +20,18 @@ supported n = n .before
 abbrev known : tie.After-opened-arg → tie.After-key
 known c = c .before .before
 
--- the start, and there the keyword and the fields behind it
+-- the start, and there the keyword, the fields behind it and the numbers
 abbrev began : tie.After-supports → tie.Start
-began u = u .before .before .before
+began u = u .before .before .before .before
 
 abbrev keyword : tie.Start → Word
 keyword s = keywordIn (s .args .text .now)
 
 abbrev words : tie.Start → List Word
 words s = wordsFrom (s .args .text .now) (s .args .at)
+
+abbrev numbers : tie.Start → Numbers
+numbers s = numbersIn (s .args .numbers .now)
 
 supports-requires : tie.Need-supports-requires
 supports-requires c κs = search needs
@@ -49,7 +54,7 @@ returns c =
     let n = f .before .before in
     let y = supported n in
     let s = began (y .before) in
-    asked-as _ _ _ (primary-refused _ (s .args .numbers) _ (keyword s) (words s) (y .before .supports .ensures) (y .if1 .taken) (n .name-in .ensures) (f .fault .given .1)) (skips-as _ _ _ _ (c .refused .ensures))
+    asked-as _ _ _ (primary-refused _ (numbers s) _ (keyword s) (words s) (y .before .supports .ensures) (y .if1 .taken) (n .name-in .ensures) (f .fault .given .1)) (skips-as _ _ _ _ (c .refused .ensures))
 
 enum-known-key : tie.Need-enum-known-key
 enum-known-key c = search needs
@@ -61,7 +66,7 @@ opened-requires c κs =
     let y = supported n in
     let u = y .before in
     let s = began u in
-    (s .pre .0, primary-ok _ (s .args .numbers) _ (words s) (u .supports .ensures) (y .if1 .taken) (n .name-in .ensures) (s .pre .0 .range) (k .key .given .1))
+    (s .pre .0, primary-ok _ (numbers s) _ (words s) (u .supports .ensures) (y .if1 .taken) (n .name-in .ensures) (s .pre .0 .range) (k .key .given .1))
 
 same-length : tie.Need-same-length
 same-length c = search needs
@@ -73,7 +78,7 @@ returns-2 c =
     let n = k .before .before in
     let y = supported n in
     let s = began (y .before) in
-    asked-as _ _ _ (primary-opened _ (s .args .numbers) _ (keyword s) (words s) (y .before .supports .ensures) (y .if1 .taken) (n .name-in .ensures) (k .key .given .1)) (o .opened .ensures)
+    asked-as _ _ _ (primary-opened _ (numbers s) _ (keyword s) (words s) (y .before .supports .ensures) (y .if1 .taken) (n .name-in .ensures) (k .key .given .1)) (o .opened .ensures)
 
 unsupported-requires : tie.Need-unsupported-requires
 unsupported-requires c κs = search needs
@@ -89,7 +94,7 @@ returns-3 c =
     let b = c .before in
     let l = b .before .before in
     let s = began (l .before) in
-    asked-as _ _ _ (primary-unsupported _ (s .args .numbers) _ (keyword s) (words s) (l .before .supports .ensures) (l .if1 .left) (b .before .unsupported .ensures) (b .blamed-at .ensures)) (skips-as _ _ _ _ (c .refused2 .ensures))
+    asked-as _ _ _ (primary-unsupported _ (numbers s) _ (keyword s) (words s) (l .before .supports .ensures) (l .if1 .left) (b .before .unsupported .ensures) (b .blamed-at .ensures)) (skips-as _ _ _ _ (c .refused2 .ensures))
 
 pub primary-spec : {M : Type 1} → statement M
 primary-spec =

@@ -39,8 +39,8 @@ next-key-requires c κs =
     let s = c .before .before .before .before .before .before in
     (cue-supported _ _ (s .pre .1 .0), let f = s .fits in omega arith)
 
-edit-requires : tie.Need-edit-requires
-edit-requires c κs =
+set-link-requires : tie.Need-set-link-requires
+set-link-requires c κs =
     let k = c .before in
     let s = k .before .before .before .before .before .before .before in
     (s .pre .0, (cue-slot _ _ (s .pre .1 .0), link-fits _ _ (k .next-key .ensures)))
@@ -54,7 +54,7 @@ returns-3 c =
     let k = e .before .before in
     let y = k .before in
     let n = y .before in
-    slot-linked _ _ _ _ _ _ _ (n .before .has-asked .ensures) (n .if1 .left) (y .if2 .left) (k .next-key .ensures) (e .edit .ensures)
+    slot-linked _ _ _ _ _ _ _ (n .before .has-asked .ensures) (n .if1 .left) (y .if2 .left) (k .next-key .ensures) (e .set-link .ensures)
 
 pub link-slot-spec : {M : Type 1} → statement M
 link-slot-spec =
@@ -69,6 +69,6 @@ link-slot-spec =
     returns-2
     sub-next-key
     next-key-requires
-    edit-requires
+    set-link-requires
     same-length-4
     returns-3)

@@ -2,16 +2,17 @@
 -- Assumes nothing.
 use Rattle.store_code.proofs.Laws.{fitting-kept}
 use Rattle.load_translate.proofs.Whole.{walk-losing, walk-records, close-room, translated-loaded}
+use Rattle.load_run.proofs.Closing.{none-accepted}
 use borrow.Author.Needs.{needs}
 use Rattle.load_translate.proofs.run.Statement.{statement}
 use Rattle.load_translate.proofs.run.Tie as tie
 
 -- the places that the answers speak of, each from a later one
-abbrev began : tie.After-walk → tie.Start
-began k = k .before .before .before .before .before .before .before .before
+abbrev began : tie.After-asked → tie.Start
+began c = c .before .before .before .before .before .before .before .before
 
 abbrev walked : tie.After-asked3 → tie.After-walk
-walked c = c .before .before .before .before .before .before .before .before .before .before .before
+walked c = c .before .before .before .before .before .before .before .before .before .before .before .before
 
 slice-aggregate-walk : tie.Need-slice-aggregate-walk
 slice-aggregate-walk c = search needs
@@ -19,8 +20,11 @@ slice-aggregate-walk c = search needs
 slice-aggregate-walk-2 : tie.Need-slice-aggregate-walk-2
 slice-aggregate-walk-2 c = search needs
 
+slice-aggregate-walk-3 : tie.Need-slice-aggregate-walk-3
+slice-aggregate-walk-3 c = search needs
+
 walk-requires : tie.Need-walk-requires
-walk-requires c κs = search needs
+walk-requires c κs = let p = began c .pre in (p .0, (p .1, none-accepted 4))
 
 slice-aggregate-link : tie.Need-slice-aggregate-link
 slice-aggregate-link c = search needs
@@ -31,18 +35,18 @@ slice-aggregate-link-2 c = search needs
 link-requires : tie.Need-link-requires
 link-requires c κs =
     let k = walked c in
-    let p = began k .pre in
+    let p = began (k .before) .pre in
     let w = k .walk .ensures in
-    let h = k .walk .kept .1 .1 in (
+    let h = k .walk .kept .1 in (
       fitting-kept _ _ _ (h .0) (p .0),
-      (p .1, (h .1 .1 .1 .1 .0, (walk-losing _ _ _ _ (p .1) (k .walk .result) w, walk-records _ _ _ _ (p .1) (k .walk .result) w))),
+      (p .1, (h .1 .1 .1 .1 .1 .0, (walk-losing _ _ _ _ (p .1) (k .walk .result) w, walk-records _ _ _ _ (p .1) (k .walk .result) w))),
     )
 
 close-requires : tie.Need-close-requires
 close-requires c κs =
     let l = c .before .before .before .before .before in
     let k = walked (l .before) in
-    let p = began k .pre in
+    let p = began (k .before) .pre in
     close-room _ _ _ _ (p .1) (k .walk .result) (k .walk .ensures) (l .link .ensures) (p .0 .range .cues .1)
 
 same-length : tie.Need-same-length
@@ -56,7 +60,7 @@ returns c =
     let e = c .before .before in
     let l = e .before .before .before .before .before .before in
     let k = walked (l .before) in
-    translated-loaded _ _ _ _ (began k .pre .1) (k .walk .result) (k .walk .ensures) (l .link .ensures) (e .close .ensures)
+    translated-loaded _ _ _ _ (began (k .before) .pre .1) (k .walk .result) (k .walk .ensures) (l .link .ensures) (e .close .ensures)
 
 pub run-spec : {M : Type 1} → statement M
 run-spec =
@@ -64,6 +68,7 @@ run-spec =
     (tie.spec
     slice-aggregate-walk
     slice-aggregate-walk-2
+    slice-aggregate-walk-3
     walk-requires
     slice-aggregate-link
     slice-aggregate-link-2

@@ -19,6 +19,9 @@ enum-known-e-3 c = search needs
 enum-known-e-4 : tie.Need-enum-known-e-4
 enum-known-e-4 c = search needs
 
+linked-requires : tie.Need-linked-requires
+linked-requires c κs = search needs
+
 enum-told : tie.Need-enum-told
 enum-told c = search needs
 
@@ -35,8 +38,7 @@ unfolding editHead put
 returns-3 c = rw (c .before .e3 .given .1) refl
 
 returns-4 : tie.Need-returns-4
-unfolding editHead put
-returns-4 c = rw (c .before .e4 .given .1) refl
+returns-4 c = rw (c .before .before .e4 .given .1) (c .linked .ensures)
 
 returns-5 : tie.Need-returns-5
 unfolding editHead put
@@ -50,6 +52,7 @@ changed-spec =
     enum-known-e-2
     enum-known-e-3
     enum-known-e-4
+    linked-requires
     enum-told
     returns
     returns-2

@@ -1,46 +1,33 @@
 -- `read_number` meets its contract: whole part and fraction, each cut at the cap.
 -- Assumes nothing.
-use Rattle.value.specs.Parts.{point}
-use Rattle.value.proofs.Cuts.{cut-count, decimals-capped}
 use mathlib.Core.Path.{sym, _∙_, subst}
 use Rattle.value.specs.Integer.{cap, AtMost}
 use Rattle.value.proofs.Digits.{integer-capped}
-use Rattle.value.proofs.Numbers.{number-is}
+use Rattle.value.proofs.Cuts.{decimals-capped}
+use Rattle.value.proofs.Wholes.{number-by}
 use borrow.Author.Needs.{needs}
 use Rattle.value.proofs.read_number.Statement.{statement}
 use Rattle.value.proofs.read_number.Tie as tie
 
-cut-requires : tie.Need-cut-requires
-cut-requires c κs = search needs
+digits-at-requires : tie.Need-digits-at-requires
+digits-at-requires c κs = search needs
 
-slice-aggregate-read-integer : tie.Need-slice-aggregate-read-integer
-slice-aggregate-read-integer c = cut-count point _ (c .before .cut .ensures)
-
-read-integer-requires : tie.Need-read-integer-requires
-read-integer-requires c κs = search needs
+whole-by-requires : tie.Need-whole-by-requires
+whole-by-requires c κs = search needs
 
 decimals-requires : tie.Need-decimals-requires
 decimals-requires c κs = search needs
 
 sized-requires : tie.Need-sized-requires
 sized-requires c κs = (
-  subst (AtMost cap) (sym (c .before .read-integer .ensures)) (integer-capped _),
+  subst (AtMost cap) (sym (c .before .whole-by .ensures)) (integer-capped _),
   subst (AtMost cap) (sym (c .decimals .ensures)) (decimals-capped _ _ _),
 )
 
 returns : tie.Need-returns
 returns c =
     c .sized .ensures
-    ∙ number-is _ (c .before .before .before .before .cut .ensures) (c .before .before .read-integer .ensures)
-    (c .before .decimals .ensures)
+    ∙ number-by _ (c .before .before .before .digits-at .ensures) (c .before .before .whole-by .ensures) (c .before .decimals .ensures)
 
 pub read-number-spec : {M : Type 1} → statement M
-read-number-spec =
-    tie.close
-    (tie.spec
-    cut-requires
-    slice-aggregate-read-integer
-    read-integer-requires
-    decimals-requires
-    sized-requires
-    returns)
+read-number-spec = tie.close (tie.spec digits-at-requires whole-by-requires decimals-requires sized-requires returns)
