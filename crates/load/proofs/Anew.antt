@@ -2,7 +2,7 @@
 -- every law of a step is by the same seven cases.
 -- Assumes nothing.
 use mathlib.Core.Path.{_≡_, refl, sym, ap, _∙_, subst}
-use mathlib.Core.Bool.{true, false, cond, _&&_}
+use mathlib.Core.Bool.{true, false, cond}
 use mathlib.Core.List.{List, [], _∷_}
 use Prim.Native.Nat.{ℕ, suc, _+_, _*_, _%_, _≤_, _<_}
 use native.Mathlib.Nat.{mod-lt, zero-mul}
@@ -21,7 +21,7 @@ use Rattle.store_desk.proofs.Name.{number-low}
 use Rattle.text_records.specs.Cleaning.{keptOf}
 use Rattle.text_fields.specs.Words.{Word, wordsIn, wordsOf, fieldsOf, headOf, tailOf}
 use Rattle.text_fields.specs.Keywords.{keywordOf, itemOf}
-use Rattle.value.specs.Number.{wholeMax, borneOf}
+use Rattle.value.specs.Number.{wholeMax}
 use Rattle.load.specs.declared.Family.{Family}
 use Rattle.load.specs.declared.Family.the-variants.{Primary, Augments, Basic as Basically}
 use Rattle.load.specs.declared.Fault.{Fault}
@@ -35,8 +35,8 @@ use Rattle.load.specs.declared.State.{State}
 use Rattle.load.specs.Condition.{unsupportedOf, overLongRecord}
 use Rattle.load.specs.Item.{blame, blameNone}
 use Rattle.load.specs.Ask.{Ask, rests, skips, name, namedAsk, primaryAsk, secondaryAsk, itemAsk, familyOf, basicAsk, familyAsk, fieldsAsk, isOverLong, askOf}
-use Rattle.load.specs.Anew.{lastNumber, nextKey, acceptedOf, oneMore, beyondOf, nextNamed, anewPrimaryAsk, isLink, asksLink, isClear, anewFamilyAsk, familyAskIn, fieldsAskIn, askIn}
-use Rattle.load.specs.Anew.{isObeyed, familyHeard, fieldsHeard, heardIn, numbered}
+use Rattle.load.specs.Anew.{lastNumber, nextKey, acceptedOf, oneMore, beyondOf, nextNamed, anewPrimaryAsk, asksLink, isClear, anewFamilyAsk, familyAskIn, fieldsAskIn, askIn}
+use Rattle.load.specs.Anew.{fieldsHeard, heardIn, numbered}
 use Rattle.load.specs.Step.{Step, acted, recordStep}
 use Rattle.load.specs.Translated.{stepIn, numbersAfter, runIn, Note, notesIn}
 use Rattle.load.specs.Fits.{primaryAskIn, mostRecords, NumbersFit}
@@ -186,28 +186,6 @@ heard-empty b o = cond-same (b .anew) Other
 pub heard-long : (b : Numbers) (r : List ℕ) (o : Outcome) → isOverLong r ≡ true → heardIn b r o ≡ Other
 unfolding heardIn
 heard-long b r o e = rw e (cond-same (b .anew) Other)
-
--- a LINK asks for a number that a field writes
-module _ (P : Heard → Type 0) (other : P Other) (accepted : (k : Kind) → P (Taken k)) (refused : (k : Kind) → P (NotTaken k))
-    (asked : (s : List ℕ) → P (Asked (borneOf s))) where
-  family-heard : (f : Family) (ws : List Word) (o : Outcome) → P (familyHeard f ws o)
-  unfolding familyHeard
-  family-heard (Primary k) ws o = by-test P (isObeyed o) (Taken k) (NotTaken k) (λ e. accepted k) (λ e. refused k)
-  family-heard (Augments e) ws o =
-      by-test P (isObeyed o && isLink e) (Asked (borneOf (headOf ws .chars))) Other (λ h. asked (headOf ws .chars)) (λ h. other)
-  family-heard (Basically x) ws o = other
-
-  fields-heard : (ws : List Word) (o : Outcome) → P (fieldsHeard ws o)
-  unfolding fieldsHeard
-  fields-heard [] o = other
-  fields-heard (w ∷ ws) o = family-heard (familyOf (keywordOf (w .chars))) ws o
-
-  pub by-heard : (b : Numbers) (r : List ℕ) (o : Outcome) → P (heardIn b r o)
-  unfolding heardIn
-  by-heard b r o =
-      by-test P (b .anew) (cond (isOverLong r) Other (fieldsHeard (fieldsOf r) o)) Other
-      (λ e. by-test P (isOverLong r) Other (fieldsHeard (fieldsOf r) o) (λ l. other) (λ l. fields-heard (fieldsOf r) o))
-      (λ e. other)
 
 -- one more record, and of each kind at most one more
 pub record NumbersAt (n : ℕ) (b : Numbers) : Type 0 where

@@ -153,7 +153,7 @@ fn bear(stream: &[u8], records: u32, marks: &[u8], asked: &[u32], found: &mut [u
     let mut n = 0;
     let mut at = 0;
     while n < records {
-        let first = text_records::plain_end(stream, at);
+        let first = text_records::plain_again(stream, at);
         let end = text_records::record_end(stream, first);
         let b = bearing_at(stream, at, end, first == end);
         seen = meet_bearing(b, seen, marks, asked, found);

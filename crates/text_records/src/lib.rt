@@ -108,6 +108,25 @@ pub fn plain_end(stream: &[u8], at: usize) -> usize
     i
 }
 
+// The same, for a record that goes on behind such a character, and for a stream that is read again: so `plain_end` has one call, where every record
+// begins, and the compiler puts it in line there.
+pub fn plain_again(stream: &[u8], at: usize) -> usize
+    requires { ⌜ at ≤ length (now stream) ⌝ }
+    ensures { λ r. ⌜ r ≡ plainEnd (now (stream .entry)) at ⌝ }
+{
+    let mut i = plain_blocks(stream, at);
+    while i < stream.len() {
+        let c = stream[i];
+        if !is_graphic(c) {
+            if c != SPACE {
+                return i;
+            }
+        }
+        i += 1;
+    }
+    i
+}
+
 // The place up to which there are whole blocks of plain characters from `at` on.
 fn plain_blocks(stream: &[u8], at: usize) -> usize
     requires { ⌜ at ≤ length (now stream) ⌝ }
@@ -135,7 +154,7 @@ pub fn record_end(stream: &[u8], at: usize) -> usize
         if is_end(stream[i]) {
             return i;
         }
-        i = plain_end(stream, i + 1);
+        i = plain_again(stream, i + 1);
     }
     i
 }

@@ -1,6 +1,5 @@
 use mathlib.Core.Path.{refl}
 use Rattle.load_hear.specs.Book.{isAnew}
-use borrow.Author.Needs.{needs}
 use Rattle.load_hear.proofs.is_anew.Statement.{statement}
 use Rattle.load_hear.proofs.is_anew.Tie as tie
 use Rattle.load_hear.proofs.is_anew.Reads as reads

@@ -23,17 +23,17 @@ abbrev turned : tie.After-record-end Inv-loop μ-loop → tie.In-loop Inv-loop �
 turned e = e .before .before
 
 spans : (e : tie.After-record-end Inv-loop μ-loop)
-    → let l = turned e .before in Spans (l .before .before .before .before .before .args .stream .now) (l .loop .at) (e .record-end .result) (eqb (e .before .plain-end .result) (e .record-end .result))
-spans e = loop-spans (turned e .before .loop .inv .1) (e .before .plain-end .ensures) (e .record-end .ensures)
+    → let l = turned e .before in Spans (l .before .before .before .before .before .args .stream .now) (l .loop .at) (e .record-end .result) (eqb (e .before .plain-again .result) (e .record-end .result))
+spans e = loop-spans (turned e .before .loop .inv .1) (e .before .plain-again .ensures) (e .record-end .ensures)
 
 loop-holds : tie.Need-loop-holds Inv-loop μ-loop
 loop-holds c = let p = c .before .before .before .before .pre in (p .1 .1, loop-start _ _ _ _ _ (p .0) (p .1 .0))
 
-plain-end-requires : tie.Need-plain-end-requires Inv-loop μ-loop
-plain-end-requires c κs = c .before .loop .inv .1 .within
+plain-again-requires : tie.Need-plain-again-requires Inv-loop μ-loop
+plain-again-requires c κs = c .before .loop .inv .1 .within
 
 record-end-requires : tie.Need-record-end-requires Inv-loop μ-loop
-record-end-requires c κs = first-in (c .before .before .loop .inv .1) (c .plain-end .ensures)
+record-end-requires c κs = first-in (c .before .before .loop .inv .1) (c .plain-again .ensures)
 
 bearing-at-requires : tie.Need-bearing-at-requires Inv-loop μ-loop
 bearing-at-requires c κs = spans c
@@ -83,7 +83,7 @@ bear-spec =
     Inv-loop
     μ-loop
     loop-holds
-    plain-end-requires
+    plain-again-requires
     record-end-requires
     bearing-at-requires
     meet-bearing-requires

@@ -38,18 +38,18 @@ returns c =
     let t = turned e in
     scan-stop isText _ _ (t .loop-test .taken) (ap not (e .is-end .ensures)) (ap not (c .if1 .taken)) (t .before .loop .inv .1)
 
-add-plain-end : tie.Need-add-plain-end Inv-loop μ-loop
-add-plain-end c = search needs
+add-plain-again : tie.Need-add-plain-again Inv-loop μ-loop
+add-plain-again c = search needs
 
-plain-end-requires : tie.Need-plain-end-requires Inv-loop μ-loop
-plain-end-requires c κs = search needs
+plain-again-requires : tie.Need-plain-again-requires Inv-loop μ-loop
+plain-again-requires c κs = search needs
 
 loop-less : tie.Need-loop-less Inv-loop μ-loop
 loop-less c =
     let l = turned (c .before .before) .before in
     let s = l .before .before .args .stream .now in
     let h = plain-from s (l .loop .i + 1) in
-    let e = c .plain-end .ensures in
+    let e = c .plain-again .ensures in
     omega arith
 
 loop-again : tie.Need-loop-again Inv-loop μ-loop
@@ -62,8 +62,8 @@ loop-again c =
     let i = l .loop .i in
     let h : i < length s = t .loop-test .taken in
     let g : i + 1 ≤ length s = omega arith in (
-      subst (λ (n : ℕ). n ≤ length s) (sym (c .plain-end .ensures)) (plain-within s (i + 1) g),
-      plain-turn s (i + 1) (c .plain-end .ensures) (scan-turn isText s i h (ap not (e .is-end .ensures)) (ap not (y .if1 .left)) (l .loop .inv .1)),
+      subst (λ (n : ℕ). n ≤ length s) (sym (c .plain-again .ensures)) (plain-within s (i + 1) g),
+      plain-turn s (i + 1) (c .plain-again .ensures) (scan-turn isText s i h (ap not (e .is-end .ensures)) (ap not (y .if1 .left)) (l .loop .inv .1)),
     )
 
 returns-2 : tie.Need-returns-2 Inv-loop μ-loop
@@ -79,8 +79,8 @@ record-end-spec =
     shared-slice-read-is-end
     is-end-requires
     returns
-    add-plain-end
-    plain-end-requires
+    add-plain-again
+    plain-again-requires
     loop-less
     loop-again
     returns-2)
