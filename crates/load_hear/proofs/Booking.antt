@@ -69,6 +69,12 @@ pub tried-room : (l : List ℕ) → 3 < length l → 3 < length (oneMoreAt l 0)
 tried-room l h = subst (λ (n : ℕ). 3 < n) (sym (more-length l 0)) h
 
 -- ---- the list after a record
+
+-- one that is no primary, as CLEAR, counts nothing
+nothing-counted : (l : List ℕ) → numbersIn (countedAt l Other) ≡ numbered (numbersIn l) Other
+unfolding countedAt numbered
+nothing-counted l = refl
+
 pub counted-length : (l : List ℕ) (h : Heard) → length (countedAt l h) ≡ length l
 unfolding countedAt
 counted-length l Other = refl
@@ -99,7 +105,7 @@ module _ (l : List ℕ) (a : isAnew l ≡ true) where
 
   pub counted-numbers : (h : Heard) → numbersIn (countedAt l h) ≡ numbered (numbersIn l) h
   unfolding countedAt numbersIn numbered oneMore four
-  counted-numbers Other = refl
+  counted-numbers Other = nothing-counted l
   counted-numbers (Accepted Cue) =
       let m = oneMoreAt l 0 in
       counted (Accepted Cue)
@@ -145,7 +151,7 @@ module _ (l : List ℕ) (h : Heard) where
   heard-numbers =
       by-bool (isAnew l)
       (λ t. counted-numbers l t (heardBy l h))
-      (λ f. subst (λ (z : Heard). numbersIn (countedAt l z) ≡ numbered (numbersIn l) z) (sym (cond-false (isAnew l) h Other f)) refl)
+      (λ f. subst (λ (z : Heard). numbersIn (countedAt l z) ≡ numbered (numbersIn l) z) (sym (cond-false (isAnew l) h Other f)) (nothing-counted l))
 
   pub heard-tried : triedIn (countedAt l (heardBy l h)) ≡ triedAt (triedIn l) (heardBy l h)
   unfolding countedAt triedAt
