@@ -1,13 +1,10 @@
+-- `accept` meets its contract: kind by kind; of a CUE the mark, what it asked for, and two counters one after the other.
+-- Assumes nothing.
 use native.Mathlib.Omega.{arith}
 use Rattle.load_hear.proofs.Booking.{anew-room, cues-fit, groups-fit, subs-fit, tried-fits, twice-room, cue-accepted, group-accepted, sub-accepted}
 use borrow.Author.Needs.{needs}
 use Rattle.load_hear.proofs.accept.Statement.{statement}
 use Rattle.load_hear.proofs.accept.Tie as tie
-use Rattle.load_hear.proofs.accept.Reads as reads
-use Rattle.load_hear.proofs.accept.Lts as lts
-use Rattle.load_hear.proofs.ask.Reads as ask-reads
-use Rattle.load_hear.proofs.mark.Reads as mark-reads
-use Rattle.load_hear.proofs.one_more.Reads as one-more-reads
 
 enum-told : tie.Need-enum-told
 enum-told c = search needs

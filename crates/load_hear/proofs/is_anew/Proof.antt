@@ -1,9 +1,9 @@
+-- `is_anew` meets its contract: the definition, unfolded.
+-- Assumes nothing.
 use mathlib.Core.Path.{refl}
 use Rattle.load_hear.specs.Book.{isAnew}
 use Rattle.load_hear.proofs.is_anew.Statement.{statement}
 use Rattle.load_hear.proofs.is_anew.Tie as tie
-use Rattle.load_hear.proofs.is_anew.Reads as reads
-use Rattle.load_hear.proofs.is_anew.Lts as lts
 
 returns : tie.Need-returns
 unfolding isAnew

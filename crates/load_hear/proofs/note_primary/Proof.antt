@@ -1,15 +1,11 @@
+-- `note_primary` meets its contract: a normal load notes nothing, and else the outcome says whether the primary was accepted.
+-- Assumes nothing.
 use mathlib.Core.Path.{sym, _∙_}
 use borrow.Author.Tests.{not-true, not-false}
 use Rattle.load_hear.proofs.Booking.{nothing-noted, accepted-noted, refused-noted}
 use borrow.Author.Needs.{needs}
 use Rattle.load_hear.proofs.note_primary.Statement.{statement}
 use Rattle.load_hear.proofs.note_primary.Tie as tie
-use Rattle.load_hear.proofs.note_primary.Reads as reads
-use Rattle.load_hear.proofs.note_primary.Lts as lts
-use Rattle.load_hear.proofs.accept.Reads as accept-reads
-use Rattle.load_hear.proofs.is_anew.Reads as is-anew-reads
-use Rattle.load_hear.proofs.is_obeyed.Reads as is-obeyed-reads
-use Rattle.load_hear.proofs.refuse.Reads as refuse-reads
 
 is-anew-requires : tie.Need-is-anew-requires
 is-anew-requires c κs = search needs

@@ -1,9 +1,9 @@
+-- `numbers_in` meets its contract: a list of four counters is long enough to be read, and what is read are the numbers.
+-- Assumes nothing.
 use Rattle.load_hear.proofs.Booking.{anew-room, numbers-here}
 use borrow.Author.Needs.{needs}
 use Rattle.load_hear.proofs.numbers_in.Statement.{statement}
 use Rattle.load_hear.proofs.numbers_in.Tie as tie
-use Rattle.load_hear.proofs.numbers_in.Reads as reads
-use Rattle.load_hear.proofs.numbers_in.Lts as lts
 
 shared-slice-read-t3 : tie.Need-shared-slice-read-t3
 shared-slice-read-t3 c = let h = anew-room _ (c .before .pre) in search needs

@@ -1,11 +1,10 @@
+-- `refuse` meets its contract: a CUE that was refused was tried, and no other counter moves.
+-- Assumes nothing.
 use Rattle.load_hear.specs.Book.{countedAt}
 use Rattle.load_hear.proofs.Booking.{anew-room, tried-fits, cue-refused}
 use borrow.Author.Needs.{needs}
 use Rattle.load_hear.proofs.refuse.Statement.{statement}
 use Rattle.load_hear.proofs.refuse.Tie as tie
-use Rattle.load_hear.proofs.refuse.Reads as reads
-use Rattle.load_hear.proofs.refuse.Lts as lts
-use Rattle.load_hear.proofs.one_more.Reads as one-more-reads
 
 enum-told : tie.Need-enum-told
 enum-told c = search needs
