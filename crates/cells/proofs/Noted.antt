@@ -2,10 +2,10 @@
 -- Assumes nothing.
 use mathlib.Core.Path.{◌≡◌, refl, sym, ap, ◌∙◌}
 use mathlib.Core.List.{List, [], ◌∷◌}
-use Prim.Native.Nat.{ℕ, zero, suc, ◌+◌, ◌≤◌, ◌<◌}
+use Prim.Native.Nat.{ℕ, suc, ◌+◌, ◌≤◌, ◌<◌}
 use native.Mathlib.Omega.{arith}
 use lib.ListN.{length, get_or, drop, set, length-set, drop_of_length-le}
-use lib.Seq.{set_out, drop-cons, get_or-set_same, get_or-set_other}
+use lib.Seq.{set_out, drop-cons}
 use Rattle.cells.specs.Note.{noted_from}
 
 -- past its end a list keeps what it has
@@ -49,23 +49,3 @@ module _ {l vs t : List ℕ} {i : ℕ} (p : Noting l vs t i) where
   pub noting_end : length vs ≤ i → t ≡ noted_from 0 l vs
   noting_end h =
       sym (p.same ∙ ap (noted_from i t) (sym p.rest ∙ drop_of_length-le vs h) ∙ noted_nil i t)
-
--- ---- what stands where after it went in
-noted_before : (i : ℕ) (l vs : List ℕ) (j : ℕ) → j < i → get_or (noted_from i l vs) j 0 ≡ get_or l j 0
-unfolding noted_from
-noted_before i l [] j h = refl
-noted_before i l (v ∷ vs) j h =
-    noted_before (suc i) (set l i v) vs j (omega arith) ∙ get_or-set_other l i j v 0 (λ e. absurd (omega arith))
-
-pub noted_at : (i : ℕ) (l vs : List ℕ) (j : ℕ) → j < length vs → i + j < length l → get_or (noted_from i l vs) (i + j) 0 ≡ get_or vs j 0
-unfolding noted_from
-noted_at i l [] j h g = absurd (omega arith)
-noted_at i l (v ∷ vs) zero h g =
-    let e : i + 0 ≡ i = omega arith in
-    ap (λ (k : ℕ). get_or (noted_from (suc i) (set l i v) vs) k 0) e
-    ∙ noted_before (suc i) (set l i v) vs i (omega arith)
-    ∙ get_or-set_same l i v 0 (omega arith)
-noted_at i l (v ∷ vs) (suc j) h g =
-    let e : i + suc j ≡ suc i + j = omega arith in
-    let q : length (set l i v) ≡ length l = length-set l i v in
-    ap (λ (k : ℕ). get_or (noted_from (suc i) (set l i v) vs) k 0) e ∙ noted_at (suc i) (set l i v) vs j (omega arith) (omega arith)

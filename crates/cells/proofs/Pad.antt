@@ -4,14 +4,14 @@
 use mathlib.Core.Path.{◌≡◌, sym, ap, ◌∙◌, subst}
 use mathlib.Core.List.{List, [], ◌∷◌, ◌++◌}
 use Prim.Native.Nat.{ℕ, zero, suc, ◌+◌, ◌-◌, ◌<◌, ◌≤◌}
-use native.Mathlib.Nat.{sub_zero, zero-sub, suc-sub-suc}
+use native.Mathlib.Nat.{sub-zero, zero-sub, suc-sub-suc}
 use native.Mathlib.Omega.{arith}
 use lib.ListN.{length, get_or, set, drop, replicate, length-append, length-replicate, get_or-append}
 use lib.Seq.{set-append_seam, append_snoc}
 use Rattle.cells.specs.Pad.{padded}
 
 pub drop-replicate : (k n : ℕ) → drop k (replicate n zero) ≡ replicate (n - k) 0
-drop-replicate zero n = ap (λ (j : ℕ). replicate j zero) (sym (sub_zero n))
+drop-replicate zero n = ap (λ (j : ℕ). replicate j zero) (sym (sub-zero n))
 drop-replicate (suc k) zero = ap (λ (j : ℕ). replicate j zero) (sym (zero-sub (suc k)))
 drop-replicate (suc k) (suc n) = drop-replicate k n ∙ ap (λ (j : ℕ). replicate j zero) (sym (suc-sub-suc n k))
 

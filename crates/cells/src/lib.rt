@@ -1,4 +1,6 @@
 // The small pieces that everything above is made of: a byte at a place, widening, the smaller of two, filling and copying.
+#![tactic(auto)]
+
 ghost use Rattle.std.specs.Prelude.{◌≡◌, ◌≤◌, min, length, get_or, replicate, set};
 ghost use Rattle.cells.specs.Put.{put};
 ghost use Rattle.cells.specs.Note.{noted_from};

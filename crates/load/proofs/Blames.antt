@@ -26,6 +26,11 @@ module _ (f : Field) (c : ℕ) {b : Bool} (m : b ≡ is_missing f) where
   pub blamed_some : b ≡ false → at_place (f.start + 1) ≡ blame_field f c
   blamed_some t = ap at_place (sym (cond-false (is_missing f) 0 (f.start + 1) (sym m ∙ t)))
 
+-- a field that was found is the first word from there on
+module _ (text : List ℕ) (at : ℕ) {f : Field} (e : f ≡ field_at text at) where
+  pub blamed_word : (c : ℕ) {r : Fault} → r ≡ blame_field f c → r ≡ blame (head_of (words_from text at)) c
+  blamed_word c b = b ∙ ap (λ (x : Field). blame_field x c) e ∙ ap (λ (w : Word). blame w c) (sym (words_head text at))
+
 -- the first field from a place on: one that starts within the text is there
 module _ (text : List ℕ) (at c : ℕ) {start : ℕ} (e : start ≡ start_at text at) where
   abbrev head_place : ℕ

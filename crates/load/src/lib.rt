@@ -1,4 +1,6 @@
 // What a load knows between records, and what a record comes to (paper 01, "Keywords and conditions"; "Forms for specific places").
+#![tactic(auto)]
+
 ghost use Rattle.std.specs.Prelude.{◌≡◌, ◌≤◌, length};
 ghost use Rattle.text_records.specs.Received.{longest};
 ghost use Rattle.text_fields.specs.Words.{head_of};
@@ -11,7 +13,7 @@ use store_desk::{Key, Kind};
 use text_fields::Field;
 
 // What a secondary record augments: nothing, a memory that is skipped, or an open memory of a kind.
-#[derive(Drop)]
+#[derive(Clone, Copy)]
 pub enum Open {
     Nothing,
     Skipping,
@@ -19,7 +21,7 @@ pub enum Open {
 }
 
 // The load's state: what is open, and the key of the open memory (all zero where none is).
-#[derive(Drop)]
+#[derive(Clone, Copy)]
 pub struct State {
     pub open: Open,
     pub key: Key,
@@ -27,7 +29,7 @@ pub struct State {
 
 // What is wrong with a record, or with an item of it: the condition that it is reported under, and the place in the record's text, from 1, of
 // the field that is blamed (0: none is).
-#[derive(Drop)]
+#[derive(Clone, Copy)]
 pub struct Fault {
     pub condition: u32,
     pub place: usize,
@@ -73,7 +75,7 @@ pub fn blamed_at(text: &[u8], at: usize, condition: u32) -> Fault
 }
 
 // A record's outcome. Stopped carries condition 0 for ENDDATA, else 91 or 99.
-#[derive(Drop)]
+#[derive(Clone, Copy)]
 pub enum Outcome {
     Blank,
     Passed,
@@ -83,7 +85,7 @@ pub enum Outcome {
 }
 
 // A secondary keyword that is read (§6.3).
-#[derive(Drop)]
+#[derive(Clone, Copy)]
 pub enum Secondary {
     Chan,
     Up,
@@ -93,7 +95,7 @@ pub enum Secondary {
 }
 
 // What a keyword begins: a primary's record, a secondary's, or a basic one.
-#[derive(Drop)]
+#[derive(Clone, Copy)]
 pub enum Family {
     Primary(Kind),
     Augments(Secondary),
@@ -101,7 +103,7 @@ pub enum Family {
 }
 
 // A basic record: one that is read, passed over, skipped with what follows, or unknown.
-#[derive(Drop)]
+#[derive(Clone, Copy)]
 pub enum Basic {
     Ident,
     Clear,
@@ -113,28 +115,28 @@ pub enum Basic {
 }
 
 // A primary's number: its whole number and fraction, or what is wrong with it.
-#[derive(Drop)]
+#[derive(Clone, Copy)]
 pub enum Numeral {
     Wrong(Fault),
     Number(u32, u32),
 }
 
 // A primary's name: its key, or why it is refused.
-#[derive(Drop)]
+#[derive(Clone, Copy)]
 pub enum Named {
     Refused(Fault),
     Name(Key),
 }
 
 // A secondary's fields: the change they ask for, or what is wrong with them.
-#[derive(Drop)]
+#[derive(Clone, Copy)]
 pub enum Reading {
     Wrong(Fault),
     Change(Edit),
 }
 
 // What an item of a record comes to: a channel's level, a dimmer's channel and level, or a fault.
-#[derive(Drop)]
+#[derive(Clone, Copy)]
 pub enum Entry {
     Level(u32, u8),
     Patch(u32, u32, u8),
@@ -142,14 +144,14 @@ pub enum Entry {
 }
 
 // A channel or dimmer: in its range, or the condition that it is reported under.
-#[derive(Drop)]
+#[derive(Clone, Copy)]
 pub enum Ranged {
     Within(u32),
     Wrong(u32),
 }
 
 // How a load names its memories: by the numbers that the stream has; or anew, after how many that it accepted of each kind (C-13).
-#[derive(Drop)]
+#[derive(Clone, Copy)]
 pub struct Numbers {
     pub anew: bool,
     pub cues: u32,
@@ -159,7 +161,7 @@ pub struct Numbers {
 
 // What a load with translation hears of a record beside what it asks for: a primary, accepted or refused, or a LINK that was obeyed, with the
 // number that it asks for.
-#[derive(Drop)]
+#[derive(Clone, Copy)]
 pub enum Heard {
     Other,
     Accepted(Kind),
@@ -168,7 +170,7 @@ pub enum Heard {
 }
 
 // What a load is told as: the count of its reports, stored or not, the four tallies, and the closing number.
-#[derive(Drop)]
+#[derive(Clone, Copy)]
 pub struct Totals {
     pub reports: u32,
     pub blank: u32,

@@ -1,5 +1,7 @@
 // What a load with translation notes of a record beside what the record asks for: how many of each kind were accepted, which CUE records were, and
 // which number each cue's LINK asked for (paper 02, C-13).
+#![tactic(auto)]
+
 ghost use Rattle.std.specs.Prelude.{◌≡◌, true, [], ◌≤◌, ◌<◌, length, get_or, set};
 ghost use Rattle.load.specs.declared.Family.TheVariants.{Primary};
 ghost use Rattle.load.specs.declared.Heard.TheVariants.{Accepted, Refused};

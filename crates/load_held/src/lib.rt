@@ -1,5 +1,7 @@
 // What is open while a stream is loaded, with its slot; how a step answers; and CLEAR, which closes a memory that it removes (paper 01,
 // "Keywords and conditions").
+#![tactic(auto)]
+
 ghost use Rattle.std.specs.Prelude.{◌≡◌, cond, [], ◌≤◌, length};
 ghost use Rattle.store_desk.specs.Name.{KeyFits};
 ghost use Rattle.text_fields.specs.Places.{words_from};
@@ -18,14 +20,14 @@ use text_fields::Item;
 use value::Paged;
 
 // What is open, with the slot where the store keeps it (0 where nothing is open).
-#[derive(Drop)]
+#[derive(Clone, Copy)]
 pub struct Held {
     pub state: State,
     pub slot: usize,
 }
 
 // What a record comes to: what is open after it, its outcome, and how many items it dropped.
-#[derive(Drop)]
+#[derive(Clone, Copy)]
 pub struct Stepped {
     pub held: Held,
     pub outcome: Outcome,
@@ -33,7 +35,7 @@ pub struct Stepped {
 }
 
 // The same of a record that leaves open what was open.
-#[derive(Drop)]
+#[derive(Clone, Copy)]
 pub struct Did {
     pub outcome: Outcome,
     pub faults: usize,

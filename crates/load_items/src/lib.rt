@@ -1,5 +1,7 @@
 // CHAN's pairs and PATCH's triples, item by item (paper 01, "Keywords and conditions", CHAN and PATCH): each is a level to set, a
 // dimmer to patch, or a fault, and the items after it are read all the same.
+#![tactic(auto)]
+
 ghost use Rattle.std.specs.Prelude.{◌≡◌, ◌≤◌, ◌<◌, length};
 ghost use Rattle.text_fields.specs.Places.{words_from};
 ghost use Rattle.text_fields.specs.Tables.{Ended};
@@ -16,14 +18,14 @@ use store_desk::Desk;
 use value_level::Leveled;
 
 // How many fields an item has.
-#[derive(Drop)]
+#[derive(Clone, Copy)]
 enum Group {
     Pair,
     Triple,
 }
 
 // Where items go: the slot of the open memory, or a patch page.
-#[derive(Drop)]
+#[derive(Clone, Copy)]
 pub enum Aim {
     Slot(usize),
     Page(u32),
@@ -45,7 +47,7 @@ const CONDITION_SPAN: u32 = 16384;
 // ---- a field, read in the scan that finds its end
 
 // What a field comes to, and where it ends: a value, or the condition that it is reported under (0: none).
-#[derive(Drop)]
+#[derive(Clone, Copy)]
 struct Read {
     value: u32,
     condition: u32,
@@ -99,7 +101,7 @@ fn ranged(text: &[u8], at: usize, limit: u32, beyond: u32) -> Read
 }
 
 // What a level comes to, and where it ends.
-#[derive(Drop)]
+#[derive(Clone, Copy)]
 struct Lit {
     level: u8,
     condition: u32,
@@ -164,7 +166,7 @@ fn level(text: &[u8], at: usize) -> Lit
 // ---- an item
 
 // An item, and the place where its last field ends.
-#[derive(Drop)]
+#[derive(Clone, Copy)]
 struct Item {
     entry: Entry,
     end: usize,

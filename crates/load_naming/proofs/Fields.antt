@@ -1,4 +1,5 @@
--- The first field from a place on and the others after it, as the code finds them; an optional page. By the laws of fields at a place.
+-- The first field from a place on and the others after it, as the code finds them; an optional page and an optional delay. By the laws
+-- of fields at a place.
 -- Assumes nothing.
 use mathlib.Core.Path.{◌≡◌, sym, ap, ◌∙◌, subst}
 use mathlib.Core.Bool.{Bool, true, false, not}
@@ -17,8 +18,11 @@ use Rattle.text_fields.specs.Tables.{said_at}
 use Rattle.text_fields.proofs.Words.{end_within, words_none, words_some, words_head, words_tail, missing_is, field_fits, said_head}
 use Rattle.value.specs.declared.Paged.{Paged}
 use Rattle.value.specs.declared.Paged.TheVariants.{Value as IsPage}
+use Rattle.value.specs.declared.Timed.{Timed}
+use Rattle.value.specs.declared.Timed.TheVariants.{Value as IsTime}
 use Rattle.value.specs.Field.{page_of}
-use Rattle.load.specs.Ask.{page_at}
+use Rattle.value.specs.Time.{time_of}
+use Rattle.load.specs.Ask.{page_at, delay_of}
 use Rattle.load_naming.specs.Line.{Line, FieldIn}
 
 -- ---- the field that was found
@@ -49,7 +53,7 @@ module _ {text : List ℕ} {f : Field} (h : FieldIn text f) where
       let c : length text ≤ longest = h.short in
       omega arith
 
--- ---- an optional page
+-- ---- an optional page, an optional delay
 module _ (text : List ℕ) (at : ℕ) {f : Field} (e : f ≡ field_at text at) {b : Bool} (m : b ≡ is_missing f) where
   not_more : b ≡ not (is_more text at)
   not_more = m ∙ ap (λ (g : Field). is_missing g) e ∙ missing_is text at
@@ -66,11 +70,19 @@ module _ (text : List ℕ) (at : ℕ) {f : Field} (e : f ≡ field_at text at) {
   unfolding page_at
   page_none other limit t = sym (ap (λ (ws : List Word). page_at other limit ws) (none t))
 
+  pub delay_none : b ≡ true → IsTime 0 ≡ delay_of (words_from text at)
+  unfolding delay_of
+  delay_none t = sym (ap (λ (ws : List Word). delay_of ws) (none t))
+
   pub page_some : (other limit : ℕ) → b ≡ false → {w : List ℕ} {r : Paged}
       → w ≡ (word_in text f).chars → r ≡ page_of limit w → r ≡ page_at other limit (words_from text at)
   unfolding page_at
   page_some other limit t g h =
       h ∙ ap (λ (x : List ℕ). page_of limit x) g ∙ sym (ap (λ (ws : List Word). page_at other limit ws) (some t))
+
+  pub delay_some : b ≡ false → {r : Timed} → r ≡ time_of (word_in text f).chars → r ≡ delay_of (words_from text at)
+  unfolding delay_of
+  delay_some t h = h ∙ sym (ap (λ (ws : List Word). delay_of ws) (some t))
 
 -- ---- a record's first field: its keyword, and the line behind it
 module _ (text : List ℕ) {start : ℕ} (e : start ≡ start_at text 0) {said : Said} (g : said ≡ said_at text start) where

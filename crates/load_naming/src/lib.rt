@@ -1,25 +1,27 @@
 // What a record's fields say before the store is asked: a primary's name, a page, and the change that UP, DOWN, FOLLOWON or LINK asks
 // for (paper 01, "Keywords and conditions").
+#![tactic(auto)]
+
 ghost use Rattle.std.specs.Prelude.{◌≡◌, true, ◌<◌, max};
 ghost use Rattle.store_desk.specs.Size.{InRange};
 ghost use Rattle.store_desk.specs.Name.{supported};
 ghost use Rattle.text_fields.specs.Words.{head_of};
 ghost use Rattle.text_fields.specs.Places.{words_from, word_in};
-ghost use Rattle.text_fields.specs.Tables.{Ended};
 ghost use Rattle.value.specs.Integer.{integer_of};
 ghost use Rattle.value.specs.Number.{number_of, borne_of};
+ghost use Rattle.value.specs.Time.{time_of};
 ghost use Rattle.value.specs.Field.{version_of};
 ghost use Rattle.load.specs.Condition.{full_of, unsupported_of};
 ghost use Rattle.load.specs.Ask.{numbered_by, sub_by, numeral_of, page_at, named_by, named_of, delay_of, times_of, augments as augmentsOf, table_pages, family_of};
 ghost use Rattle.load.specs.Anew.{is_link, last_number, accepted_of, next_key, beyond_of, next_named};
 ghost use Rattle.load.specs.Fits.{highest_page, NumbersFit};
-ghost use Rattle.load_naming.specs.Line.{FieldIn, Line, timed_at};
+ghost use Rattle.load_naming.specs.Line.{FieldIn, Line};
 
 use load::{Basic, Family, Fault, Named, Numbers, Numeral, Reading, Secondary};
 use store::Edit;
 use store_desk::{Desk, Key, Kind};
 use text_fields::{Field, Keyword};
-use value::{Integer, Numbered, Paged, TimeRun, Timed, Version};
+use value::{Integer, Numbered, Paged, Timed, Version};
 
 // The conditions, each number once.
 const FULL_CUES: u32 = 21;
@@ -264,34 +266,23 @@ pub fn borne_at(text: &[u8], at: usize) -> u32
     value::read_borne(text_fields::word(text, f))
 }
 
-// The time that stands at `at`, and where its field ends: read in the one scan that finds its end, and malformed where the field goes on.
-fn time_in(text: &[u8], at: usize) -> TimeRun
-    requires { Line text.now at }
-    ensures { result ≡ timed_at text.now at }
+fn time_in(text: &[u8], f: Field) -> Timed
+    requires { FieldIn text.now f }
+    ensures { result ≡ time_of (word_in text.now f).chars }
 {
-    let t = value::time_at(text, at);
-    let end = t.end;
-    if text_fields::ends(text, end) {
-        return t;
-    }
-    TimeRun {
-        time: Timed::Malformed,
-        end: text_fields::field_end(text, end),
-    }
+    value::read_time(text_fields::word(text, f))
 }
 
 // The optional delay, 0 where there is none.
 fn delay_at(text: &[u8], at: usize) -> Timed
-    requires line { Line text.now at }
-    requires ended { Ended text.now at }
+    requires { Line text.now at }
     ensures { result ≡ delay_of (words_from text.now at) }
 {
-    let start = text_fields::next_field(text, at);
-    if start < text.len() {
-        let t = time_in(text, start);
-        return t.time;
+    let f = text_fields::field_at(text, at);
+    if text_fields::is_missing(f) {
+        return Timed::Value(0);
     }
-    Timed::Value(0)
+    time_in(text, f)
 }
 
 // UP, DOWN: fade, optional delay.
@@ -299,11 +290,10 @@ fn up_at(text: &[u8], at: usize) -> Reading
     requires { Line text.now at }
     ensures { result ≡ times_of Secondary.Up (words_from text.now at) }
 {
-    let t = time_in(text, text_fields::field_start(text, at));
-    let end = t.end;
-    let time = t.time;
-    let Timed::Value(fade) = time else {
-        return Reading::Wrong(load::blamed_at(text, at, BAD_TIME));
+    let f = text_fields::field_at(text, at);
+    let end = f.end;
+    let Timed::Value(fade) = time_in(text, f) else {
+        return Reading::Wrong(load::blamed(f, BAD_TIME));
     };
     let Timed::Value(delay) = delay_at(text, end) else {
         return Reading::Wrong(load::blamed_at(text, end, BAD_TIME));
@@ -315,11 +305,10 @@ fn down_at(text: &[u8], at: usize) -> Reading
     requires { Line text.now at }
     ensures { result ≡ times_of Secondary.Down (words_from text.now at) }
 {
-    let t = time_in(text, text_fields::field_start(text, at));
-    let end = t.end;
-    let time = t.time;
-    let Timed::Value(fade) = time else {
-        return Reading::Wrong(load::blamed_at(text, at, BAD_TIME));
+    let f = text_fields::field_at(text, at);
+    let end = f.end;
+    let Timed::Value(fade) = time_in(text, f) else {
+        return Reading::Wrong(load::blamed(f, BAD_TIME));
     };
     let Timed::Value(delay) = delay_at(text, end) else {
         return Reading::Wrong(load::blamed_at(text, end, BAD_TIME));
@@ -331,12 +320,11 @@ fn followon_at(text: &[u8], at: usize) -> Reading
     requires { Line text.now at }
     ensures { result ≡ times_of Secondary.Followon (words_from text.now at) }
 {
-    let t = time_in(text, text_fields::field_start(text, at));
-    let time = t.time;
-    let Timed::Value(tenths) = time else {
-        return Reading::Wrong(load::blamed_at(text, at, BAD_TIME));
+    let f = text_fields::field_at(text, at);
+    let Timed::Value(time) = time_in(text, f) else {
+        return Reading::Wrong(load::blamed(f, BAD_TIME));
     };
-    Reading::Change(Edit::Followon(tenths))
+    Reading::Change(Edit::Followon(time))
 }
 
 fn link_at(text: &[u8], at: usize) -> Reading

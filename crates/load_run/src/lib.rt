@@ -1,5 +1,7 @@
 // The load: every record of a stream in its turn, until one stops it (paper 01, "Keywords and conditions", ENDDATA; "Reports, tallies,
 // closing number"; §5.3).
+#![tactic(auto)]
+
 ghost use Rattle.std.specs.Prelude.{◌≡◌, ◌-◌, ◌≤◌, length, take, drop};
 ghost use Rattle.store_code.specs.Fits.{Fitting};
 ghost use Rattle.load.specs.Condition.{no_enddata};
@@ -17,7 +19,7 @@ use load_tell::Count;
 use store_desk::Desk;
 
 // How far a load is: what is open, what was counted, and whether a record stopped it.
-#[derive(Drop)]
+#[derive(Clone, Copy)]
 pub struct Progress {
     pub held: Held,
     pub count: Count,

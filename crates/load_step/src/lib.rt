@@ -1,4 +1,6 @@
 // One record's step of the load: what its keyword asks for, done to the store (paper 01, "Keywords and conditions").
+#![tactic(auto)]
+
 ghost use Rattle.std.specs.Prelude.{◌≡◌, true, ◌&&◌, ◌≤◌};
 ghost use Rattle.store_desk.specs.Name.{supported, ok_name};
 ghost use Rattle.text_fields.specs.Words.{words_of, head_of};

@@ -1,5 +1,7 @@
 // What becomes of a record's outcome: the counters of a load, and the reports in the lent list (paper 01, "Reports, tallies, closing
 // number"; §4.2; paper 02, C-11). Every load counts and tells with these.
+#![tactic(auto)]
+
 ghost use Rattle.std.specs.Prelude.{◌≡◌, [], true, ◌||◌, ◌≤◌, ◌<◌, length, set};
 ghost use Rattle.text_records.specs.Received.{longest};
 ghost use Rattle.text_records.specs.Cleaning.{column_of};
@@ -16,7 +18,7 @@ use cells::place;
 use load::{Fault, Outcome, Totals};
 
 // What was read so far: the records and reports, the records of each class, and the last error and warning.
-#[derive(Drop)]
+#[derive(Clone, Copy)]
 pub struct Count {
     pub records: u32,
     pub reports: u32,

@@ -1,22 +1,54 @@
--- The last bearers that the second walk finds are those that the definition tells, of each number that was asked for; and the turns of the loop
--- that finds them. By induction on the numbers that were borne, and on those that were asked for.
+-- The last bearers that the second walk finds are those that the definition tells, wherever a number was asked for; and the turns of the loops
+-- that find them. By induction on the numbers that were borne, and on the slots.
 -- Assumes nothing.
-use mathlib.Core.Path.{◌≡◌, refl, sym, ap, ◌∙◌}
-use mathlib.Core.Bool.{Bool, true, false, cond, not, ◌&&◌}
-use mathlib.Core.List.{List, [], ◌∷◌, ◌++◌}
+use mathlib.Core.Path.{◌≡◌, refl, sym, ap, ◌∙◌, subst}
+use mathlib.Core.Bool.{Bool, true, false, cond, not, ◌&&◌, true≢false}
+use mathlib.Core.List.{List, [], ◌∷◌}
 use Prim.Native.Nat.{ℕ, zero, suc, ◌+◌, ◌-◌, ◌≤◌, ◌<◌}
 use native.Mathlib.Numerals.{add-one}
 use native.Mathlib.Omega.{arith}
 use lib.Dec.{eqb}
-use lib.ListN.{length, get_or, set, take, drop, replicate, length-set, length-replicate, get_or-replicate, get_or-append}
-use lib.Seq.{get_or-set_same, get_or-set_other, get_or-take, length-take-le}
+use lib.ListN.{length, get_or, set, drop, replicate, length-set, length-replicate, get_or-replicate, drop_of_length-le}
+use lib.Seq.{drop-cons, get_or-set_same, get_or-set_other}
 use borrow.Author.Tests.{eqb-true, eq-eqb, ne_eqb}
-use Rattle.cells.proofs.Split.{by_test, by_eq, cond-true, cond-false, cond_ap, same_test}
+use Rattle.cells.proofs.Split.{by_test, by_bool, by_eq, cond-true, cond-false, cond_ap, same_test}
 use Rattle.value.specs.Number.{no_number_of}
 use Rattle.load.specs.Translated.{last_bearer, bearer_of}
-use Rattle.load_translate.specs.Bearing.{bearer_now, met_from, met, found_by}
+use Rattle.load_translate.specs.Bearing.{bearer_now, met_from, met, found_by, sought_by}
+use Rattle.load_translate.specs.Links.{any_asked}
 
--- ---- a number met, and one that was asked for
+-- ---- whether anything was asked for
+module _ (asked : List ℕ) {i : ℕ} (h : i < length asked) where
+  any_at : any_asked (drop i asked) ≡ cond (eqb (get_or asked i 0) 0) (any_asked (drop (i + 1) asked)) true
+  unfolding any_asked
+  any_at =
+      ap any_asked (drop-cons asked i 0 h)
+      ∙ ap (λ (n : ℕ). cond (eqb (get_or asked i 0) 0) (any_asked (drop n asked)) true) (sym (add-one i))
+
+  pub any_hit : (get_or asked i 0 ≡ 0 → ⊥) → any_asked (drop i asked) ≡ true
+  any_hit n = any_at ∙ cond-false (eqb (get_or asked i 0) 0) _ _ (ne_eqb (get_or asked i 0) 0 n)
+
+  pub any_more : get_or asked i 0 ≡ 0 → any_asked (drop i asked) ≡ any_asked (drop (i + 1) asked)
+  any_more e = any_at ∙ cond-true (eqb (get_or asked i 0) 0) _ _ (eq-eqb (get_or asked i 0) 0 e)
+
+pub any_end : (asked : List ℕ) {i : ℕ} → length asked ≤ i → any_asked (drop i asked) ≡ false
+unfolding any_asked
+any_end asked h = ap any_asked (drop_of_length-le asked h)
+
+first_none : (a : ℕ) (r : Bool) → cond (eqb a 0) r true ≡ false → a ≡ 0
+first_none a r e = by_bool (eqb a 0) (λ t. eqb-true a 0 t) (λ t. absurd (true≢false (sym (cond-false (eqb a 0) r true t) ∙ e)))
+
+rest_none : (a : ℕ) (r : Bool) → cond (eqb a 0) r true ≡ false → r ≡ false
+rest_none a r e =
+    by_bool (eqb a 0) (λ t. sym (cond-true (eqb a 0) r true t) ∙ e) (λ t. absurd (true≢false (sym (cond-false (eqb a 0) r true t) ∙ e)))
+
+none_asked : (asked : List ℕ) → any_asked asked ≡ false → (i : ℕ) → get_or asked i 0 ≡ 0
+unfolding any_asked
+none_asked [] e i = refl
+none_asked (a ∷ asked) e zero = first_none a (any_asked asked) e
+none_asked (a ∷ asked) e (suc i) = none_asked asked (rest_none a (any_asked asked) e) i
+
+-- ---- a number met, in one slot
 pub now_borne : (asked m k bearer : ℕ) → asked ≡ m + 1 → k ≡ bearer_now asked m k bearer
 unfolding bearer_now
 now_borne asked m k bearer e = sym (cond-true (eqb asked (m + 1)) k bearer (eq-eqb asked (m + 1) e))
@@ -25,7 +57,7 @@ pub still_borne : (asked m k bearer : ℕ) → (asked ≡ m + 1 → ⊥) → bea
 unfolding bearer_now
 still_borne asked m k bearer e = sym (cond-false (eqb asked (m + 1)) k bearer (ne_eqb asked (m + 1) e))
 
--- ---- and each of them
+-- ---- and slot by slot
 module _ (asked : List ℕ) (m k : ℕ) where
   from_length : (n i : ℕ) (found : List ℕ) → length (met_from asked m k n i found) ≡ length found
   unfolding met_from
@@ -56,7 +88,7 @@ module _ (asked : List ℕ) (m k : ℕ) where
       from_at n (suc i) (set found i (v i)) j (omega arith) (omega arith) (omega arith)
       ∙ ap (bearer_now (get_or asked j 0) m k) (get_or-set_other found i j (v i) 0 e))
 
-  -- the turns of the loop
+  -- the turns of the loop over the slots
   pub meet_start : (found : List ℕ) → met_from asked m k (length found) 0 found ≡ met_from asked m k (length found - 0) 0 found
   meet_start found = let s : length found ≡ length found - 0 = omega arith in ap (λ (z : ℕ). met_from asked m k z 0 found) s
 
@@ -114,19 +146,23 @@ module _ (asked : List ℕ) (i : ℕ) (n : get_or asked i 0 ≡ 0 → ⊥) where
       ∙ ap (λ (z : ℕ). last_bearer (get_or asked i 0 - 1) (k + 1) z bs) (met_at b k found h)
 
 -- ---- what is found is the last bearer
-found-length : (asked : List ℕ) (k : ℕ) (found bs : List ℕ) → length (found_by asked k found bs) ≡ length found
-unfolding found_by
-found-length asked k found [] = refl
-found-length asked k found (b ∷ bs) = found-length asked (k + 1) (met asked b k found) bs ∙ met-length asked b k found
+pub sought_at : (asked bs : List ℕ) (n i : ℕ) → i < n → (get_or asked i 0 ≡ 0 → ⊥)
+    → get_or (sought_by asked (replicate n 0) bs) i 0 ≡ bearer_of (get_or asked i 0) bs
+unfolding sought_by
+sought_at asked bs n i h a =
+    by_bool (any_asked asked)
+    (λ t.
+    ap (λ (z : List ℕ). get_or z i 0) (cond-true (any_asked asked) (found_by asked 1 (replicate n 0) bs) (replicate n 0) t)
+    ∙ found_at asked i a bs 1 (replicate n 0) (subst (λ (k : ℕ). i < k) (sym (length-replicate n 0)) h)
+    ∙ ap (λ (z : ℕ). last_bearer (get_or asked i 0 - 1) 1 z bs) (get_or-replicate n i 0 0 h))
+    (λ t. absurd (a (none_asked asked t i)))
 
--- of the first n of m numbers
-pub bearer_at : (wanted bs : List ℕ) (n m k : ℕ) → n ≤ m → k < n → (get_or wanted k 0 ≡ 0 → ⊥)
-    → get_or (found_by wanted 1 (take n (replicate m 0)) bs ++ drop n (replicate m 0)) k 0 ≡ bearer_of (get_or wanted k 0) bs
-bearer_at wanted bs n m k l h a =
-    let zs : List ℕ = replicate m 0 in
-    let r : length zs ≡ m = length-replicate m 0 in
-    let t : length (take n zs) ≡ n = length-take-le n zs (omega arith) in
-    let q : length (found_by wanted 1 (take n zs) bs) ≡ length (take n zs) = found-length wanted 1 (take n zs) bs in
-    get_or-append (found_by wanted 1 (take n zs) bs) (drop n zs) 0 k (omega arith)
-    ∙ found_at wanted k a bs 1 (take n zs) (omega arith)
-    ∙ ap (λ (z : ℕ). last_bearer (get_or wanted k 0 - 1) 1 z bs) (get_or-take n zs k 0 h ∙ get_or-replicate m k 0 0 (omega arith))
+-- as the code seeks them
+module _ (asked found bs : List ℕ) {b : Bool} (e : b ≡ any_asked asked) where
+  pub sought_some : b ≡ true → {now : List ℕ} → now ≡ found_by asked 1 found bs → now ≡ sought_by asked found bs
+  unfolding sought_by
+  sought_some t q = q ∙ sym (cond-true (any_asked asked) (found_by asked 1 found bs) found (sym e ∙ t))
+
+  pub sought_none : b ≡ false → found ≡ sought_by asked found bs
+  unfolding sought_by
+  sought_none t = sym (cond-false (any_asked asked) (found_by asked 1 found bs) found (sym e ∙ t))

@@ -1,4 +1,3 @@
-pub mod Wanted
 pub mod Bearers
 pub mod Links
 pub mod Marks

@@ -1,18 +1,16 @@
 -- The links as the code makes them are those of the definition, and their reports stand behind the others; the turns of the loop that makes them.
 -- By induction on the slots, and on the reports.
 -- Assumes nothing.
-use mathlib.Core.Path.{◌≡◌, refl, sym, ap, ◌∙◌, subst}
+use mathlib.Core.Path.{◌≡◌, refl, sym, ap, ◌∙◌}
 use mathlib.Core.Bool.{Bool, true, false, cond, not, ◌&&◌}
 use mathlib.Core.List.{List, [], ◌∷◌, ◌++◌, append-nil, append_assoc}
 use Prim.Native.Nat.{ℕ, zero, suc, ◌+◌, ◌-◌, ◌%◌, ◌≤◌, ◌<◌}
 use native.Mathlib.Numerals.{add-one}
 use native.Mathlib.Omega.{arith}
 use lib.Dec.{eqb, ltb, leb}
-use lib.ListN.{length, get_or, take, drop, replicate, length-replicate, replicate-append-replicate}
+use lib.ListN.{length, get_or, replicate, replicate-append-replicate}
 use borrow.Author.Tests.{eqb-false, eq-eqb, ne_eqb, not-true, not-false, lt-ltb, le-ltb, lt-leb, le-leb}
-use Rattle.cells.specs.Note.{noted_from}
-use Rattle.cells.proofs.Noted.{noted_at}
-use Rattle.cells.proofs.Split.{by_test, by_bool, by_eq, by_lt, cond-true, cond-false, and_left}
+use Rattle.cells.proofs.Split.{by_test, by_bool, by_lt, cond-true, cond-false, and_left}
 use Rattle.store_desk.specs.declared.Desk.{Desk}
 use Rattle.store_desk.specs.declared.Key.{Key}
 use Rattle.store_desk.specs.declared.Kind.TheVariants.{Cue}
@@ -35,10 +33,9 @@ use Rattle.load_tell.specs.declared.Count.{Count}
 use Rattle.load_tell.specs.Count.{Told, told, told_as, counted, Reportable}
 use Rattle.load_tell.proofs.Counting.{after, told_one_lem}
 use Rattle.load_tell.proofs.Telling.{none_told}
-use Rattle.load_translate.specs.Bearing.{found_by}
-use Rattle.load_translate.specs.Links.{Links, linking, lead_on, link_on, wanted_from, next_found, links_on, lost_told, linked_by, Losing}
-use Rattle.load_translate.proofs.Wanted.{at_stays, at_goes, wanted_skips, wanted_takes, wanted_few, wanted_some}
-use Rattle.load_translate.proofs.Bearers.{bearer_at}
+use Rattle.load_translate.specs.Bearing.{sought_by}
+use Rattle.load_translate.specs.Links.{Links, linking, lead_on, link_on, links_on, lost_told, linked_by, Losing}
+use Rattle.load_translate.proofs.Bearers.{sought_at}
 
 -- ---- the code's test of a used slot
 pub used_test : {a : Bool} (w u : ℕ) → ltb w u ≡ not a → leb u w ≡ a
@@ -122,93 +119,28 @@ link_fits d n {key} e =
     record { fits = (omega arith, omega arith); channel = tt }
 
 -- ---- all of them
--- the bearers from place j on are those of what the cues asked for
-pub record Borne (bs found : List ℕ) (j : ℕ) (wanted : List ℕ) : Type 0 where
-  pub bearer : (k : ℕ) → k < length wanted → get_or found (j + k) 0 ≡ bearer_of (get_or wanted k 0) bs
-
-module _ (d : Desk) (asked found bs : List ℕ) where
-  borne_first : {a j : ℕ} {rest : List ℕ} → Borne bs found j (a ∷ rest) → get_or found j 0 ≡ bearer_of a bs
-  borne_first {a} {j} h = let e : j ≡ j + 0 = omega arith in ap (λ (k : ℕ). get_or found k 0) e ∙ h.bearer 0 (omega arith)
-
-  borne_rest : {a j : ℕ} {rest : List ℕ} → Borne bs found j (a ∷ rest) → Borne bs found (j + 1) rest
-  borne_rest {a} {j} h =
-      record {
-        bearer =
-            λ k l.
-            let e : j + 1 + k ≡ j + suc k = omega arith in ap (λ (m : ℕ). get_or found m 0) e ∙ h.bearer (suc k) (omega arith);
-      }
-
-  -- behind a slot the bearers are those of what is left
-  borne_next : (n i j : ℕ) → Borne bs found j (wanted_from asked (suc n) i)
-      → Borne bs found (next_found (get_or asked i 0) j) (wanted_from asked n (suc i))
-  borne_next n i j h =
-      by_eq (get_or asked i 0) 0
-      (λ z. subst (λ (m : ℕ). Borne bs found m (wanted_from asked n (suc i))) (at_stays (get_or asked i 0) j z)
-      (subst (Borne bs found j) (wanted_skips asked n i z) h))
-      (λ z. subst (λ (m : ℕ). Borne bs found m (wanted_from asked n (suc i))) (at_goes (get_or asked i 0) j z)
-      (borne_rest (subst (Borne bs found j) (wanted_takes asked n i z) h)))
-
-  links_same : (n i j : ℕ) → Borne bs found j (wanted_from asked n i) → (x : Linked) (y : Told)
-      → links_on d asked found n i j (linked_by x y) ≡ linked_by (links_from d asked bs n i x) y
+module _ (d : Desk) (asked found bs : List ℕ)
+    (h : (i : ℕ) → i < most_cues → (get_or asked i 0 ≡ 0 → ⊥) → get_or found i 0 ≡ bearer_of (get_or asked i 0) bs) where
+  links_same : (n i : ℕ) → i + n ≤ most_cues → (x : Linked) (y : Told)
+      → links_on d asked found n i (linked_by x y) ≡ linked_by (links_from d asked bs n i x) y
   unfolding links_on links_from
-  links_same zero i j h x y = refl
-  links_same (suc n) i j h x y =
-      ap (links_on d asked found n (suc i) (next_found (get_or asked i 0) j))
-      (link_same d i asked bs (λ z. borne_first (subst (Borne bs found j) (wanted_takes asked n i z) h)) x y)
-      ∙ links_same n (suc i) (next_found (get_or asked i 0) j) (borne_next n i j h)
-      (cond (has_asked d asked x.store i) (link_at d i (bearer_of (get_or asked i 0) bs) x) x) y
+  links_same zero i l x y = refl
+  links_same (suc n) i l x y =
+      ap (links_on d asked found n (suc i)) (link_same d i asked bs (h i (omega arith)) x y)
+      ∙ links_same n (suc i) (omega arith) (cond (has_asked d asked x.store i) (link_at d i (bearer_of (get_or asked i 0) bs) x) x) y
 
--- the last bearers that were found are those of what the cues asked for
-found_borne : (asked bs : List ℕ) (cues : ℕ) {wanted found : List ℕ} {n : ℕ} → cues ≤ most_cues → n ≡ length (wanted_from asked cues 0)
-    → wanted ≡ noted_from 0 (replicate most_cues 0) (wanted_from asked cues 0)
-    → found ≡ found_by wanted 1 (take n (replicate most_cues 0)) bs ++ drop n (replicate most_cues 0)
-    → Borne bs found 0 (wanted_from asked cues 0)
-found_borne asked bs cues {wanted} {found} {n} l e w f =
-    let few : length (wanted_from asked cues 0) ≤ cues = wanted_few asked cues 0 in
-    let zs : List ℕ = replicate most_cues 0 in
-    let size : length zs ≡ most_cues = length-replicate {A = ℕ} most_cues 0 in
-    record {
-      bearer =
-          λ k h.
-          let z : 0 + k ≡ k = omega arith in
-          let q : get_or wanted k 0 ≡ get_or (wanted_from asked cues 0) k 0 =
-          ap (λ (x : List ℕ). get_or x k 0) w
-          ∙ ap (λ (i : ℕ). get_or (noted_from 0 zs (wanted_from asked cues 0)) i 0) (sym z)
-          ∙ noted_at 0 zs (wanted_from asked cues 0) k h (omega arith)
-          in
-          (λ i. get_or (f i) (z i) 0)
-          ∙ bearer_at wanted bs n most_cues k (omega arith) (omega arith) (λ o. wanted_some asked cues 0 k h (sym q ∙ o))
-          ∙ ap (λ (a : ℕ). bearer_of a bs) q;
-    }
+  linked_same : d.cues ≤ most_cues → (n : Count) (t reps : List ℕ)
+      → links_on d asked found d.cues 0 (linking n t reps) ≡ linked_by (linked d asked bs t) (told n reps)
+  unfolding linked linked_by lost_told
+  linked_same l n t reps = links_same d.cues 0 (omega arith) (record { store = t; lost = 0 }) (told n reps)
 
-pub found-linked : (d : Desk) (asked bs : List ℕ) {wanted found : List ℕ} {m : ℕ} (n : Count) (t reps : List ℕ) {z : Links} → d.cues ≤ most_cues
-    → m ≡ length (wanted_from asked d.cues 0) → wanted ≡ noted_from 0 (replicate most_cues 0) (wanted_from asked d.cues 0)
-    → found ≡ found_by wanted 1 (take m (replicate most_cues 0)) bs ++ drop m (replicate most_cues 0)
-    → z ≡ links_on d asked found d.cues 0 0 (linking n t reps) → z ≡ linked_by (linked d asked bs t) (told n reps)
-unfolding linked linked_by lost_told
-found-linked d asked bs {wanted} {found} {m} n t reps l e w f g =
-    g
-    ∙ links_same d asked found bs d.cues 0 0 (found_borne asked bs d.cues l e w f) (record { store = t; lost = 0 }) (told n reps)
-
--- where none is wanted, none is linked
-nothing_linked : (d : Desk) (asked bs : List ℕ) (n i : ℕ) (x : Linked) → length (wanted_from asked n i) ≡ 0 → links_from d asked bs n i x ≡ x
-unfolding links_from has_asked
-nothing_linked d asked bs zero i x e = refl
-nothing_linked d asked bs (suc n) i x e =
-    by_eq (get_or asked i 0) 0
-    (λ z.
-    ap (links_from d asked bs n (suc i)) (cond-false _ _ x (sym (not_asked (get_or asked i 0) (is_used (head_at d x.store i)) z)))
-    ∙ nothing_linked d asked bs n (suc i) x (sym (ap length (wanted_skips asked n i z)) ∙ e))
-    (λ z.
-    let l : length (wanted_from asked (suc n) i) ≡ suc (length (wanted_from asked n (suc i))) = ap length (wanted_takes asked n i z) in
-    absurd (omega arith))
-
-pub none_linked : (d : Desk) (asked bs : List ℕ) {m : ℕ} (n : Count) (t reps : List ℕ) → m ≡ length (wanted_from asked d.cues 0) → m ≡ 0
-    → linking n t reps ≡ linked_by (linked d asked bs t) (told n reps)
-unfolding linked linked_by lost_told
-none_linked d asked bs n t reps e z =
-    ap (λ (x : Linked). linked_by x (told n reps))
-    (sym (nothing_linked d asked bs d.cues 0 (record { store = t; lost = 0 }) (sym e ∙ z)))
+-- from the last bearers that were sought
+pub sought_linked : (d : Desk) (asked bs : List ℕ) {found : List ℕ} (n : Count) (t reps : List ℕ) {z : Links} → d.cues ≤ most_cues
+    → found ≡ sought_by asked (replicate most_cues 0) bs → z ≡ links_on d asked found d.cues 0 (linking n t reps)
+    → z ≡ linked_by (linked d asked bs t) (told n reps)
+sought_linked d asked bs {found} n t reps l e f =
+    f
+    ∙ linked_same d asked found bs (λ i h a. ap (λ (z : List ℕ). get_or z i 0) e ∙ sought_at asked bs most_cues i h a) l n t reps
 
 -- ---- the links to no cue, reported behind the others
 module _ (os : List Outcome) (reps : List ℕ) where
@@ -228,13 +160,12 @@ module _ (os : List Outcome) (reps : List ℕ) where
       ∙ ap (λ (z : List Report). after os reps (rs ++ z)) (replicate-append-replicate n 1 q ∙ ap (λ (k : ℕ). replicate k q) (add-one n))
 
 -- ---- the loop over the slots
-pub record SoFar (d : Desk) (asked found : List ℕ) (z : Links) (i j : ℕ) (n : Count) (t reps : List ℕ) : Type 0 where
+pub record SoFar (d : Desk) (asked found : List ℕ) (z : Links) (i : ℕ) (n : Count) (t reps : List ℕ) : Type 0 where
   pub within : i ≤ d.cues
-  pub behind : j ≤ i
   pub fitting : Fitting d t
   pub numbered : n.records ≤ most_records
   pub room : n.reports ≤ most_records + i
-  pub same : links_on d asked found d.cues 0 0 z ≡ links_on d asked found (d.cues - i) i j (linking n t reps)
+  pub same : links_on d asked found d.cues 0 z ≡ links_on d asked found (d.cues - i) i (linking n t reps)
 
 lead_numbers : (d : Desk) (i bearer : ℕ) (z : Links)
     → ((lead_on d i bearer z).told.count.records ≡ z.told.count.records) × ((lead_on d i bearer z).told.count.reports ≤ z.told.count.reports + 1)
@@ -252,35 +183,30 @@ link_numbers d i asked bearer z =
     (not (eqb asked 0) && is_used (head_at d z.store i)) _ _ (λ e. lead_numbers d i bearer z) (λ e. (refl, omega arith))
 
 pub loop_start : (d : Desk) (asked found : List ℕ) {n : Count} {t reps : List ℕ} → Fitting d t → Losing n
-    → SoFar d asked found (linking n t reps) 0 0 n t reps
+    → SoFar d asked found (linking n t reps) 0 n t reps
 loop_start d asked found {n} {t} {reps} f l =
     let r = l.room in
     let s : d.cues ≡ d.cues - 0 = omega arith in
     record {
       within = omega arith;
-      behind = omega arith;
       fitting = f;
       numbered = l.numbered;
       room = omega arith;
-      same = ap (λ (k : ℕ). links_on d asked found k 0 0 (linking n t reps)) s;
+      same = ap (λ (k : ℕ). links_on d asked found k 0 (linking n t reps)) s;
     }
 
-module _ {d : Desk} {asked found : List ℕ} {z : Links} {i j : ℕ} {n : Count} {t reps : List ℕ} (w : SoFar d asked found z i j n t reps) where
+module _ {d : Desk} {asked found : List ℕ} {z : Links} {i : ℕ} {n : Count} {t reps : List ℕ} (w : SoFar d asked found z i n t reps) where
   pub loop_room : i < d.cues → Reportable n bad_number 0
   loop_room h =
       let r = w.room in
       let c = w.fitting.range.cues in
       record { numbered = w.numbered; room = omega arith; small = omega arith; narrow = omega arith }
 
-  next_behind : (a : ℕ) → next_found a j ≤ i + 1
-  unfolding next_found
-  next_behind a = let b = w.behind in by_test (λ (k : ℕ). k ≤ i + 1) (eqb a 0) _ _ (λ e. omega arith) (λ e. omega arith)
-
-  pub loop_turn : {a b k : ℕ} {m : Count} {u us : List ℕ} → i < d.cues → a ≡ get_or asked i 0 → b ≡ get_or found j 0
-      → linking m u us ≡ link_on d i a b (linking n t reps) → length u ≡ length t → k ≡ next_found a j → SoFar d asked found z (i + 1) k m u us
+  pub loop_turn : {a b : ℕ} {m : Count} {u us : List ℕ} → i < d.cues → a ≡ get_or asked i 0 → b ≡ get_or found i 0
+      → linking m u us ≡ link_on d i a b (linking n t reps) → length u ≡ length t → SoFar d asked found z (i + 1) m u us
   unfolding links_on
-  loop_turn {a} {b} {k} {m} {u} {us} h ea eb e l f =
-      let v = link_numbers d i a b (linking n t reps) in
+  loop_turn {a} {b} {m} {u} {us} h ea eb e l =
+      let k = link_numbers d i a b (linking n t reps) in
       let p : m.records ≡ (link_on d i a b (linking n t reps)).told.count.records = ap (λ (y : Links). y.told.count.records) e in
       let q : m.reports ≡ (link_on d i a b (linking n t reps)).told.count.reports = ap (λ (y : Links). y.told.count.reports) e in
       let nn = w.numbered in
@@ -288,21 +214,18 @@ module _ {d : Desk} {asked found : List ℕ} {z : Links} {i j : ℕ} {n : Count}
       let s : d.cues - i ≡ suc (d.cues - (i + 1)) = omega arith in
       record {
         within = omega arith;
-        behind = subst (λ (x : ℕ). x ≤ i + 1) (sym f) (next_behind a);
         fitting = fitting_kept d t u l w.fitting;
         numbered = omega arith;
         room = omega arith;
         same =
             w.same
-            ∙ ap (λ (y : ℕ). links_on d asked found y i j (linking n t reps)) s
-            ∙ (λ o.
-            links_on d asked found (d.cues - (i + 1)) (sym (add-one i) o) (next_found (sym ea o) j)
-            (link_on d i (sym ea o) (sym eb o) (linking n t reps)))
-            ∙ (λ o. links_on d asked found (d.cues - (i + 1)) (i + 1) (sym f o) (sym e o));
+            ∙ ap (λ (y : ℕ). links_on d asked found y i (linking n t reps)) s
+            ∙ (λ j. links_on d asked found (d.cues - (i + 1)) (sym (add-one i) j) (link_on d i (sym ea j) (sym eb j) (linking n t reps)))
+            ∙ ap (links_on d asked found (d.cues - (i + 1)) (i + 1)) (sym e);
       }
 
-  pub loop_end : d.cues ≤ i → linking n t reps ≡ links_on d asked found d.cues 0 0 z
+  pub loop_end : d.cues ≤ i → linking n t reps ≡ links_on d asked found d.cues 0 z
   unfolding links_on
   loop_end h =
       let s : d.cues - i ≡ 0 = omega arith in
-      sym (w.same ∙ ap (λ (y : ℕ). links_on d asked found y i j (linking n t reps)) s)
+      sym (w.same ∙ ap (λ (y : ℕ). links_on d asked found y i (linking n t reps)) s)

@@ -14,6 +14,7 @@ use Rattle.load_hear.specs.Marks.{is_marked}
 use Rattle.load_translate.specs.declared.Bearing.{Bearing}
 use Rattle.load_translate.specs.declared.Bearing.TheVariants.{Other, Cue as Bears}
 use Rattle.load_translate.specs.declared.Seen.{Seen}
+use Rattle.load_translate.specs.Links.{any_asked}
 
 -- ---- a record
 
@@ -45,12 +46,12 @@ marked_bornes ms tried (r ∷ rs) =
     let next = marked_bornes ms (tried + 1) rs in
     on_bearing (bearing_in r) same (λ m. cond (is_marked ms tried) (m ∷ next) next)
 
--- ---- the last bearers so far of the numbers that were asked for: the k-th accepted CUE bears the number m
+-- ---- the last bearers so far of what each slot's cue asked for: the k-th accepted CUE bears the number m
 
 unfoldable pub bearer_now : ℕ → ℕ → ℕ → ℕ → ℕ
 bearer_now asked m k bearer = cond (eqb asked (m + 1)) k bearer
 
--- of n such numbers from i on
+-- of n slots from i on
 unfoldable pub met_from : List ℕ → ℕ → ℕ → ℕ → ℕ → List ℕ → List ℕ
 met_from asked m k zero i found = found
 met_from asked m k (suc n) i found = met_from asked m k n (suc i) (set found i (bearer_now (get_or asked i 0) m k (get_or found i 0)))
@@ -61,6 +62,10 @@ met asked m k found = cond (eqb m no_number_of) found (met_from asked m k (lengt
 unfoldable pub found_by : List ℕ → ℕ → List ℕ → List ℕ → List ℕ
 found_by asked k found [] = found
 found_by asked k found (b ∷ bs) = found_by asked (k + 1) (met asked b k found) bs
+
+-- where nothing was asked for, none is sought
+unfoldable pub sought_by : List ℕ → List ℕ → List ℕ → List ℕ
+sought_by asked found bs = cond (any_asked asked) (found_by asked 1 found bs) found
 
 -- ---- one record, by what it bears
 

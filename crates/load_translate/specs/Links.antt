@@ -1,7 +1,7 @@
 -- The links at the end of the load, as the code makes them: from the last bearer that was found for each slot (paper 02, C-13). No promise above
 -- this crate names these.
 -- Assumes nothing.
-use Rattle.std.specs.Prelude.{cond, not, ◌&&◌, List, [], ◌∷◌, ℕ, zero, suc, ◌+◌, ◌-◌, ◌≤◌, eqb, get_or, set}
+use Rattle.std.specs.Prelude.{Bool, true, false, cond, not, ◌&&◌, List, [], ◌∷◌, ℕ, zero, suc, ◌-◌, ◌≤◌, eqb, get_or}
 use Rattle.store_desk.specs.declared.Desk.{Desk}
 use Rattle.store_desk.specs.declared.Kind.TheVariants.{Cue}
 use Rattle.store.specs.declared.Edit.TheVariants.{Link as SetLink}
@@ -32,24 +32,10 @@ lead_on d i bearer z =
 unfoldable pub link_on : Desk → ℕ → ℕ → ℕ → Links → Links
 link_on d i asked bearer z = cond (not (eqb asked 0) && is_used (head_at d z.store i)) (lead_on d i bearer z) z
 
--- what the cues asked for, moved together: of n cue slots from i on
-unfoldable pub wanted_from : List ℕ → ℕ → ℕ → List ℕ
-wanted_from asked zero i = []
-wanted_from asked (suc n) i =
-    let rest = wanted_from asked n (suc i) in cond (eqb (get_or asked i 0) 0) rest (get_or asked i 0 ∷ rest)
-
--- as the code moves it, slot by slot: one number, and the place of the next; the bearers stand at the same places
-unfoldable pub wanted_at : List ℕ → ℕ → ℕ → List ℕ
-wanted_at wanted at asked = cond (eqb asked 0) wanted (set wanted at asked)
-
-unfoldable pub next_found : ℕ → ℕ → ℕ
-next_found asked at = cond (eqb asked 0) at (at + 1)
-
--- of n cue slots from i on, with the bearers from place j on
-unfoldable pub links_on : Desk → List ℕ → List ℕ → ℕ → ℕ → ℕ → Links → Links
-links_on d asked found zero i j z = z
-links_on d asked found (suc n) i j z =
-    links_on d asked found n (suc i) (next_found (get_or asked i 0) j) (link_on d i (get_or asked i 0) (get_or found j 0) z)
+-- of n cue slots from i on
+unfoldable pub links_on : Desk → List ℕ → List ℕ → ℕ → ℕ → Links → Links
+links_on d asked found zero i z = z
+links_on d asked found (suc n) i z = links_on d asked found n (suc i) (link_on d i (get_or asked i 0) (get_or found i 0) z)
 
 -- ---- the same from the definition: its links to no cue, reported
 unfoldable pub lost_told : ℕ → Told → Told
@@ -58,6 +44,11 @@ lost_told (suc n) y = told_as (lost_told n y) bad_number 0
 
 unfoldable pub linked_by : Linked → Told → Links
 linked_by x y = record { told = lost_told x.lost y; store = x.store }
+
+-- any number asked for
+unfoldable pub any_asked : List ℕ → Bool
+any_asked [] = false
+any_asked (a ∷ asked) = let r = any_asked asked in cond (eqb a 0) r true
 
 -- counters that can take a report for each cue
 pub record Losing (n : Count) : Type 0 where

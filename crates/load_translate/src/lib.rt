@@ -1,7 +1,8 @@
 // The load with translation (paper 02, C-13): the walk of every load with its memories numbered anew; then, where a LINK asked for a number, a
 // second walk that looks for the last cue that bore it; then the links.
-ghost use Rattle.std.specs.Prelude.{◌≡◌, not, ◌&&◌, ◌-◌, ◌≤◌, ◌<◌, eqb, ◌++◌, length, take, drop};
-ghost use Rattle.cells.specs.Note.{noted_from};
+#![tactic(auto)]
+
+ghost use Rattle.std.specs.Prelude.{◌≡◌, not, ◌&&◌, ◌-◌, ◌≤◌, ◌<◌, eqb, length, take, drop};
 ghost use Rattle.text_records.specs.Received.{longest};
 ghost use Rattle.text_records.specs.Stream.{records_of};
 ghost use Rattle.text_fields.specs.Words.{words_of};
@@ -16,22 +17,22 @@ ghost use Rattle.load_naming.specs.Line.{Line};
 ghost use Rattle.load_tell.specs.Count.{told, Reportable};
 ghost use Rattle.load_run.specs.Take.{Spans};
 ghost use Rattle.load_run.specs.Loaded.{run_loaded, loaded_of};
-ghost use Rattle.load_translate.specs.Bearing.{family_bearing, fields_bearing, bearing_in, Bearable, marked_bornes, bearer_now, met_from, found_by, meeting, met_by, Countable};
-ghost use Rattle.load_translate.specs.Links.{linking, link_on, next_found, wanted_at, wanted_from, links_on, linked_by, Losing};
+ghost use Rattle.load_translate.specs.Bearing.{family_bearing, fields_bearing, bearing_in, Bearable, marked_bornes, bearer_now, met_from, found_by, meeting, met_by, Countable, sought_by};
+ghost use Rattle.load_translate.specs.Links.{linking, link_on, links_on, linked_by, any_asked, Losing};
 
 use load::{Family, Totals};
 use load_tell::Count;
 use store_desk::{Desk, Kind};
 
 // What a CUE record bears.
-#[derive(Drop)]
+#[derive(Clone, Copy)]
 enum Bearing {
     Other,
     Cue(u32),
 }
 
 // How many CUE records there were so far, and how many of them were accepted.
-#[derive(Drop)]
+#[derive(Clone, Copy)]
 struct Seen {
     tried: usize,
     cues: u32,
@@ -89,7 +90,7 @@ fn bearing_at(stream: &[u8], at: usize, end: usize, plain: bool) -> Bearing
     text_bearing(&bytes[..n])
 }
 
-// The k-th accepted CUE bears a number: the last bearer, now, of one that was asked for.
+// The k-th accepted CUE bears a number: the last bearer, now, of what the cue of a slot asked for.
 fn bearer_now(asked: u32, number: u32, k: u32, bearer: u32) -> u32
     requires { number < 4294967295 }
     ensures { result ≡ bearer_now asked number k bearer }
@@ -100,7 +101,7 @@ fn bearer_now(asked: u32, number: u32, k: u32, bearer: u32) -> u32
     bearer
 }
 
-// Of each of them.
+// Of every slot.
 fn meet(asked: &[u32], found: &mut [u32], number: u32, k: u32)
     requires found_in_bounds { length found.old ≤ length asked.now }
     requires number_bound { number < 4294967295 }
@@ -162,46 +163,17 @@ fn bear(stream: &[u8], records: u32, marks: &[u8], asked: &[u32], found: &mut [u
 
 // ---- the links
 
-// What was asked for is moved together, and its bearers with it: the place of the next one, behind a slot whose cue asked for this number, and 1.
-fn next_found(asked: u32, at: usize) -> usize
-    requires { at < most_cues }
-    ensures { result ≡ next_found asked at }
+fn any_asked(asked: &[u32]) -> bool
+    ensures { result ≡ any_asked asked.now }
 {
-    if asked == 0 {
-        return at;
-    }
-    at + 1
-}
-
-// The number that a slot's cue asked for goes in at that place.
-fn want(asked: u32, wanted: &mut [u32], at: usize) -> usize
-    requires at_in_bounds { at < length wanted.old }
-    requires at_lt_most_cues { at < most_cues }
-    ensures value { result ≡ next_found asked at }
-    ensures wanted_after { wanted.new ≡ wanted_at wanted.old at asked }
-{
-    if asked == 0 {
-        return at;
-    }
-    wanted[at] = asked;
-    at + 1
-}
-
-// Of the slots of a desk's cues: how many asked.
-fn gather(asked: &[u32], cues: usize, wanted: &mut [u32]) -> usize
-    requires cues_le_most_cues { cues ≤ most_cues }
-    requires asked_len { length asked.now ≡ most_cues }
-    requires wanted_len { length wanted.old ≡ most_cues }
-    ensures value { result ≡ length (wanted_from asked.now cues 0) }
-    ensures wanted_after { wanted.new ≡ noted_from 0 wanted.old (wanted_from asked.now cues 0) }
-{
-    let mut n = 0;
     let mut i = 0;
-    while i < cues {
-        n = want(asked[i], wanted, n);
+    while i < asked.len() {
+        if asked[i] != 0 {
+            return true;
+        }
         i += 1;
     }
-    n
+    false
 }
 
 // A kept cue that asked for a number.
@@ -253,32 +225,31 @@ fn link_all(
     requires asked_len { length asked.now ≡ most_cues }
     requires found_len { length found.now ≡ most_cues }
     requires losing { Losing count }
-    ensures { linking result store.new reports.new ≡ links_on desk asked.now found.now desk.cues 0 0 (linking count store.old reports.old) }
+    ensures { linking result store.new reports.new ≡ links_on desk asked.now found.now desk.cues 0 (linking count store.old reports.old) }
 {
     let cues = desk.cues as usize;
     let mut n = count;
-    let mut at = 0;
     let mut slot = 0;
     while slot < cues {
-        n = link_slot(desk, store, reports, n, slot, asked[slot], found[at]);
-        at = next_found(asked[slot], at);
+        n = link_slot(desk, store, reports, n, slot, asked[slot], found[slot]);
         slot += 1;
     }
     n
 }
 
-// The last bearers of the first n numbers that were asked for.
-fn seek(stream: &[u8], records: u32, marks: &[u8], wanted: &[u32], n: usize, found: &mut [u32])
+// The last bearers are sought where something was asked for.
+fn seek(stream: &[u8], records: u32, marks: &[u8], asked: &[u32], found: &mut [u32])
     requires records_in_bounds { records ≤ length (records_of stream.now) }
     requires stream_len_bound { length stream.now ≤ most_records }
-    requires n_in_bounds { n ≤ length wanted.now }
-    requires n_in_bounds_2 { n ≤ length found.old }
-    ensures { found.new ≡ found_by wanted.now 1 (take n found.old) (marked_bornes marks.now 0 (take records (records_of stream.now))) ++ drop n found.old }
+    requires found_in_bounds { length found.old ≤ length asked.now }
+    ensures { found.new ≡ sought_by asked.now found.old (marked_bornes marks.now 0 (take records (records_of stream.now))) }
 {
-    bear(stream, records, marks, wanted, &mut found[..n])
+    if any_asked(asked) {
+        bear(stream, records, marks, asked, found);
+    }
 }
 
-// The links that the cues asked for, when the load ends. Where none was asked for, no record is looked at again.
+// The links that the cues asked for, when the load ends.
 fn link(
     desk: Desk,
     store: &mut [u8],
@@ -295,13 +266,8 @@ fn link(
     requires records_in_bounds { count.records ≤ length (records_of stream.now) }
     ensures { linking result store.new reports.new ≡ linked_by (linked desk asked.now (marked_bornes marks.now 0 (take count.records (records_of stream.now))) store.old) (told count reports.old) }
 {
-    let mut wanted = [0u32; 600];
-    let n = gather(asked, desk.cues as usize, &mut wanted);
-    if n == 0 {
-        return count;
-    }
     let mut found = [0u32; 600];
-    seek(stream, count.records, marks, &wanted, n, &mut found);
+    seek(stream, count.records, marks, asked, &mut found);
     link_all(desk, store, reports, count, asked, &found)
 }
 

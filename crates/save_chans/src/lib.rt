@@ -1,4 +1,6 @@
 // The CHAN records of a memory (paper 01, "The written stream"): their text, written into a lent output, and its length.
+#![tactic(auto)]
+
 ghost use Rattle.std.specs.Prelude.{◌≡◌, ◌+◌, ◌≤◌, ◌<◌, length, get_or, take, drop};
 ghost use Rattle.cells.specs.Scan.{span};
 ghost use Rattle.text_room.specs.Wrote.{wrote, wrote_at};

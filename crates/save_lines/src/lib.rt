@@ -1,4 +1,6 @@
 // One line of the written stream at a time (paper 01, "The written stream"): its text, written into a lent output, and its length.
+#![tactic(auto)]
+
 ghost use Rattle.std.specs.Prelude.{◌≡◌, [], ◌∷◌, ◌≤◌, ◌<◌, length};
 ghost use Rattle.text_room.specs.Wrote.{wrote, wrote_at};
 ghost use Rattle.save_lines.specs.Line.{crlf, joined, patch_text, patch_line, kind_text, primary_text, delay_text, time_line, link_line, head_lines};

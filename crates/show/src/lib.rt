@@ -1,5 +1,7 @@
 // The public calls (paper 01, "Calls turned away"). None has a `requires`: every desk, store, stream and output gets an answer, and a
 // call that is turned away changes no lent byte; but the word that `look_up` is lent for its answer always has it.
+#![tactic(auto)]
+
 ghost use Rattle.std.specs.Prelude.{◌≡◌, true};
 ghost use Rattle.store_code.specs.Fits.{Fitting};
 ghost use Rattle.store.specs.Form.{form_of, good_form};
@@ -15,28 +17,28 @@ use store_desk::{Desk, Key, Kind, Refusal};
 const MOST_BYTES: usize = 262143;
 
 // A call on a store is let in, or turned away before it begins.
-#[derive(Drop)]
+#[derive(Clone, Copy)]
 pub enum Admission {
     Admitted,
     Away(Refusal),
 }
 
 // What `load` and `translate` answer: R1 to R4c, of `translate` R7 too, or the totals.
-#[derive(Drop)]
+#[derive(Clone, Copy)]
 pub enum Loaded {
     Away(Refusal),
     Done(Totals),
 }
 
 // What `write` answers: R2 to R6, or the length written.
-#[derive(Drop)]
+#[derive(Clone, Copy)]
 pub enum Written {
     Away(Refusal),
     Done(usize),
 }
 
 // What `empty` answers: R2, R3, or that it is done.
-#[derive(Drop)]
+#[derive(Clone, Copy)]
 pub enum Emptied {
     Away(Refusal),
     Done,
@@ -162,7 +164,7 @@ pub fn empty(desk: Desk, store: &mut [u8]) -> Emptied
 }
 
 // Where a cue's levels stand, as a number: for callers that take no part of a slice; or R2 to R4c.
-#[derive(Drop)]
+#[derive(Clone, Copy)]
 pub enum Placed {
     Away(Refusal),
     NotKept,

@@ -3,6 +3,8 @@
 //
 // `memories` tests R2 to R4c. The other three test R2 and R3 only, so that a walk over all memories is linear: of a store that is not in
 // good form they tell the bits as they stand.
+#![tactic(auto)]
+
 ghost use Rattle.std.specs.Prelude.{◌≡◌};
 ghost use Rattle.store_desk.specs.Size.{InRange};
 ghost use Rattle.store.specs.Good.{Ready};
@@ -17,7 +19,7 @@ use store_desk::{Desk, Kind, Refusal};
 use store_head::{Head, Patch};
 
 // What `memories` answers: R2 to R4c, that there is no such kind, or how many are kept.
-#[derive(Drop)]
+#[derive(Clone, Copy)]
 pub enum Listed {
     Away(Refusal),
     NotKept,
@@ -25,7 +27,7 @@ pub enum Listed {
 }
 
 // What `head` answers: R2, R3, that the desk has no such slot, or the values of its head.
-#[derive(Drop)]
+#[derive(Clone, Copy)]
 pub enum Headed {
     Away(Refusal),
     NotKept,
@@ -33,7 +35,7 @@ pub enum Headed {
 }
 
 // What `patch` answers: R2, R3, that the desk has no such dimmer, or the values of its entry.
-#[derive(Drop)]
+#[derive(Clone, Copy)]
 pub enum Patched {
     Away(Refusal),
     NotKept,

@@ -1,5 +1,7 @@
 // What people read beside a show, once for every program: the text of a time, the text of a condition, its severity (paper 01, "The written
 // stream"; Appendix B). A text goes into a lent output; where there is no room for it the answer is R6 with the length needed.
+#![tactic(auto)]
+
 ghost use Rattle.std.specs.Prelude.{◌≡◌, ◌≤◌, length};
 ghost use Rattle.value_written.specs.Text.{time_text};
 ghost use Rattle.show.specs.Calls.{most_bytes};

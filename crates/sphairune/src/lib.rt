@@ -3,6 +3,8 @@
 // is 0, and so out of range where it matters. The answer is one word: 0, or the number of the refusal (R4a, R4b, R4c are 4A, 4B, 4C in
 // hexadecimal) and above its eight bits the place of the slot or patch entry that is out of form, from 1, else 0. A refusal leaves every lent
 // list as it was; but with 6 `sphairune_write` stores the length needed. 255 from `sphairune_find` says that the cue is not kept.
+#![tactic(auto)]
+
 ghost use Rattle.std.specs.Prelude.{◌≡◌, [], ◌∷◌, ◌≤◌, get_or};
 ghost use Rattle.cells.specs.Note.{noted_from};
 ghost use Rattle.sphairune.specs.Calls.{desk_of, exported, replied_in, NeededExport, EmptyExport, LoadExport, TranslateExport, WriteExport, FindExport};

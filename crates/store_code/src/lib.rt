@@ -1,4 +1,6 @@
 // The store's operations on lent bytes (paper 01, "The store"): look-up, start, change, patch, clear, empty.
+#![tactic(auto)]
+
 ghost use Rattle.std.specs.Prelude.{◌≡◌, true, cond, ◌++◌, ◌+◌, ◌-◌, ◌*◌, ◌≤◌, ◌<◌, length, replicate};
 ghost use Rattle.cells.specs.Put.{put};
 ghost use Rattle.cells.specs.Search.{first_from};

@@ -1,11 +1,13 @@
 // The size of a desk (paper 01, "The size of a desk"), the names of its memories, and why a call is turned away.
+#![tactic(auto)]
+
 ghost use Rattle.std.specs.Prelude.{◌≡◌, ◌&&◌, ◌≤◌};
 ghost use Rattle.store_desk.specs.Size.{Within, InRange, in_range_of, is_within, house, level_width, levels_length, slot_length, sub_slots, slots_of, patch_start, entries_of, store_length};
 ghost use Rattle.store_desk.specs.Refusal.{refusal_number, refusal_place, most_places, refusal_word, NeededPromise};
 ghost use Rattle.store_desk.specs.Name.{first_slot, slot_count, pages_of, supported, ok_number, ok_sub, ok_within, ok_page, ok_name, has_slot, has_dimmer, sub_slot, entry_of};
 
 // The nine limits, in the order of the paper's table.
-#[derive(Drop)]
+#[derive(Clone, Copy)]
 pub struct Desk {
     pub channels: u32,
     pub dimmers: u32,
@@ -19,7 +21,7 @@ pub struct Desk {
 }
 
 // The kinds of memory that a primary opens.
-#[derive(Drop)]
+#[derive(Clone, Copy)]
 pub enum Kind {
     Cue,
     Group,
@@ -27,7 +29,7 @@ pub enum Kind {
 }
 
 // What names a memory among those of its kind. A submaster's fraction is 0.
-#[derive(Drop)]
+#[derive(Clone, Copy)]
 pub struct Key {
     pub page: u32,
     pub whole: u32,
@@ -188,7 +190,7 @@ const PLACE_UNIT: u32 = 256;
 
 // Why a call is turned away: paper 01's table "Calls turned away", with C-11's R4a, R4b, R4c in the place of R4, and C-13's R7. R4a to R4c have
 // the place, from 1, of the slot or patch entry that is out of form, R6 the length needed. Every answer of a call holds it.
-#[derive(Drop)]
+#[derive(Clone, Copy)]
 pub enum Refusal {
     R1,
     R2,
@@ -246,7 +248,7 @@ impl Refusal {
 }
 
 // What a desk needs: R2, or the length of its store in bytes.
-#[derive(Drop)]
+#[derive(Clone, Copy)]
 pub enum Needed {
     Away(Refusal),
     Length(usize),

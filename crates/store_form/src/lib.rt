@@ -1,5 +1,7 @@
 // Good form of a store (paper 01, "The store"), and where it is broken (paper 02, C-11): a slot out of form by itself (R4a), a slot that
 // repeats an earlier one (R4b), a patch entry out of form (R4c).
+#![tactic(auto)]
+
 ghost use Rattle.std.specs.Prelude.{◌≡◌, true, ◌&&◌, ◌≤◌, ◌<◌};
 ghost use Rattle.cells.specs.Search.{nowhere, first_from};
 ghost use Rattle.store_desk.specs.Size.{InRange, slots_of, entries_of};

@@ -1,4 +1,6 @@
 // A slot's head and a patch entry: bytes to fields and back (paper 01, "The store").
+#![tactic(auto)]
+
 ghost use Rattle.std.specs.Prelude.{◌≡◌, ◌+◌, ◌≤◌, ◌<◌, length, get_or, drop};
 ghost use Rattle.store_head.specs.Pack.{packed};
 ghost use Rattle.store_head.specs.Layout.{octets, head_values, encode_head, decode_head, patch_values, encode_patch, decode_patch};
@@ -6,7 +8,7 @@ ghost use Rattle.store_head.specs.Fits.{page_span, whole_span, fraction_span, He
 ghost use Rattle.store_head.specs.Words.{first_word, second_word, third_word};
 
 // The fields of a head; the flags are 0 or 1. `rest` is the bits that good form wants zero.
-#[derive(Drop)]
+#[derive(Clone, Copy)]
 pub struct Head {
     pub used: u32,
     pub page: u32,
@@ -27,7 +29,7 @@ pub struct Head {
 }
 
 // The fields of a patch entry. Channel 0 is unpatched.
-#[derive(Drop)]
+#[derive(Clone, Copy)]
 pub struct Patch {
     pub channel: u32,
     pub level: u32,

@@ -1,4 +1,5 @@
 // The fields of a cleaned record, and the words that its keyword and a CLEAR item can be (paper 01, "Records (§5)").
+#![tactic(auto)]
 
 ghost use Rattle.std.specs.Prelude.{◌≡◌, true, ◌+◌, ◌≤◌, ◌<◌, length, drop};
 ghost use Rattle.text_fields.specs.Words.{is_delimiter};
@@ -9,7 +10,7 @@ ghost use Rattle.text_fields.specs.Tables.{letter_of, meaning_by, keyword_by, it
 use cells::byte;
 
 // A field: where it starts and ends in the text. A missing field is empty, at the end of the text.
-#[derive(Drop)]
+#[derive(Clone, Copy)]
 pub struct Field {
     pub start: usize,
     pub end: usize,
@@ -17,7 +18,7 @@ pub struct Field {
 
 // What a keyword can be: the twelve that are read, the five that are passed over, one that begins with one `$`, one that begins
 // with two, and any other.
-#[derive(Drop)]
+#[derive(Clone, Copy)]
 pub enum Keyword {
     Ident,
     Clear,
@@ -42,7 +43,7 @@ pub enum Keyword {
 }
 
 // What CLEAR can be told to clear: the five items, one that begins with `$`, and any other.
-#[derive(Drop)]
+#[derive(Clone, Copy)]
 pub enum Item {
     All,
     Cues,
@@ -168,7 +169,7 @@ fn letter(c: u8) -> u64
 }
 
 // A word's first ten characters as one number, five bits each, so that it is compared at once; and where the word ends.
-#[derive(Drop)]
+#[derive(Clone, Copy)]
 struct Keyed {
     key: u64,
     end: usize,
@@ -336,14 +337,14 @@ fn item_by(k: u64) -> Item
 }
 
 // What a keyword is, and where it ends.
-#[derive(Drop)]
+#[derive(Clone, Copy)]
 pub struct Said {
     pub keyword: Keyword,
     pub end: usize,
 }
 
 // What a CLEAR item is, and where it ends.
-#[derive(Drop)]
+#[derive(Clone, Copy)]
 pub struct SaidItem {
     pub item: Item,
     pub end: usize,

@@ -1,5 +1,6 @@
 // Records of a stream (paper 01, "Records (§5)"): where each one starts and ends, the record as received, and its text without
 // ignored characters and comments.
+#![tactic(auto)]
 
 ghost use Rattle.std.specs.Prelude.{◌≡◌, true, ◌+◌, ◌-◌, ◌≤◌, ◌<◌, max, eqb, length, drop};
 ghost use Rattle.cells.specs.Put.{put};
@@ -18,14 +19,14 @@ const BLOCK: usize = 8;
 
 // A record as received: 80 bytes of the stream from its first character on, and how many characters it has in all. A count above 80 tells
 // an over-long record.
-#[derive(Drop)]
+#[derive(Clone, Copy)]
 pub struct Record {
     pub bytes: [u8; 80],
     pub count: usize,
 }
 
 // A record's text: how many characters it has, and whether the whole record, its comment with it, has an ignored character of each sort.
-#[derive(Drop)]
+#[derive(Clone, Copy)]
 pub struct Cleaned {
     pub count: usize,
     pub high: bool,
@@ -243,7 +244,7 @@ fn is_control(c: u8) -> bool
 }
 
 // Which sorts of ignored characters were seen.
-#[derive(Drop)]
+#[derive(Clone, Copy)]
 struct Seen {
     high: bool,
     control: bool,

@@ -1,4 +1,6 @@
 // Text written into a lent output at a place: the room that it needs, and what is left behind.
+#![tactic(auto)]
+
 ghost use Rattle.std.specs.Prelude.{◌≡◌};
 ghost use Rattle.text_room.specs.Wrote.{wrote, wrote_at};
 ghost use Rattle.text_room.specs.Room.{Room};

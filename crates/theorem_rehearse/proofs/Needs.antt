@@ -25,7 +25,7 @@ use Rattle.text_records.specs.Stream.{is_end, terminated, pieces_in, pieces_of, 
 use Rattle.text_fields.specs.Keywords.{upper, same_text, same_word_of, meaning_of, keyword_rows, keyword_of}
 use Rattle.text_fields.specs.Words.{is_delimiter, words_in, words_of, fields_of}
 use Rattle.value.specs.Field.{paged_of, page_of}
-use Rattle.value.specs.Integer.{digit_of, digits_from_of, run_of, integer_of}
+use Rattle.value.specs.Integer.{digit_of, digits_from, run_of, integer_of}
 use Rattle.value.specs.Number.{numbered_of, number_of}
 use Rattle.value.specs.Parts.{cut_at, decimals_of}
 use Rattle.value_level.specs.Level.{percent_byte, percent_of, hex_byte_of, hex_of, level_of}
@@ -61,7 +61,7 @@ facts : Both larger_full (cue 1 3) 1 (seen false true 0) (seen true false 0)
     × Both more_channels (cue 1 1) 1 (seen false false 1) (seen false false 5)
     × Both neither_larger (cue 2 1) 2 (seen false true 1) (seen false false 0)
     × Both all_hold (cue 1 1) 1 (seen false true 3) (seen false true 3)
-unfolding put span first_from first_slot slot_count pages_of supported eq_key entry_of all_of level_width levels_length slot_length sub_slots slots_of patch_start entries_of store_length encode_head decode_head encode_patch decode_patch total packed unpacked lowest_unused new_seat seat blank_head blank_slot started edit_slot edit_at edited patched emptied slot_at put_slot entry_at put_entry head_at levels_at level_place holds_at find on_found memory_at memory_of patched_to is_high is_control is_mark kept_of has is_end terminated pieces_in pieces_of bare records_of upper same_text same_word_of meaning_of keyword_rows keyword_of is_delimiter words_in words_of fields_of paged_of page_of digit_of digits_from_of run_of integer_of numbered_of number_of cut_at decimals_of percent_byte percent_of hex_byte_of hex_of level_of full_of ranged_of on_ranged on_level pair_of triple_of pairs_of triples_of faults_of done all_done stops run_from load_of all_reports numbered_by numeral_of page_at named_by named_of named_ask primary_ask augments obeyed_ask secondary_ask triples_ask family_ask family_of basic_ask fields_ask ask_of opened_by acted record_step ignored_in outcome_faults reported_of has_full is_kept
+unfolding put span first_from first_slot slot_count pages_of supported eq_key entry_of all_of level_width levels_length slot_length sub_slots slots_of patch_start entries_of store_length encode_head decode_head encode_patch decode_patch total packed unpacked lowest_unused new_seat seat blank_head blank_slot started edit_slot edit_at edited patched emptied slot_at put_slot entry_at put_entry head_at levels_at level_place holds_at find on_found memory_at memory_of patched_to is_high is_control is_mark kept_of has is_end terminated pieces_in pieces_of bare records_of upper same_text same_word_of meaning_of keyword_rows keyword_of is_delimiter words_in words_of fields_of paged_of page_of digit_of digits_from run_of integer_of numbered_of number_of cut_at decimals_of percent_byte percent_of hex_byte_of hex_of level_of full_of ranged_of on_ranged on_level pair_of triple_of pairs_of triples_of faults_of done all_done stops run_from load_of all_reports numbered_by numeral_of page_at named_by named_of named_ask primary_ask augments obeyed_ask secondary_ask triples_ask family_ask family_of basic_ask fields_ask ask_of opened_by acted record_step ignored_in outcome_faults reported_of has_full is_kept
 facts = ((refl, refl), (refl, refl), (refl, refl), (refl, refl), (refl, refl))
 
 within_limits : ok_name smaller_full.small (cue 1 2) ≡ true

@@ -11,7 +11,7 @@ use Rattle.store_desk.specs.declared.Desk.{Desk}
 use Rattle.text_records.specs.Cleaning.{is_high, is_control, is_mark, has, kept_of}
 use Rattle.text_fields.specs.Words.{is_delimiter, words_in, words_of, fields_of}
 use Rattle.text_fields.specs.Keywords.{keyword_of, item_of, item_rows, meaning_of, keyword_rows, same_word_of, same_text, upper}
-use Rattle.value.specs.Integer.{digit_of, digits_from_of, run_of, integer_of}
+use Rattle.value.specs.Integer.{digit_of, digits_from, run_of, integer_of}
 use Rattle.value.specs.Parts.{cut_at}
 use Rattle.value.specs.Field.{versioned_of, version_of}
 use Rattle.load.specs.declared.State.{State}
@@ -29,7 +29,7 @@ use Rattle.theorem_same_show.proofs.Does.{Does}
 
 -- ---- the lines that are always the same
 pub ident_does : (d : Desk) (s : State) (t : List ℕ) → Does d s t (bytes "IDENT 3:0") s t
-unfolding record_step ask_of acted fields_ask family_ask family_of basic_ask ident_outcome fields_of words_of words_in is_delimiter span has kept_of is_high is_control is_mark keyword_of meaning_of keyword_rows same_word_of same_text upper version_of versioned_of integer_of run_of digits_from_of digit_of cut_at ignored_in is_fair
+unfolding record_step ask_of acted fields_ask family_ask family_of basic_ask ident_outcome fields_of words_of words_in is_delimiter span has kept_of is_high is_control is_mark keyword_of meaning_of keyword_rows same_word_of same_text upper version_of versioned_of integer_of run_of digits_from digit_of cut_at ignored_in is_fair
 ident_does d s t = record { fair = refl; quiet = refl; step = refl }
 
 pub clear_does : (d : Desk) (t : List ℕ) → Does d nothing_open t (bytes "CLEAR ALL") nothing_open (wiped d (all_wipes d every_page) t)

@@ -13,7 +13,7 @@ use Rattle.store_desk.specs.declared.Desk.{Desk}
 use Rattle.text_records.specs.Stream.{records_of}
 use Rattle.load.specs.Step.{record_step, reported_of, nothing_open}
 use Rattle.load.specs.Run.{Run, stops, reports_at, run_from, load_of, all_reports}
-use Rattle.theorem_told.specs.Classes.{first_run_of, runs_joined, gone_on}
+use Rattle.theorem_told.specs.Classes.{first_run, runs_joined, gone_on}
 use Rattle.theorem_told.specs.Cut.{EndedBefore, cut_record, broken_off, BrokenSaid}
 use Rattle.theorem_told.proofs.Runs.{run_append, run_read, alone, run_one, gone_none, gone_stopped, gone_joined}
 use Rattle.theorem_told.proofs.Cut.{records_cut, ended_few}
@@ -42,62 +42,62 @@ module _ (d : Desk) (t stream : List ℕ) (k n : ℕ) (so : EndedBefore stream k
   -- the records that ended, and then others
   ended_then : (more : List (List ℕ))
       → run_from d 0 nothing_open t (take n (records_of stream) ++ more)
-      ≡ gone_on d n (first_run_of d t stream n) more
+      ≡ gone_on d n (first_run d t stream n) more
   ended_then more =
       let e : 0 + length (take n (records_of stream)) ≡ n = omega (arith, ended_size) in
       run_append d 0 nothing_open t (take n (records_of stream)) more
-      ∙ ap (λ (m : ℕ). gone_on d m (first_run_of d t stream n) more) e
+      ∙ ap (λ (m : ℕ). gone_on d m (first_run d t stream n) more) e
 
   -- both loads start with the records that ended. The whole one goes on with the others, and the broken one with what there is of one
-  pub whole_load : load_of d t stream ≡ gone_on d n (first_run_of d t stream n) (drop n (records_of stream))
+  pub whole_load : load_of d t stream ≡ gone_on d n (first_run d t stream n) (drop n (records_of stream))
   unfolding load_of
   whole_load =
       ap (λ (rs : List (List ℕ)). run_from d 0 nothing_open t rs) (sym (take-append-drop n (records_of stream)))
       ∙ ended_then (drop n (records_of stream))
 
-  pub broken_load : load_of d t (take k stream) ≡ gone_on d n (first_run_of d t stream n) (cut_record k stream n)
+  pub broken_load : load_of d t (take k stream) ≡ gone_on d n (first_run d t stream n) (cut_record k stream n)
   unfolding load_of
   broken_load =
       ap (λ (rs : List (List ℕ)). run_from d 0 nothing_open t rs) (records_cut stream k n so) ∙ ended_then (cut_record k stream n)
 
   -- no record under way: nothing but the records that ended
-  pub broken_between : cut_record k stream n ≡ [] → load_of d t (take k stream) ≡ first_run_of d t stream n
+  pub broken_between : cut_record k stream n ≡ [] → load_of d t (take k stream) ≡ first_run d t stream n
   broken_between e =
       broken_load
-      ∙ ap (λ (rs : List (List ℕ)). gone_on d n (first_run_of d t stream n) rs) e
-      ∙ gone_none d n (first_run_of d t stream n)
+      ∙ ap (λ (rs : List (List ℕ)). gone_on d n (first_run d t stream n) rs) e
+      ∙ gone_none d n (first_run d t stream n)
 
   -- a record under way: the state after the records that ended, and then that one
-  module _ (r : List ℕ) (e : cut_record k stream n ≡ r ∷ []) (h : (first_run_of d t stream n).stopped ≡ false) where
+  module _ (r : List ℕ) (e : cut_record k stream n ≡ r ∷ []) (h : (first_run d t stream n).stopped ≡ false) where
     broken_joined : load_of d t (take k stream)
-        ≡ runs_joined (first_run_of d t stream n)
-        (alone (n + 1) r (record_step d (first_run_of d t stream n).state r (first_run_of d t stream n).store))
+        ≡ runs_joined (first_run d t stream n)
+        (alone (n + 1) r (record_step d (first_run d t stream n).state r (first_run d t stream n).store))
     broken_joined =
         broken_load
-        ∙ ap (λ (rs : List (List ℕ)). gone_on d n (first_run_of d t stream n) rs) e
-        ∙ gone_joined d n (first_run_of d t stream n) (r ∷ []) h
-        ∙ ap (λ (x : Run). runs_joined (first_run_of d t stream n) x)
-        (run_one d n (first_run_of d t stream n).state (first_run_of d t stream n).store r)
+        ∙ ap (λ (rs : List (List ℕ)). gone_on d n (first_run d t stream n) rs) e
+        ∙ gone_joined d n (first_run d t stream n) (r ∷ []) h
+        ∙ ap (λ (x : Run). runs_joined (first_run d t stream n) x)
+        (run_one d n (first_run d t stream n).state (first_run d t stream n).store r)
 
     pub broken_store : (load_of d t (take k stream)).store
-        ≡ (record_step d (first_run_of d t stream n).state r (first_run_of d t stream n).store).store
+        ≡ (record_step d (first_run d t stream n).state r (first_run d t stream n).store).store
     broken_store = ap (λ (x : Run). x.store) broken_joined
 
     pub broken_reports : (load_of d t (take k stream)).reports
-        ≡ (first_run_of d t stream n).reports
-        ++ reports_at (n + 1) r (reported_of r (record_step d (first_run_of d t stream n).state r (first_run_of d t stream n).store))
+        ≡ (first_run d t stream n).reports
+        ++ reports_at (n + 1) r (reported_of r (record_step d (first_run d t stream n).state r (first_run d t stream n).store))
     broken_reports = ap (λ (x : Run). x.reports) broken_joined
 
     pub broken_stopped : (load_of d t (take k stream)).stopped
-        ≡ stops (record_step d (first_run_of d t stream n).state r (first_run_of d t stream n).store).outcome
+        ≡ stops (record_step d (first_run d t stream n).state r (first_run d t stream n).store).outcome
     broken_stopped = ap (λ (x : Run). x.stopped) broken_joined
 
   -- one of them stopped the load: where the stream broke off makes no difference
-  pub broken_after : (first_run_of d t stream n).stopped ≡ true → load_of d t (take k stream) ≡ load_of d t stream
+  pub broken_after : (first_run d t stream n).stopped ≡ true → load_of d t (take k stream) ≡ load_of d t stream
   broken_after e =
       broken_load
-      ∙ gone_stopped d n (first_run_of d t stream n) (cut_record k stream n) e
-      ∙ sym (gone_stopped d n (first_run_of d t stream n) (drop n (records_of stream)) e)
+      ∙ gone_stopped d n (first_run d t stream n) (cut_record k stream n) e
+      ∙ sym (gone_stopped d n (first_run d t stream n) (drop n (records_of stream)) e)
       ∙ sym whole_load
 
   -- else it is told: 0100 comes last, under the number of the records that ended and of the one that was cut

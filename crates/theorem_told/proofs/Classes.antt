@@ -33,7 +33,7 @@ use Rattle.load.specs.Run.{Run, Class, blank, passed, dropped, obeyed, class_num
 use Rattle.load.specs.Translated.{as_given, step_in}
 use Rattle.load.proofs.Anew.{step_given}
 use Rattle.load.proofs.Told.{OutcomeTold, by_family, over_passed, local_passed, skipped_passed, acted_told, acted-faults}
-use Rattle.theorem_told.specs.Classes.{classes_of, begins, PassedOver, over, local, skipped, ReportedWhole, ClassSaid, OverLongSaid, CleanedAlike, first_run_of, AllSaid}
+use Rattle.theorem_told.specs.Classes.{classes_of, begins, PassedOver, over, local, skipped, ReportedWhole, ClassSaid, OverLongSaid, CleanedAlike, first_run, AllSaid}
 
 -- ---- a class is no other
 abbrev pub Apart : Class → Class → Type 0
@@ -215,7 +215,7 @@ module _ (d : Desk) where
 pub load_said : (d : Desk) (t stream : List ℕ) → AllSaid d t stream
 unfolding load_of classes_of class_of
 load_said d t stream i h =
-    let x = first_run_of d t stream i in
+    let x = first_run d t stream i in
     let r = get_or (records_of stream) i [] in
     record {
       own = get_or-map class_of (run_from d 0 nothing_open t (records_of stream)).outcomes i Blank

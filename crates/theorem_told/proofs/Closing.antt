@@ -24,15 +24,15 @@ module _ (p : ℕ → Bool) where
       ap (λ (x : ℕ). last_of p x rs) (cond-false (p r.condition) r.condition c (h 0 (suc-le-suc zero-le)))
       ∙ last_none c rs (λ j l. h (suc j) (suc-le-suc l))
 
-  last_at_lem : (c : ℕ) (rs : List Report) (k : ℕ) → k < length rs → p (report_at rs k).condition ≡ true
+  last_at : (c : ℕ) (rs : List Report) (k : ℕ) → k < length rs → p (report_at rs k).condition ≡ true
       → ((j : ℕ) → k < j → j < length rs → p (report_at rs j).condition ≡ false) → last_of p c rs ≡ (report_at rs k).condition
   unfolding last_of
-  last_at_lem c [] k g e h = absurd (not-suc-le-zero g)
-  last_at_lem c (r ∷ rs) zero g e h =
+  last_at c [] k g e h = absurd (not-suc-le-zero g)
+  last_at c (r ∷ rs) zero g e h =
       ap (λ (x : ℕ). last_of p x rs) (cond-true (p r.condition) r.condition c e)
       ∙ last_none r.condition rs (λ j l. h (suc j) (suc-le-suc zero-le) (suc-le-suc l))
-  last_at_lem c (r ∷ rs) (suc k) g e h =
-      last_at_lem (cond (p r.condition) r.condition c) rs k (le_of_suc-le-suc g) e (λ j a l. h (suc j) (suc-le-suc a) (suc-le-suc l))
+  last_at c (r ∷ rs) (suc k) g e h =
+      last_at (cond (p r.condition) r.condition c) rs k (le_of_suc-le-suc g) e (λ j a l. h (suc j) (suc-le-suc a) (suc-le-suc l))
 
 -- ---- the closing number
 error_some : (c : ℕ) → is_error c ≡ true → c ≡ 0 → ⊥
@@ -43,7 +43,7 @@ module _ (rs : List Report) where
   closing_error : (k : ℕ) → LastError rs k → closing_of rs ≡ (report_at rs k).condition
   unfolding closing_of
   closing_error k h =
-      let e : last_of is_error 0 rs ≡ (report_at rs k).condition = last_at_lem is_error 0 rs k h.given h.error h.later in
+      let e : last_of is_error 0 rs ≡ (report_at rs k).condition = last_at is_error 0 rs k h.given h.error h.later in
       let z : eqb (report_at rs k).condition 0 ≡ false = ne_eqb (report_at rs k).condition 0 (error_some (report_at rs k).condition h.error) in
       rw (closing_of, e) (cond-false (eqb (report_at rs k).condition 0) (last_of (λ c. not (is_error c)) 0 rs) (report_at rs k).condition z)
 
@@ -52,7 +52,7 @@ module _ (rs : List Report) where
   closing_warning k h l =
       let e : last_of is_error 0 rs ≡ 0 = last_none is_error 0 rs h in
       let w : last_of (λ c. not (is_error c)) 0 rs ≡ (report_at rs k).condition =
-      last_at_lem (λ c. not (is_error c)) 0 rs k (omega arith) (not_of_false _ (h k (omega arith))) (λ j a b. absurd (omega arith)) in
+      last_at (λ c. not (is_error c)) 0 rs k (omega arith) (not_of_false _ (h k (omega arith))) (λ j a b. absurd (omega arith)) in
       rw (closing_of, e, w)
 
   closing_none : rs ≡ [] → closing_of rs ≡ 0

@@ -6,7 +6,7 @@ use mathlib.Core.Bool.{Bool, true, false, cond}
 use mathlib.Core.Logic.{◌↔◌}
 use mathlib.Core.List.{List, [], ◌∷◌, ◌++◌, flatten}
 use Prim.Native.Nat.{ℕ, zero, suc, ◌+◌, ◌-◌, ◌≤◌, ◌<◌, zero-le, suc-le-suc, min}
-use native.Mathlib.Nat.{le_refl, sub_zero, not-suc-le-zero, le_of_suc-le-suc}
+use native.Mathlib.Nat.{le_refl, sub-zero, not-suc-le-zero, le_of_suc-le-suc}
 use native.Mathlib.Omega.{arith}
 use lib.Dec.{eqb, ltb}
 use lib.ListN.{length, get_or, take, drop, length-append, length-take, length-drop, length-map, drop_of_length-le}
@@ -92,7 +92,7 @@ module _ (s : List ℕ) (h : 0 < length s) where
   records_first =
       let e : span is_text s ≡ record_end s 0 = omega arith in
       records_at s {at = 0} {end = span is_text s} {next = piece_length s} h e refl
-      ∙ ap (λ (j : ℕ). take j s ∷ records_of (after_first s)) (sub_zero (span is_text s))
+      ∙ ap (λ (j : ℕ). take j s ∷ records_of (after_first s)) (sub-zero (span is_text s))
 
 -- a stream of text alone is one record, if it has a character
 text_records_lem : (s : List ℕ) → span is_text s ≡ length s → records_of s ≡ if_any s
@@ -201,7 +201,7 @@ module _ (s : List ℕ) (h : 0 < length s) where
   started_zero : (k : ℕ) → started_before k s 0 ≡ take k (take (span is_text s) s)
   unfolding started_before piece_start flatten
   started_zero k =
-      ap (λ (x : List (List ℕ)). take (k - 0) (get_or x 0 [])) (records_first s h) ∙ ap (λ (j : ℕ). take j (take (span is_text s) s)) (sub_zero k)
+      ap (λ (x : List (List ℕ)). take (k - 0) (get_or x 0 [])) (records_first s h) ∙ ap (λ (j : ℕ). take j (take (span is_text s) s)) (sub-zero k)
 
 -- ---- the records of a front
 abbrev CutAt : List ℕ → ℕ → Type 0

@@ -68,18 +68,18 @@ CleanedAlike d s r t = is_over_long r ≡ false → record_step d s r t ≡ reco
 -- ---- of a load
 
 -- the run of the first n records
-abbrev pub first_run_of : Desk → List ℕ → List ℕ → ℕ → Run
-first_run_of d t stream n = run_from d 0 nothing_open t (take n (records_of stream))
+abbrev pub first_run : Desk → List ℕ → List ℕ → ℕ → Run
+first_run d t stream n = run_from d 0 nothing_open t (take n (records_of stream))
 
 -- record i, counted from 0, taken where those before it ended
 abbrev pub step_at : Desk → List ℕ → List ℕ → ℕ → Step
-step_at d t stream i = let x = first_run_of d t stream i in record_step d x.state (get_or (records_of stream) i []) x.store
+step_at d t stream i = let x = first_run d t stream i in record_step d x.state (get_or (records_of stream) i []) x.store
 
 -- the class of record i is that of its own step, of which the above holds
 pub record ReadSaid (d : Desk) (t stream : List ℕ) (i : ℕ) : Type 0 where
   pub own : get_or (classes_of (load_of d t stream)) i blank ≡ class_of (step_at d t stream i).outcome
   pub short : is_over_long (get_or (records_of stream) i []) ≡ false
-      → ClassSaid (first_run_of d t stream i).state (get_or (records_of stream) i []) (step_at d t stream i)
+      → ClassSaid (first_run d t stream i).state (get_or (records_of stream) i []) (step_at d t stream i)
   pub long : is_over_long (get_or (records_of stream) i []) ≡ true → OverLongSaid (get_or (records_of stream) i []) (step_at d t stream i)
 
 -- of each record that is read

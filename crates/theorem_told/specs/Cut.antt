@@ -6,7 +6,7 @@ use Rattle.store_desk.specs.declared.Desk.{Desk}
 use Rattle.text_records.specs.Stream.{pieces_of, records_of}
 use Rattle.load.specs.Condition.{no_enddata}
 use Rattle.load.specs.Run.{Report, load_of, all_reports}
-use Rattle.theorem_told.specs.Classes.{first_run_of, gone_on}
+use Rattle.theorem_told.specs.Classes.{first_run, gone_on}
 
 -- where record i starts: behind the records before it and their terminators
 unfoldable pub piece_start : List ℕ → ℕ → ℕ
@@ -42,8 +42,8 @@ broken_off n = record { number = n; condition = no_enddata; column = 0 }
 -- comes last, under the number of all of them
 pub record BrokenSaid (d : Desk) (t stream : List ℕ) (k n : ℕ) : Type 0 where
   pub records : records_of (take k stream) ≡ take n (records_of stream) ++ cut_record k stream n
-  pub whole : load_of d t stream ≡ gone_on d n (first_run_of d t stream n) (drop n (records_of stream))
-  pub load : load_of d t (take k stream) ≡ gone_on d n (first_run_of d t stream n) (cut_record k stream n)
+  pub whole : load_of d t stream ≡ gone_on d n (first_run d t stream n) (drop n (records_of stream))
+  pub load : load_of d t (take k stream) ≡ gone_on d n (first_run d t stream n) (cut_record k stream n)
   pub told : (load_of d t (take k stream)).stopped ≡ false
       → all_reports (load_of d t (take k stream))
       ≡ (load_of d t (take k stream)).reports ++ (broken_off (n + length (cut_record k stream n)) ∷ [])

@@ -26,7 +26,7 @@ use Rattle.text_fields.specs.Keywords.{upper, same_text, same_word_of, meaning_o
 use Rattle.text_fields.specs.Words.{is_delimiter, words_in, words_of, fields_of, head_of, tail_of}
 use Rattle.value.specs.declared.Number.{Number}
 use Rattle.value.specs.declared.Numbered.TheVariants.{Value as IsNumber}
-use Rattle.value.specs.Integer.{digit_of, digits_from_of, run_of, integer_of}
+use Rattle.value.specs.Integer.{digit_of, digits_from, run_of, integer_of}
 use Rattle.value.specs.Number.{number, numbered_of, number_of, borne_by, borne_of}
 use Rattle.value.specs.Parts.{cut_at, decimals_of}
 use Rattle.load.specs.declared.Basic.TheVariants.{Clear}
@@ -59,7 +59,7 @@ Bears k i =
     ≡ IsNamed (record { page = 1; whole = primaries_in k (take i (records_of stream)) + 1; fraction = 0 })
 
 pub alike_trial : AsNumbered small store stream
-unfolding put span first_from first_slot slot_count pages_of supported eq_kind eq_key all_of level_width levels_length slot_length sub_slots slots_of patch_start entries_of store_length encode_head decode_head total packed unpacked lowest_unused new_seat seat blank_head blank_slot started edit_head with_head edit_slot edit_at edited has_link slot_at put_slot head_at holds_at find on_found is_high is_control is_mark kept_of has is_end terminated pieces_in pieces_of bare records_of upper same_text same_word_of meaning_of keyword_rows keyword_of is_delimiter words_in words_of fields_of digit_of digits_from_of run_of integer_of numbered_of number_of borne_by borne_of cut_at decimals_of numbered_by numeral_of page_at named_by named_of named_ask primary_ask augments link_by times_of change_ask obeyed_ask secondary_ask family_of basic_ask family_ask fields_ask ask_of slot_by opened_by acted record_step stops run_from load_of last_number next_key accepted_of one_more next_named anew_primary_ask is_link links_in is_clear anew_family_ask family_ask_in fields_ask_in ask_in is_obeyed family_heard fields_heard heard_in numbered step_in run_in notes_in asked_at asked_by is_accepted_cue bornes last_bearer has_asked is_primary primaries_in
+unfolding put span first_from first_slot slot_count pages_of supported eq_kind eq_key all_of level_width levels_length slot_length sub_slots slots_of patch_start entries_of store_length encode_head decode_head total packed unpacked lowest_unused new_seat seat blank_head blank_slot started edit_head with_head edit_slot edit_at edited has_link slot_at put_slot head_at holds_at find on_found is_high is_control is_mark kept_of has is_end terminated pieces_in pieces_of bare records_of upper same_text same_word_of meaning_of keyword_rows keyword_of is_delimiter words_in words_of fields_of digit_of digits_from run_of integer_of numbered_of number_of borne_by borne_of cut_at decimals_of numbered_by numeral_of page_at named_by named_of named_ask primary_ask augments link_by times_of change_ask obeyed_ask secondary_ask family_of basic_ask family_ask fields_ask ask_of slot_by opened_by acted record_step stops run_from load_of last_number next_key accepted_of one_more next_named anew_primary_ask is_link links_in is_clear anew_family_ask family_ask_in fields_ask_in ask_in is_obeyed family_heard fields_heard heard_in numbered step_in run_in notes_in asked_at asked_by is_accepted_cue bornes last_bearer has_asked is_primary primaries_in
 alike_trial =
     record {
       named = λ k i l e. named k i (subst (λ (n : ℕ). i < n) read l) e;

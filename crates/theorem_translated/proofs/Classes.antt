@@ -43,7 +43,7 @@ use Rattle.load.proofs.Steps.{step_in_untouched}
 use Rattle.load.proofs.Told.{by_family, acted_told, acted-faults}
 use Rattle.theorem_told.specs.Classes.{classes_of, begins, PassedOver, over, local, skipped, ClassSaid}
 use Rattle.theorem_told.proofs.Classes.{apart, begins_with_lem, some_field, told_class, the_rest, class_said, over_long_said}
-use Rattle.theorem_translated.specs.Numbered.{numbers_by, first_run_of, numbers_at, record_at, AllSaid}
+use Rattle.theorem_translated.specs.Numbered.{numbers_by, first_run, numbers_at, record_at, AllSaid}
 
 -- ---- what is asked for in another way is neither blank nor passed over
 abbrev Neither : Outcome → Type 0
@@ -175,7 +175,7 @@ module _ (d : Desk) where
 pub translated_said : (d : Desk) (t stream : List ℕ) → AllSaid d t stream
 unfolding translated_of classes_of class_of
 translated_said d t stream i h =
-    let x = first_run_of d t stream i in
+    let x = first_run d t stream i in
     let b = numbers_at d t stream i in
     let r = record_at stream i in
     record {

@@ -48,7 +48,7 @@ use Rattle.load.proofs.Deed.{dropped_idles}
 use Rattle.load.proofs.Anew.{next_named_ok}
 use Rattle.load.proofs.Steps.{run_in_ready}
 use Rattle.theorem_told.specs.Classes.{begins}
-use Rattle.theorem_translated.specs.Numbered.{numbers_by, first_run_of, numbers_at, record_at, is_primary, is_accepted, accepted_in, key_at, AllNumbered, AllPrimaries, NotTwice}
+use Rattle.theorem_translated.specs.Numbered.{numbers_by, first_run, numbers_at, record_at, is_primary, is_accepted, accepted_in, key_at, AllNumbered, AllPrimaries, NotTwice}
 
 -- ---- no number twice
 pub not_twice : (d : Desk) (k : Kind) → NotTwice d k
@@ -249,16 +249,16 @@ none_yet Sub m = omega arith
 
 module _ (d : Desk) (t stream : List ℕ) (k : Kind) (i : ℕ) where
   anew_at : (numbers_at d t stream i).anew ≡ true
-  anew_at = numbers_anew (records_of stream) (first_run_of d t stream i).outcomes anew_from_one
+  anew_at = numbers_anew (records_of stream) (first_run d t stream i).outcomes anew_from_one
 
   key_at : next_key d k (accepted_of (numbers_at d t stream i) k) ≡ key_at d t stream k i
   key_at =
-      let os = (first_run_of d t stream i).outcomes in
+      let os = (first_run d t stream i).outcomes in
       ap (next_key d k) (numbers_by_lem k (records_of stream) os anew_from_one refl ∙ none_yet k (accepted_in k (records_of stream) os))
 
 pub translated_numbered : (d : Desk) (t stream : List ℕ) → Ready d t → AllNumbered d t stream
 translated_numbered d t stream ready k i f o =
-    let x = first_run_of d t stream i in
+    let x = first_run d t stream i in
     let b = numbers_at d t stream i in
     let y = record_opens d b x.store k x.state (anew_at d t stream k i) (record_at stream i) f o in
     let r : Ready d x.store = run_in_ready d 0 anew_from_one nothing_open t (take i (records_of stream)) ready in
@@ -275,7 +275,7 @@ translated_numbered d t stream ready k i f o =
 pub translated_primaries : (d : Desk) (t stream : List ℕ) → AllPrimaries d t stream
 unfolding opened_by
 translated_primaries d t stream k i l f =
-    let x = first_run_of d t stream i in
+    let x = first_run d t stream i in
     let b = numbers_at d t stream i in
     let fs = fields_of (record_at stream i) in
     let q = ap (λ (y : Step). y.outcome) (record_primary d b x.store k x.state (anew_at d t stream k i) (record_at stream i) l f) in

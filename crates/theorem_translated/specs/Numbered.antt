@@ -28,8 +28,8 @@ use Rattle.theorem_told.specs.Classes.{classes_of, begins, ClassSaid, OverLongSa
 
 -- ---- record i, counted from 0, taken where those before it ended
 
-abbrev pub first_run_of : Desk → List ℕ → List ℕ → ℕ → Run
-first_run_of d t stream i = run_in d 0 anew_from_one nothing_open t (take i (records_of stream))
+abbrev pub first_run : Desk → List ℕ → List ℕ → ℕ → Run
+first_run d t stream i = run_in d 0 anew_from_one nothing_open t (take i (records_of stream))
 
 -- the numbers after records with these outcomes
 unfoldable pub numbers_by : Numbers → List (List ℕ) → List Outcome → Numbers
@@ -38,20 +38,20 @@ numbers_by b (r ∷ rs) [] = b
 numbers_by b (r ∷ rs) (o ∷ os) = numbers_by (numbered b (heard_in b r o)) rs os
 
 abbrev pub numbers_at : Desk → List ℕ → List ℕ → ℕ → Numbers
-numbers_at d t stream i = numbers_by anew_from_one (records_of stream) (first_run_of d t stream i).outcomes
+numbers_at d t stream i = numbers_by anew_from_one (records_of stream) (first_run d t stream i).outcomes
 
 abbrev pub record_at : List ℕ → ℕ → List ℕ
 record_at stream i = get_or (records_of stream) i []
 
 abbrev pub step_at : Desk → List ℕ → List ℕ → ℕ → Step
-step_at d t stream i = let x = first_run_of d t stream i in step_in d (numbers_at d t stream i) x.state (record_at stream i) x.store
+step_at d t stream i = let x = first_run d t stream i in step_in d (numbers_at d t stream i) x.state (record_at stream i) x.store
 
 -- ---- the class of record i is that of its own step, told as in a normal load; and one that is not obeyed touches nothing
 pub record ReadSaid (d : Desk) (t stream : List ℕ) (i : ℕ) : Type 0 where
   pub own : get_or (classes_of (translated_of d t stream)) i blank ≡ class_of (step_at d t stream i).outcome
-  pub short : is_over_long (record_at stream i) ≡ false → ClassSaid (first_run_of d t stream i).state (record_at stream i) (step_at d t stream i)
+  pub short : is_over_long (record_at stream i) ≡ false → ClassSaid (first_run d t stream i).state (record_at stream i) (step_at d t stream i)
   pub long : is_over_long (record_at stream i) ≡ true → OverLongSaid (record_at stream i) (step_at d t stream i)
-  pub untouched : ((step_at d t stream i).outcome ≡ Obeyed → ⊥) → (step_at d t stream i).store ≡ (first_run_of d t stream i).store
+  pub untouched : ((step_at d t stream i).outcome ≡ Obeyed → ⊥) → (step_at d t stream i).store ≡ (first_run d t stream i).store
 
 -- of each record that is read
 abbrev pub AllSaid : Desk → List ℕ → List ℕ → Type 0
@@ -76,7 +76,7 @@ accepted_in k (r ∷ rs) (o ∷ os) = let n = accepted_in k rs os in cond (is_ac
 
 -- the number of one that comes after as many as were accepted among the first i records: numbers are given without gaps
 abbrev pub key_at : Desk → List ℕ → List ℕ → Kind → ℕ → Key
-key_at d t stream k i = next_key d k (accepted_in k (records_of stream) (first_run_of d t stream i).outcomes)
+key_at d t stream k i = next_key d k (accepted_in k (records_of stream) (first_run d t stream i).outcomes)
 
 -- an accepted primary opens the memory of that number, whatever its fields say, and starts it afresh
 pub record NumberSaid (d : Desk) (t stream : List ℕ) (k : Kind) (i : ℕ) : Type 0 where
@@ -93,9 +93,9 @@ pub record PrimarySaid (d : Desk) (t stream : List ℕ) (k : Kind) (i : ℕ) : T
   pub beyond : supported d k ≡ true → pages_of d k < (key_at d t stream k i).page
       → (step_at d t stream i).outcome ≡ Dropped (beyond_of k (head_of (tail_of (fields_of (record_at stream i)))))
   pub full : supported d k ≡ true → (key_at d t stream k i).page ≤ pages_of d k
-      → seat d (first_run_of d t stream i).store (name k (key_at d t stream k i)) ≡ nowhere → (step_at d t stream i).outcome ≡ Dropped (blame_none (full_of k))
+      → seat d (first_run d t stream i).store (name k (key_at d t stream k i)) ≡ nowhere → (step_at d t stream i).outcome ≡ Dropped (blame_none (full_of k))
   pub accepted : supported d k ≡ true → (key_at d t stream k i).page ≤ pages_of d k
-      → (j : ℕ) → seat d (first_run_of d t stream i).store (name k (key_at d t stream k i)) ≡ at j → (step_at d t stream i).outcome ≡ Obeyed
+      → (j : ℕ) → seat d (first_run d t stream i).store (name k (key_at d t stream k i)) ≡ at j → (step_at d t stream i).outcome ≡ Obeyed
 
 abbrev pub AllPrimaries : Desk → List ℕ → List ℕ → Type 0
 AllPrimaries d t stream =

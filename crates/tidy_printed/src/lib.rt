@@ -1,4 +1,6 @@
 // The lines that `tidy` prints ahead of the written stream, or in its place (paper 01, "The written stream"), written into a lent output.
+#![tactic(auto)]
+
 ghost use Rattle.std.specs.Prelude.{◌≡◌, min};
 ghost use Rattle.text_room.specs.Wrote.{wrote, wrote_at};
 ghost use Rattle.text_room.specs.Room.{Room};

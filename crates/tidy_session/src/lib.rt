@@ -1,5 +1,7 @@
 // What `tidy` prints, as one function on bytes (paper 01, "The written stream", the program `tidy`): the load of its input into an empty
 // house small desk, told, and the show that is kept, written.
+#![tactic(auto)]
+
 ghost use Rattle.std.specs.Prelude.{◌≡◌, ◌++◌, ◌+◌, ◌≤◌, length, replicate};
 ghost use Rattle.store_desk.specs.Size.{house};
 ghost use Rattle.store.specs.Good.{Ready};

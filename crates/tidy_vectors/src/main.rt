@@ -1,5 +1,7 @@
 // Sessions of `tidy` from outside, one after the other: standard input has for each a header line, its name and the length of its input in
 // bytes, and then that input. Prints for each its header line behind `== `, and what `tidy` prints of it. `tools/sessions` makes the files.
+#![tactic(auto)]
+
 ghost use Rattle.std.specs.Prelude.{◌≡◌, ◌<◌, ◌≤◌, length, replicate};
 ghost use Rattle.tidy_vectors.specs.Case.{length_given, case_at};
 
@@ -7,7 +9,7 @@ use libc::{STDIN_FILENO, STDOUT_FILENO};
 use value::Integer;
 
 // Where a session's header line ends, and where its input begins and ends.
-#[derive(Drop)]
+#[derive(Clone, Copy)]
 pub struct Case {
     line: usize,
     body: usize,

@@ -50,17 +50,17 @@ pub decimals_none : (most : ℕ) (s : List ℕ) (n : ℕ) → length s ≤ n →
 unfolding decimals_of
 decimals_none most s n h = cond-false (within n s) (few_of most (after n s)) (Value 0) (le-ltb n (length s) h)
 
-pub decimals_some : (most : ℕ) (s : List ℕ) (n : ℕ) → n < length s → decimals_of most s n ≡ few_of most (after n s)
-unfolding decimals_of
-decimals_some most s n h = cond-true (within n s) (few_of most (after n s)) (Value 0) (lt-ltb n (length s) h)
-
 pub decimals_many : (most : ℕ) (s : List ℕ) (n : ℕ) → n < length s → most < length (after n s) → decimals_of most s n ≡ Malformed
+unfolding decimals_of
 decimals_many most s n h g =
-    decimals_some most s n h ∙ cond-false (leb (length (after n s)) most) (integer_of (after n s)) Malformed (lt-leb (length (after n s)) most g)
+    cond-true (within n s) (few_of most (after n s)) (Value 0) (lt-ltb n (length s) h)
+    ∙ cond-false (leb (length (after n s)) most) (integer_of (after n s)) Malformed (lt-leb (length (after n s)) most g)
 
 pub decimals_few : (most : ℕ) (s : List ℕ) (n : ℕ) → n < length s → length (after n s) ≤ most → decimals_of most s n ≡ integer_of (after n s)
+unfolding decimals_of
 decimals_few most s n h g =
-    decimals_some most s n h ∙ cond-true (leb (length (after n s)) most) (integer_of (after n s)) Malformed (le-leb (length (after n s)) most g)
+    cond-true (within n s) (few_of most (after n s)) (Value 0) (lt-ltb n (length s) h)
+    ∙ cond-true (leb (length (after n s)) most) (integer_of (after n s)) Malformed (le-leb (length (after n s)) most g)
 
 pub decimals_capped : (most : ℕ) (s : List ℕ) (n : ℕ) → AtMost cap (decimals_of most s n)
 decimals_capped most s n =

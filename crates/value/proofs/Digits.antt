@@ -15,7 +15,7 @@ use borrow.Author.Tests.{lt-ltb, le-ltb, le-leb, lt-leb}
 use Rattle.cells.proofs.Split.{by_lt, cond-true, cond-false}
 use Rattle.value.specs.declared.Integer.{Integer}
 use Rattle.value.specs.declared.Integer.TheVariants.{Malformed, Value}
-use Rattle.value.specs.Integer.{cap, digit_of, digits_from_of, run_of, integer_of, AtMost}
+use Rattle.value.specs.Integer.{cap, digit_of, digits_from, run_of, integer_of, AtMost}
 
 -- ---- what a character counts
 pub digit_low : (c : ℕ) → c < 48 → digit_of c ≡ 16
@@ -65,17 +65,17 @@ digit_high c g =
     rw (le-ltb c 48 k, lt-leb c 57 l, le-ltb c 65 m, lt-leb c 70 n, le-ltb c 97 o, lt-leb c 102 g)
 
 -- ---- one digit
-pub digits_nil : (r a : ℕ) → digits_from_of r a [] ≡ Value (min a cap)
-unfolding digits_from_of
+pub digits_nil : (r a : ℕ) → digits_from r a [] ≡ Value (min a cap)
+unfolding digits_from
 digits_nil r a = refl
 
-pub digits_cons : (r a c : ℕ) (s : List ℕ) → digit_of c < r → digits_from_of r a (c ∷ s) ≡ digits_from_of r (a * r + digit_of c) s
-unfolding digits_from_of
-digits_cons r a c s h = cond-true (ltb (digit_of c) r) (digits_from_of r (a * r + digit_of c) s) Malformed (lt-ltb (digit_of c) r h)
+pub digits_cons : (r a c : ℕ) (s : List ℕ) → digit_of c < r → digits_from r a (c ∷ s) ≡ digits_from r (a * r + digit_of c) s
+unfolding digits_from
+digits_cons r a c s h = cond-true (ltb (digit_of c) r) (digits_from r (a * r + digit_of c) s) Malformed (lt-ltb (digit_of c) r h)
 
-pub digits_other : (r a c : ℕ) (s : List ℕ) → r ≤ digit_of c → digits_from_of r a (c ∷ s) ≡ Malformed
-unfolding digits_from_of
-digits_other r a c s h = cond-false (ltb (digit_of c) r) (digits_from_of r (a * r + digit_of c) s) Malformed (le-ltb (digit_of c) r h)
+pub digits_other : (r a c : ℕ) (s : List ℕ) → r ≤ digit_of c → digits_from r a (c ∷ s) ≡ Malformed
+unfolding digits_from
+digits_other r a c s h = cond-false (ltb (digit_of c) r) (digits_from r (a * r + digit_of c) s) Malformed (le-ltb (digit_of c) r h)
 
 -- ---- cutting early changes nothing
 pub cap_step : (r a b d : ℕ) → 0 < r → min a cap ≡ min b cap → min (a * r + d) cap ≡ min (b * r + d) cap
@@ -87,7 +87,7 @@ cap_step r a b d h e =
     let n : b ≤ b * r = le-mul_of_pos_right b h in
     omega arith)
 
-pub digits_cap : (r : ℕ) → 0 < r → (s : List ℕ) (a b : ℕ) → min a cap ≡ min b cap → digits_from_of r a s ≡ digits_from_of r b s
+pub digits_cap : (r : ℕ) → 0 < r → (s : List ℕ) (a b : ℕ) → min a cap ≡ min b cap → digits_from r a s ≡ digits_from r b s
 digits_cap r h [] a b e = digits_nil r a ∙ ap Value e ∙ sym (digits_nil r b)
 digits_cap r h (c ∷ s) a b e =
     by_lt (digit_of c) r
@@ -106,37 +106,37 @@ unfolding run_of
 run_empty r [] e = refl
 run_empty r (c ∷ s) e = absurd (let f : length (c ∷ s) ≡ 0 = e in omega arith)
 
-pub run_start : (r : ℕ) (s : List ℕ) → (length s ≡ 0 → ⊥) → run_of r s ≡ digits_from_of r 0 s
+pub run_start : (r : ℕ) (s : List ℕ) → (length s ≡ 0 → ⊥) → run_of r s ≡ digits_from r 0 s
 unfolding run_of
 run_start r [] f = absurd (f refl)
 run_start r (c ∷ s) f = refl
 
 pub run_turn : (r : ℕ) (s : List ℕ) (i a d v : ℕ)
     → 0 < r → i < length s → d ≡ digit_of (get_or s i 0) → d < r → v ≡ min (a * r + d) cap
-    → digits_from_of r a (drop i s) ≡ digits_from_of r v (drop (i + 1) s)
+    → digits_from r a (drop i s) ≡ digits_from r v (drop (i + 1) s)
 run_turn r s i a d v p h e l q =
     let g : ℕ = digit_of (get_or s i 0) in
     let k : min (a * r + g) cap ≡ min v cap = ap (λ (x : ℕ). min (a * r + x) cap) (sym e) ∙ (let z : min (a * r + d) cap ≡ min v cap = omega arith in z) in
-    ap (λ (z : List ℕ). digits_from_of r a z) (drop-cons s i 0 h)
+    ap (λ (z : List ℕ). digits_from r a z) (drop-cons s i 0 h)
     ∙ digits_cons r a (get_or s i 0) (drop (suc i) s) (subst (λ (x : ℕ). x < r) e l)
     ∙ digits_cap r p (drop (suc i) s) (a * r + g) v k
-    ∙ ap (λ (j : ℕ). digits_from_of r v (drop j s)) (sym (add-one i))
+    ∙ ap (λ (j : ℕ). digits_from r v (drop j s)) (sym (add-one i))
 
-pub run_stop : (r : ℕ) (s : List ℕ) (i a d : ℕ) → i < length s → d ≡ digit_of (get_or s i 0) → r ≤ d → digits_from_of r a (drop i s) ≡ Malformed
+pub run_stop : (r : ℕ) (s : List ℕ) (i a d : ℕ) → i < length s → d ≡ digit_of (get_or s i 0) → r ≤ d → digits_from r a (drop i s) ≡ Malformed
 run_stop r s i a d h e l =
-    ap (λ (z : List ℕ). digits_from_of r a z) (drop-cons s i 0 h)
+    ap (λ (z : List ℕ). digits_from r a z) (drop-cons s i 0 h)
     ∙ digits_other r a (get_or s i 0) (drop (suc i) s) (subst (λ (x : ℕ). r ≤ x) e l)
 
-pub run_end : (r : ℕ) (s : List ℕ) (i a : ℕ) → length s ≤ i → a ≤ cap → digits_from_of r a (drop i s) ≡ Value a
+pub run_end : (r : ℕ) (s : List ℕ) (i a : ℕ) → length s ≤ i → a ≤ cap → digits_from r a (drop i s) ≡ Value a
 run_end r s i a h l =
-    ap (λ (z : List ℕ). digits_from_of r a z) (drop_of_length-le s h) ∙ digits_nil r a
+    ap (λ (z : List ℕ). digits_from r a z) (drop_of_length-le s h) ∙ digits_nil r a
     ∙ ap Value (let e : min a cap ≡ a = omega arith in e)
 
 -- ---- how large
 pub at_most_of : (n : ℕ) {i j : Integer} → i ≡ j → AtMost n j → AtMost n i
 at_most_of n e h = subst (λ (x : Integer). AtMost n x) (sym e) h
 
-digits_capped : (r : ℕ) (s : List ℕ) (a : ℕ) → AtMost cap (digits_from_of r a s)
+digits_capped : (r : ℕ) (s : List ℕ) (a : ℕ) → AtMost cap (digits_from r a s)
 digits_capped r [] a = at_most_of cap (digits_nil r a) (min-le_right a cap)
 digits_capped r (c ∷ s) a =
     by_lt (digit_of c) r
@@ -160,7 +160,7 @@ Under n (Value v) = v < n
 under_of : {n m : ℕ} {i j : Integer} → n ≡ m → i ≡ j → Under m j → Under n i
 under_of {n} {m} {i} {j} q e h = subst (λ (x : Integer). Under n x) (sym e) (subst (λ (k : ℕ). Under k j) (sym q) h)
 
-pub digits_under : (r : ℕ) (s : List ℕ) (a m : ℕ) → a < m → Under (m * r ^ length s) (digits_from_of r a s)
+pub digits_under : (r : ℕ) (s : List ℕ) (a m : ℕ) → a < m → Under (m * r ^ length s) (digits_from r a s)
 digits_under r [] a m h =
     let l : min a cap ≤ a = min-le_left a cap in
     let k : min a cap < m = omega arith in
@@ -178,4 +178,4 @@ unfolding run_of
 run_below r [] e = absurd (let z : ◌≡◌ {A = ℕ} 0 1 = cc in omega arith)
 run_below r (c ∷ s) {v} e =
     subst (λ (i : Integer). Under (r ^ length (c ∷ s)) i) e
-    (under_of {i = digits_from_of r 0 (c ∷ s)} (sym (one-mul (r ^ length (c ∷ s)))) refl (digits_under r (c ∷ s) 0 1 (omega arith)))
+    (under_of {i = digits_from r 0 (c ∷ s)} (sym (one-mul (r ^ length (c ∷ s)))) refl (digits_under r (c ∷ s) 0 1 (omega arith)))

@@ -4,6 +4,4 @@ pub mod Cuts
 pub mod Numbers
 pub mod Wholes
 pub mod Times
-pub mod Clocks
-pub mod Ends
 pub mod Splits

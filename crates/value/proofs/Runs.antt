@@ -20,7 +20,7 @@ use Rattle.cells.proofs.Split.{by_bool, by_lt, by_le, cond-true, cond-false}
 use Rattle.value.specs.declared.Integer.{Integer}
 use Rattle.value.specs.declared.Integer.TheVariants.{Malformed, Value}
 use Rattle.value.specs.declared.DigitRun.{DigitRun}
-use Rattle.value.specs.Integer.{cap, digit_of, digits_from_of, run_of, integer_of}
+use Rattle.value.specs.Integer.{cap, digit_of, digits_from, run_of, integer_of}
 use Rattle.value.specs.Digits.{is_digit, value_from, digits_at}
 use Rattle.value.proofs.Digits.{digit_low, digit_decimal, digit_signs, digit_capital, digit_letters, digit_small, digit_high, digits_nil, digits_cons, digits_other, cap_step, run_empty, run_start, Under, digits_under}
 
@@ -199,20 +199,20 @@ walk_end r text i a h l g =
     walk_last r text i a (ap (λ (z : List ℕ). value_from r a z) (drop_of_length-le text h) ∙ value_nil r a) (span_end (is_digit r) text i h) l g
 
 -- ---- what they make of a field: one that ends with them, one that has none, one that goes on
-digits_exact : (r a : ℕ) (s : List ℕ) → digits_from_of r a (take (span (is_digit r) s) s) ≡ Value (value_from r a s)
+digits_exact : (r a : ℕ) (s : List ℕ) → digits_from r a (take (span (is_digit r) s) s) ≡ Value (value_from r a s)
 digits_exact r a [] =
-    ap (λ (n : ℕ). digits_from_of r a (take n [])) (span_nil (is_digit r)) ∙ digits_nil r a ∙ ap Value (sym (value_nil r a))
+    ap (λ (n : ℕ). digits_from r a (take n [])) (span_nil (is_digit r)) ∙ digits_nil r a ∙ ap Value (sym (value_nil r a))
 digits_exact r a (c ∷ s) =
     by_bool (is_digit r c)
     (λ t.
-    ap (λ (n : ℕ). digits_from_of r a (take n (c ∷ s))) (span_hit (is_digit r) c s t)
+    ap (λ (n : ℕ). digits_from r a (take n (c ∷ s))) (span_hit (is_digit r) c s t)
     ∙ digits_cons r a c (take (span (is_digit r) s) s) (ltb-true (digit_of c) r t)
     ∙ digits_exact r (a * r + digit_of c) s ∙ ap Value (sym (value_hit r a c s t)))
     (λ t.
-    ap (λ (n : ℕ). digits_from_of r a (take n (c ∷ s))) (span_miss (is_digit r) c s t) ∙ digits_nil r a
+    ap (λ (n : ℕ). digits_from r a (take n (c ∷ s))) (span_miss (is_digit r) c s t) ∙ digits_nil r a
     ∙ ap Value (sym (value_miss r a c s t)))
 
-digits_longer : (r a k : ℕ) (s : List ℕ) → span (is_digit r) s < k → k ≤ length s → digits_from_of r a (take k s) ≡ Malformed
+digits_longer : (r a k : ℕ) (s : List ℕ) → span (is_digit r) s < k → k ≤ length s → digits_from r a (take k s) ≡ Malformed
 digits_longer r a zero s h l = absurd (omega arith)
 digits_longer r a (suc k) [] h l = absurd (omega arith)
 digits_longer r a (suc k) (c ∷ s) h l =
@@ -255,7 +255,7 @@ module _ (s : List ℕ) where
 pub value_below : (r : ℕ) (s : List ℕ) → value_from r 0 s < r ^ span (is_digit r) s
 value_below r s =
     let l : length (take (span (is_digit r) s) s) ≡ span (is_digit r) s = length-take-le (span (is_digit r) s) s (span_le (is_digit r) s) in
-    let u : Under (1 * r ^ length (take (span (is_digit r) s) s)) (digits_from_of r 0 (take (span (is_digit r) s) s)) =
+    let u : Under (1 * r ^ length (take (span (is_digit r) s) s)) (digits_from r 0 (take (span (is_digit r) s) s)) =
     digits_under r (take (span (is_digit r) s) s) 0 1 (omega arith) in
     subst (λ (n : ℕ). value_from r 0 s < n) (one-mul (r ^ length (take (span (is_digit r) s) s)) ∙ ap (λ (n : ℕ). r ^ n) l)
     (subst (λ (i : Integer). Under (1 * r ^ length (take (span (is_digit r) s) s)) i) (digits_exact r 0 s) u)

@@ -1,14 +1,15 @@
 -- Times: parts in their ranges, parts joined, one to three of them; how large each can be. By cases on the parts and the tests' facts.
 -- Hypotheses have the form in which a match leaves them.
 -- Assumes nothing.
-use mathlib.Core.Path.{◌≡◌, refl, ap, ◌∙◌}
+use mathlib.Core.Path.{◌≡◌, refl, sym, ap, ◌∙◌, subst}
 use mathlib.Core.List.{List}
-use Prim.Native.Nat.{ℕ, ◌+◌, ◌*◌, ◌<◌, ◌≤◌}
+use Prim.Native.Nat.{ℕ, ◌+◌, ◌-◌, ◌*◌, ◌<◌, ◌≤◌}
 use native.Mathlib.Nat.{mul-le-mul, mul-le-mul_right, le_trans, add-le-add}
 use native.Mathlib.Omega.{arith}
-use lib.ListN.{length, take}
+use lib.ListN.{length, take, drop}
 use borrow.Author.Tests.{lt-ltb, le-ltb}
 use Rattle.cells.proofs.Split.{by_lt, by_le}
+use Rattle.cells.proofs.Put.{tail_is}
 use Rattle.value.specs.declared.Integer.{Integer}
 use Rattle.value.specs.declared.Integer.TheVariants.{Malformed, Value}
 use Rattle.value.specs.declared.Timed.TheVariants.{Malformed as BadTime, Value as IsTime}
@@ -34,14 +35,14 @@ pub part_good : (most : ℕ) {i : Integer} {v : ℕ} → i ≡ Value v → v ≤
 unfolding bounded_of
 part_good most {i} {v} e h = ap (λ (x : Integer). bounded_of most x) e ∙ rw (le-ltb most v h)
 
-pub bounded_most : (most : ℕ) (i : Integer) → AtMost most (bounded_of most i)
-bounded_most most Malformed = at_most_of most (part_malformed most refl) tt
-bounded_most most (Value v) =
+ranged_most : (most : ℕ) (i : Integer) → AtMost most (bounded_of most i)
+ranged_most most Malformed = at_most_of most (part_malformed most refl) tt
+ranged_most most (Value v) =
     by_le v most (λ h. at_most_of most (part_good most refl h) h) (λ h. at_most_of most (part_large most refl h) tt)
 
 pub part_most : (s : List ℕ) → AtMost part_max (part_of s)
 unfolding part_of
-part_most s = bounded_most part_max (integer_of s)
+part_most s = ranged_most part_max (integer_of s)
 
 -- ---- two parts
 pub join_high : {i : Integer} (base : ℕ) (j : Integer) → i ≡ Malformed → join_of i base j ≡ Malformed
@@ -124,6 +125,47 @@ time_good e = ap timed_of e
 pub part_is : (s : List ℕ) {i : Integer} → i ≡ integer_of s → bounded_of part_max i ≡ part_of s
 unfolding part_of
 part_is s e = ap (bounded_of part_max) e
+
+pub part_at_most : (n : ℕ) (s : List ℕ) {i : Integer} → i ≡ part_of s → part_max ≤ n → AtMost n i
+part_at_most n s e h = at_most_of n e (at_most_up (part_of s) (part_most s) h)
+
+pub middle_at_most : (first : Integer) (s : List ℕ) {i j : Integer}
+    → AtMost part_max first → j ≡ part_of s → i ≡ join_of first 60 j → AtMost 10000000 i
+middle_at_most first s {i} {j} h e f =
+    at_most_of 10000000 (f ∙ ap (λ (x : Integer). join_of first 60 x) e)
+    (at_most_up (join_of first 60 (part_of s)) (middle_most first s h) (omega arith))
+
+pub clock_at_most : (s : List ℕ) {i : Integer} → i ≡ clock_of s → AtMost 10000000 i
+clock_at_most s e = at_most_of 10000000 e (at_most_up (clock_of s) (clock_most s) (omega arith))
+
+pub later_one_is : (first : Integer) (s : List ℕ) {n : ℕ} {i : Integer}
+    → n ≡ cut_at colon s → length s ≤ n → i ≡ part_of s → join_of first 60 i ≡ later_of first s
+later_one_is first s e h f =
+    ap (λ (x : Integer). join_of first 60 x) f ∙ sym (later_one first s (subst (λ (k : ℕ). length s ≤ k) e h))
+
+pub later_two_is : (first : Integer) (s : List ℕ) {n : ℕ} {i j k : Integer}
+    → n ≡ cut_at colon s → n < length s → i ≡ part_of (take n s) → j ≡ join_of first 60 i
+    → k ≡ part_of (take (length s - (n + 1)) (drop (n + 1) s)) → join_of j 60 k ≡ later_of first s
+later_two_is first s {n} {i} {j} {k} e h f g l =
+    let t : k ≡ part_of (drop (n + 1) s) = l ∙ ap part_of (tail_is s (n + 1)) in
+    let v : later_of first s
+    ≡ join_of (join_of first 60 (part_of (take (cut_at colon s) s))) 60 (part_of (drop (cut_at colon s + 1) s)) =
+    later_two first s (subst (λ (x : ℕ). x < length s) e h) in
+    cc
+
+pub clock_one_is : (s : List ℕ) {n : ℕ} {i : Integer} → n ≡ cut_at colon s → length s ≤ n → i ≡ part_of (take n s) → i ≡ clock_of s
+clock_one_is s {n} {i} e h f =
+    let v : clock_of s ≡ part_of (take (cut_at colon s) s) = clock_one s (subst (λ (x : ℕ). length s ≤ x) e h) in
+    cc
+
+pub clock_more_is : (s : List ℕ) {n : ℕ} {i j : Integer}
+    → n ≡ cut_at colon s → n < length s → i ≡ part_of (take n s)
+    → j ≡ later_of i (take (length s - (n + 1)) (drop (n + 1) s)) → j ≡ clock_of s
+clock_more_is s {n} {i} {j} e h f g =
+    let t : j ≡ later_of i (drop (n + 1) s) = g ∙ ap (later_of i) (tail_is s (n + 1)) in
+    let v : clock_of s ≡ later_of (part_of (take (cut_at colon s) s)) (drop (cut_at colon s + 1) s) =
+    clock_more s (subst (λ (x : ℕ). x < length s) e h) in
+    cc
 
 pub time_is : (s : List ℕ) {n : ℕ} {i j k : Integer}
     → n ≡ cut_at point s → i ≡ clock_of (take n s) → j ≡ decimals_of tenths_digits s n → k ≡ join_of i 10 j → timed_of k ≡ time_of s

@@ -19,14 +19,14 @@ digit_of c =
     (cond (leb c 102) (c - 87) 16)))))
 
 -- the digits s in radix r, behind the value a of those before them
-unfoldable pub digits_from_of : ℕ → ℕ → List ℕ → Integer
-digits_from_of r a [] = Value (min a cap)
-digits_from_of r a (c ∷ s) = let n = digits_from_of r (a * r + digit_of c) s in cond (ltb (digit_of c) r) n Malformed
+unfoldable pub digits_from : ℕ → ℕ → List ℕ → Integer
+digits_from r a [] = Value (min a cap)
+digits_from r a (c ∷ s) = let n = digits_from r (a * r + digit_of c) s in cond (ltb (digit_of c) r) n Malformed
 
 -- one or more digits
 unfoldable pub run_of : ℕ → List ℕ → Integer
 run_of r [] = Malformed
-run_of r (c ∷ s) = digits_from_of r 0 (c ∷ s)
+run_of r (c ∷ s) = digits_from r 0 (c ∷ s)
 
 -- §7.2
 unfoldable pub integer_of : List ℕ → Integer

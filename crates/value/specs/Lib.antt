@@ -3,5 +3,4 @@ pub mod Digits
 pub mod Parts
 pub mod Number
 pub mod Time
-pub mod Clock
 pub mod Field

@@ -1,15 +1,14 @@
 // Values of fields (§7.2, §7.4, §7.6, §7.7, §8.4): integers, cue numbers, times, versions, pages, each read from a field's characters.
 // Every reader is total: any bytes have an answer. Which condition a malformed value gives is said above this crate.
+#![tactic(auto)]
+
 ghost use Rattle.std.specs.Prelude.{◌≡◌, true, ◌+◌, ◌*◌, ◌<◌, ◌≤◌, min, length};
 ghost use Rattle.value.specs.Integer.{cap, digit_of, run_of, integer_of, AtMost};
 ghost use Rattle.value.specs.Digits.{is_digit, digits_at};
 ghost use Rattle.value.specs.Parts.{point, cut_at, before, decimals_of};
 ghost use Rattle.value.specs.Number.{numbered_of, number_of, borne_by, borne_of};
-ghost use Rattle.value.specs.Time.{part_max, join_of, timed_of};
-ghost use Rattle.value.specs.Clock.{part_by, tenths_by, later_at, clock_at, time_at};
+ghost use Rattle.value.specs.Time.{part_max, part_of, join_of, later_of, clock_of, time_of};
 ghost use Rattle.value.specs.Field.{versioned_of, version_of, page_of};
-
-use cells::byte;
 
 // What a digit run is cut at: above every limit and far below what wraps, so that a long one is too large and nothing else.
 const CAP: u32 = 100_000;
@@ -42,7 +41,7 @@ pub const TENTHS_DIGITS: usize = 1;
 pub const TIME_MAX: u32 = ((PART_MAX * 60 + PART_MAX) * 60 + PART_MAX) * 10 + 9;
 
 // A digit run: one or more digits, its value cut at CAP.
-#[derive(Drop)]
+#[derive(Clone, Copy)]
 pub enum Integer {
     Malformed,
     Value(u32),
@@ -116,7 +115,7 @@ pub fn read_integer(s: &[u8]) -> Integer
 }
 
 // Digits as they stand in a text: their value, cut at CAP, and where they end.
-#[derive(Drop)]
+#[derive(Clone, Copy)]
 pub struct DigitRun {
     pub value: u32,
     pub end: usize,
@@ -219,13 +218,13 @@ fn decimals(s: &[u8], at: usize, most: usize) -> Integer
 }
 
 // A cue, group or link number.
-#[derive(Drop)]
+#[derive(Clone, Copy)]
 pub struct Number {
     pub whole: u32,
     pub fraction: u32,
 }
 
-#[derive(Drop)]
+#[derive(Clone, Copy)]
 pub enum Numbered {
     Malformed,
     TooLarge,
@@ -308,33 +307,17 @@ pub fn read_borne(s: &[u8]) -> u32
     borne(whole, decimals(s, point, FRACTION_DIGITS))
 }
 
-// ---- times, each part read in the one scan that finds its end
-
-// The digits that start at a place as a part of a time: hours, minutes or seconds.
-fn part_by(at: usize, d: DigitRun) -> Integer
-    ensures { result ≡ part_by at d }
+// One part of a time: hours, minutes or seconds.
+fn part(s: &[u8]) -> Integer
+    ensures { result ≡ part_of s.now }
 {
-    if d.end == at {
+    let Integer::Value(v) = read_integer(s) else {
+        return Integer::Malformed;
+    };
+    if PART_MAX < v {
         return Integer::Malformed;
     }
-    if PART_MAX < d.value {
-        return Integer::Malformed;
-    }
-    Integer::Value(d.value)
-}
-
-// And as its tenths.
-fn tenths_by(at: usize, d: DigitRun) -> Integer
-    requires { at ≤ d.end }
-    ensures { result ≡ tenths_by at d }
-{
-    if d.end == at {
-        return Integer::Malformed;
-    }
-    if TENTHS_DIGITS < d.end - at {
-        return Integer::Malformed;
-    }
-    Integer::Value(d.value)
+    Integer::Value(v)
 }
 
 // Two parts, of which the second counts units of which the first has `base` each.
@@ -353,95 +336,51 @@ fn joined(high: Integer, base: u32, low: Integer) -> Integer
     Integer::Value(h * base + l)
 }
 
-// Hours, minutes and seconds as seconds, and where they end.
-#[derive(Drop)]
-struct Clock {
-    seconds: Integer,
-    end: usize,
-}
-
 // The parts after the first colon, one or two of them, behind what stood before it.
-fn later_at(first: Integer, text: &[u8], at: usize) -> Clock
-    requires at_most { AtMost part_max first }
-    requires at_in_bounds { at ≤ length text.now }
-    ensures { result ≡ later_at first text.now at }
+fn later(first: Integer, s: &[u8]) -> Integer
+    requires { AtMost part_max first }
+    ensures { result ≡ later_of first s.now }
 {
-    let d = digits_at(text, at);
-    let both = joined(first, 60, part_by(at, d));
-    let end = d.end;
-    if byte(text, end) != b':' {
-        return Clock { seconds: both, end };
+    let colon = cut(s, b':');
+    if s.len() <= colon {
+        return joined(first, 60, part(s));
     }
-    let behind = end + 1;
-    let last = digits_at(text, behind);
-    Clock {
-        seconds: joined(both, 60, part_by(behind, last)),
-        end: last.end,
-    }
+    let middle = joined(first, 60, part(&s[..colon]));
+    joined(middle, 60, part(&s[colon + 1..]))
 }
 
-fn clock_at(text: &[u8], at: usize) -> Clock
-    requires { at ≤ length text.now }
-    ensures { result ≡ clock_at text.now at }
+// Hours, minutes and seconds as seconds.
+fn clock(s: &[u8]) -> Integer
+    ensures { result ≡ clock_of s.now }
 {
-    let d = digits_at(text, at);
-    let first = part_by(at, d);
-    let end = d.end;
-    if byte(text, end) != b':' {
-        return Clock {
-            seconds: first,
-            end,
-        };
+    let colon = cut(s, b':');
+    let first = part(&s[..colon]);
+    if s.len() <= colon {
+        return first;
     }
-    later_at(first, text, end + 1)
+    later(first, &s[colon + 1..])
 }
 
 // A time in tenths of a second.
-#[derive(Drop)]
+#[derive(Clone, Copy)]
 pub enum Timed {
     Malformed,
     Value(u32),
 }
 
-fn time_by(tenths: Integer) -> Timed
-    ensures { result ≡ timed_of tenths }
+pub fn read_time(s: &[u8]) -> Timed
+    ensures { result ≡ time_of s.now }
 {
-    match tenths {
+    let point = cut(s, b'.');
+    let seconds = clock(&s[..point]);
+    match joined(seconds, 10, decimals(s, point, TENTHS_DIGITS)) {
         Integer::Malformed => Timed::Malformed,
         Integer::Value(t) => Timed::Value(t),
     }
 }
 
-// A time as it stands in a text, and where it ends. A field that goes on there is no time.
-#[derive(Drop)]
-pub struct TimeRun {
-    pub time: Timed,
-    pub end: usize,
-}
-
-pub fn time_at(text: &[u8], at: usize) -> TimeRun
-    requires { at ≤ length text.now }
-    ensures { result ≡ time_at text.now at }
-{
-    let c = clock_at(text, at);
-    let seconds = c.seconds;
-    let end = c.end;
-    if byte(text, end) != b'.' {
-        return TimeRun {
-            time: time_by(joined(seconds, 10, Integer::Value(0))),
-            end,
-        };
-    }
-    let behind = end + 1;
-    let d = digits_at(text, behind);
-    TimeRun {
-        time: time_by(joined(seconds, 10, tenths_by(behind, d))),
-        end: d.end,
-    }
-}
-
 // IDENT's major:minor.
-#[derive(Drop)]
+#[derive(Clone, Copy)]
 pub enum Version {
     Malformed,
     Value(u32, u32),
@@ -470,7 +409,7 @@ pub fn read_version(s: &[u8]) -> Version
     versioned(major, read_integer(&s[colon + 1..]))
 }
 
-#[derive(Drop)]
+#[derive(Clone, Copy)]
 pub enum Paged {
     Bad,
     Value(u32),

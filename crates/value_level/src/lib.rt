@@ -1,5 +1,7 @@
 // Levels (§7.5): a percentage by Table C-2, or hexadecimal digits, read in the scan that finds their end into a byte.
 // The reader is total: any bytes have an answer. Which condition a malformed level gives is said above this crate.
+#![tactic(auto)]
+
 ghost use Rattle.std.specs.Prelude.{◌≡◌, ◌≤◌, length};
 ghost use Rattle.value_level.specs.Level.{percent_byte, byte_percent, is_hex_mark};
 ghost use Rattle.value_level.specs.Run.{percent_leveling, HexFits, hex_by, hex_leveling, leveling_at};
@@ -37,7 +39,7 @@ pub fn byte_percent(level: u8) -> u32
 }
 
 // A level's byte, or in which of the two formats it is malformed.
-#[derive(Drop)]
+#[derive(Clone, Copy)]
 pub enum Leveled {
     NotPercent,
     NotHex,
@@ -45,7 +47,7 @@ pub enum Leveled {
 }
 
 // A level as it stands in a text, and where its characters end.
-#[derive(Drop)]
+#[derive(Clone, Copy)]
 pub struct Leveling {
     pub level: Leveled,
     pub end: usize,

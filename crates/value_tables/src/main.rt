@@ -1,6 +1,8 @@
 // Tables C-1 and C-2 of the standard against the percent table: which entry rests on which, and which on the formula alone.
 // Input: a line for each percentage, of ten characters: the percentage, its cell of Table C-2 and its starred cell of Table C-1,
 // each as the text of document 001 has it, `--` where it has none.
+#![tactic(auto)]
+
 ghost use Rattle.std.specs.Prelude.{◌≡◌, ◌<◌, ◌≤◌, length};
 ghost use Rattle.value.specs.Integer.{run_of};
 ghost use Rattle.value_tables.specs.Says.{says_of};

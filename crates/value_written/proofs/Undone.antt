@@ -16,7 +16,7 @@ use Rattle.value.specs.declared.Numbered.TheVariants.{Value as IsNumber}
 use Rattle.value.specs.declared.Timed.TheVariants.{Value as IsTime}
 use Rattle.value.specs.declared.Paged.TheVariants.{Value as IsPage}
 use Rattle.value_level.specs.declared.Leveled.TheVariants.{Value as IsLevel}
-use Rattle.value.specs.Integer.{cap, digit_of, digits_from_of, run_of, integer_of}
+use Rattle.value.specs.Integer.{cap, digit_of, digits_from, run_of, integer_of}
 use Rattle.value.specs.Parts.{point, colon, is_other}
 use Rattle.value.specs.Number.{whole_max, fraction_digits, fraction_max, number, number_of}
 use Rattle.value.specs.Time.{part_max, tenths_digits, clock_max, time_max, part_of, clock_of, time_of}
@@ -54,14 +54,14 @@ module _ (r : ℕ) (z : 0 < r) (h : r ≤ 16) where
       ∙ ap (λ (x : ℕ). a * r ^ k * r + x) (div-add-mod' n r)
       ∙ ap (λ (x : ℕ). x + n) (mul_assoc a (r ^ k) r ∙ ap (λ (x : ℕ). a * x) (sym (pow-suc r k)))
 
-  digits_read : (k n a : ℕ) (rest : List ℕ) → n < r ^ k → digits_from_of r a (digits_on r k n rest) ≡ digits_from_of r (a * r ^ k + n) rest
+  digits_read : (k n a : ℕ) (rest : List ℕ) → n < r ^ k → digits_from r a (digits_on r k n rest) ≡ digits_from r (a * r ^ k + n) rest
   unfolding digits_on
   digits_read zero n a rest g =
       let b : n < 1 = subst (λ (x : ℕ). n < x) (pow-zero r) g in
       let e : n ≡ 0 = omega arith in
       let f : a * r ^ zero ≡ a = ap (λ (x : ℕ). a * x) (pow-zero r) ∙ mul-one a in
       let q : a ≡ a * r ^ zero + n = omega arith in
-      ap (λ (x : ℕ). digits_from_of r x rest) q
+      ap (λ (x : ℕ). digits_from r x rest) q
   digits_read (suc k) n a rest g =
       let m : n % r < r = mod-lt n z in
       let l : n % r < 16 = omega arith in
@@ -69,8 +69,8 @@ module _ (r : ℕ) (z : 0 < r) (h : r ≤ 16) where
       let b : n / r < r ^ k = (div-lt_iff_lt-mul z).1 (subst (λ (x : ℕ). n < x) (pow-suc r k) g) in
       digits_read k (n / r) a (digit_char (n % r) ∷ rest) b
       ∙ digits_cons r (a * r ^ k + n / r) (digit_char (n % r)) rest (subst (λ (x : ℕ). x < r) (sym c) m)
-      ∙ ap (λ (x : ℕ). digits_from_of r ((a * r ^ k + n / r) * r + x) rest) c
-      ∙ ap (λ (x : ℕ). digits_from_of r x rest) (value_step a n k)
+      ∙ ap (λ (x : ℕ). digits_from r ((a * r ^ k + n / r) * r + x) rest) c
+      ∙ ap (λ (x : ℕ). digits_from r x rest) (value_step a n k)
 
   -- a run of k digits has its number
   pub run_read : (k n : ℕ) → 0 < k → n < r ^ k → n ≤ cap → run_of r (digits_text r k n) ≡ Value n
@@ -80,7 +80,7 @@ module _ (r : ℕ) (z : 0 < r) (h : r ≤ 16) where
       let f : min n cap ≡ n = omega arith in
       run_start r (digits_text r k n) (λ (q : length (digits_text r k n) ≡ 0). omega arith)
       ∙ digits_read k n 0 [] g
-      ∙ ap (λ (x : ℕ). digits_from_of r x []) e ∙ digits_nil r n ∙ ap Value f
+      ∙ ap (λ (x : ℕ). digits_from r x []) e ∙ digits_nil r n ∙ ap Value f
 
 -- ---- integers
 pub fixed_read : (k n : ℕ) → 0 < k → n < 10 ^ k → n ≤ cap → integer_of (digits_text 10 k n) ≡ Value n

@@ -1,4 +1,6 @@
 // Values written (paper 01, "The written stream"): integers, numbers, levels, times, each with its length, into a part of a lent output.
+#![tactic(auto)]
+
 ghost use Rattle.std.specs.Prelude.{◌≡◌, ◌+◌, ◌<◌, ◌≤◌, length};
 ghost use Rattle.value_written.specs.Text.{digit_char, digits_text, integer_text, fraction_text, number_text, level_text, part_text, whole_in, left_by, clock_text, time_text, marked_text};
 ghost use Rattle.text_room.specs.Room.{Room};

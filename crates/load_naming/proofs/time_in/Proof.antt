@@ -1,30 +1,19 @@
--- `time_in` meets its contract: the field ends with the time, or goes on.
+-- `time_in` meets its contract.
 -- Assumes nothing.
-use Rattle.load_naming.proofs.Times.{timed_inside, timed_whole, timed_longer}
+use mathlib.Core.Path.{◌∙◌, ap}
+use Rattle.value.specs.Time.{time_of}
 use borrow.Author.Rules.{rules}
 use Rattle.load_naming.proofs.time_in.Statement.{statement}
 use Rattle.load_naming.proofs.time_in.Tie as tie
 
-time-at-requires : tie.Need-time-at-requires
-time-at-requires c κs = search rules
+word-requires : tie.Need-word-requires
+word-requires c κs = search rules
 
-ends-requires : tie.Need-ends-requires
-ends-requires c κs = search rules
+read-time-requires : tie.Need-read-time-requires
+read-time-requires c κs = search rules
 
 returns : tie.Need-returns
-returns c =
-    let t = c.before.before in
-    timed_whole _ _ t.before.before.requires.within t.time-at.ensures c.before.ends.ensures c.if1.true
-
-field-end-requires : tie.Need-field-end-requires
-field-end-requires c κs = let t = c.before.before in timed_inside _ _ t.before.before.requires.within t.time-at.ensures
-
-returns-2 : tie.Need-returns-2
-returns-2 c =
-    let e = c.before.before in
-    let t = e.before in
-    timed_longer _ _ t.before.before.requires.within t.time-at.ensures e.ends.ensures c.before.if1.false c.field-end.ensures
+returns c = c.read-time.ensures ∙ ap time_of c.before.word.ensures
 
 pub time-in-spec : {M : Type 1} → statement M
-time-in-spec =
-    tie.close (tie.spec time-at-requires ends-requires returns field-end-requires returns-2)
+time-in-spec = tie.close (tie.spec word-requires read-time-requires returns)

@@ -11,12 +11,12 @@ use Rattle.load_translate.proofs.link_all.Statement.{statement}
 use Rattle.load_translate.proofs.link_all.Tie as tie
 
 abbrev invariant-loop : tie.invariant-loop
-invariant-loop desk store₀ reports₀ asked found cues n₀ at₀ i₀ store reports n at i =
+invariant-loop desk store₀ reports₀ asked found cues n₀ i₀ store reports n i =
     (cues ≡ desk.cues) × (length store ≡ length store₀) × (length reports ≡ length reports₀)
-    × SoFar desk asked found (linking n₀ store₀ reports₀) i at n store reports
+    × SoFar desk asked found (linking n₀ store₀ reports₀) i n store reports
 
 abbrev decreases-loop : tie.decreases-loop
-decreases-loop desk store₀ reports₀ asked found cues n₀ at₀ i₀ store reports n at i = cues - i
+decreases-loop desk store₀ reports₀ asked found cues n₀ i₀ store reports n i = cues - i
 
 -- the code's number of cues is the desk's
 below : {i n m : ℕ} → i < n → n ≡ m → i < m
@@ -24,10 +24,6 @@ below h e = omega arith
 
 over : {i n m : ℕ} → n ≤ i → n ≡ m → m ≤ i
 over h e = omega arith
-
--- the slot linked, from a later place
-abbrev linked : tie.After-shared-slice-known5 invariant-loop decreases-loop → tie.After-link-slot invariant-loop decreases-loop
-linked c = c.before.before.before.before.before
 
 cast-cues : tie.Need-overflow-cast-cues invariant-loop decreases-loop
 cast-cues c = search rules
@@ -66,41 +62,19 @@ link-slot-requires c κs =
     let h = below t.loop-test.true w.0 in
     (w.3.fitting, (h, loop_room w.3 h))
 
-mul-next-found : tie.Need-overflow-mul-next-found invariant-loop decreases-loop
-mul-next-found c = search rules
-
-shared-slice-read-next-found : tie.Need-shared-slice-read-next-found invariant-loop decreases-loop
-shared-slice-read-next-found c =
-    let t = (linked c).before.before.before.before.before in
-    let l = t.before.loop in
-    let r = l.inv.3.fitting.range.cues in
-    let p = t.before.before.before.before.before.before.before.pre.1.0 in
-    omega (arith, t.loop-test.taken, l.inv.0)
-
-next-found-requires : tie.Need-next-found-requires invariant-loop decreases-loop
-next-found-requires c κs =
-    let t = (linked c).before.before.before.before.before in
-    let w = t.before.loop.inv in
-    let r = w.3.fitting.range.cues in
-    omega (arith, t.loop-test.taken, w.0, w.3.behind)
-
 add-slot : tie.Need-overflow-add-slot invariant-loop decreases-loop
-add-slot c = let t = (linked c.before).before.before.before.before.before in omega (arith, t.loop-test.taken)
+add-slot c = let t = c.before.before.before.before.before.before.before.before.before in omega (arith, t.loop-test.true)
 
 loop_less : tie.Need-loop-smaller invariant-loop decreases-loop
-loop_less c = let t = (linked c.before).before.before.before.before.before in omega (arith, t.loop-test.taken)
+loop_less c = let t = c.before.before.before.before.before.before.before.before.before in omega (arith, t.loop-test.true)
 
 loop-again : tie.Need-loop-preserved invariant-loop decreases-loop
 loop-again c =
-    let k = linked c.before in
+    let k = c.before.before.before.before in
     let t = k.before.before.before.before.before in
-    let w = t.before.loop.inv in
-    let a = k.link-slot.kept in (
-      w.0,
-      a.1.0 ∙ w.1,
-      a.1.1.0 ∙ w.2,
-      loop_turn w.3 (below t.loop-test.taken w.0) refl refl k.link-slot.ensures a.1.0 c.next-found.ensures,
-    )
+    let w = t.before.loop.invariant in
+    let a = k.link-slot.auto in
+    (w.0, a.1.0 ∙ w.1, a.1.1.0 ∙ w.2, loop_turn w.3 (below t.loop-test.true w.0) refl refl k.link-slot.ensures a.1.0)
 
 same_length : tie.Need-same-length invariant-loop decreases-loop
 same_length c = c.before.loop.invariant.1
@@ -124,9 +98,6 @@ link-all-spec =
     mul-link-slot-2
     shared-slice-read-link-slot-2
     link-slot-requires
-    mul-next-found
-    shared-slice-read-next-found
-    next-found-requires
     add-slot
     loop_less
     loop-again

@@ -1,26 +1,15 @@
--- `seek` meets its contract: the front of the list is met, and what is behind it stays.
+-- `seek` meets its contract: where something was asked for, and where nothing was.
 -- Assumes nothing.
-use native.Mathlib.Omega.{arith}
-use mathlib.Core.Path.{sym}
-use mathlib.Core.List.{◌++◌}
-use lib.ListN.{drop}
-use lib.Seq.{length-take-le}
+use Rattle.load_translate.proofs.Bearers.{sought_some, sought_none}
 use borrow.Author.Rules.{rules}
 use Rattle.load_translate.proofs.seek.Statement.{statement}
 use Rattle.load_translate.proofs.seek.Tie as tie
 
-slice-relend-prefix-bear : tie.Need-slice-relend-prefix-bear
-slice-relend-prefix-bear c = search rules
-
-slice-aggregate-bear : tie.Need-slice-aggregate-bear
-slice-aggregate-bear c = let p = c.before.before.before.before.before.requires in sym (length-take-le _ _ p.1.1.1)
+any-asked-requires : tie.Need-any-asked-requires
+any-asked-requires c κs = search rules
 
 bear-requires : tie.Need-bear-requires
-bear-requires c κs =
-    let s = c.before.before.before.before.before in
-    let p = s.requires in
-    let e = length-take-le s.args.n s.args.found.now p.1.1.1 in
-    (p.0, (p.1.0, omega (arith, p.1.1.0, e)))
+bear-requires c κs = search rules
 
 same_length : tie.Need-same-length
 same_length c = search rules
@@ -28,10 +17,11 @@ same_length c = search rules
 returns : tie.Need-returns
 returns c =
     let b = c.before.before in
-    let s = b.before.before.before.before.before.before in
-    λ i. b.bear.ensures i ++ drop s.args.n s.args.found.now
+    let y = b.before.before in
+    sought_some _ _ _ y.before.any-asked.ensures y.if1.true b.bear.ensures
+
+returns-2 : tie.Need-returns-2
+returns-2 c = sought_none _ _ _ c.before.any-asked.ensures c.if1.false
 
 pub seek-spec : {M : Type 1} → statement M
-seek-spec =
-    tie.close
-    (tie.spec slice-relend-prefix-bear slice-aggregate-bear bear-requires same_length returns)
+seek-spec = tie.close (tie.spec any-asked-requires bear-requires same_length returns returns-2)

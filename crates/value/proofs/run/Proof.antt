@@ -4,14 +4,14 @@ use mathlib.Core.Path.{◌≡◌, sym, ◌∙◌}
 use Prim.Native.Nat.{◌≤◌, ◌-◌}
 use native.Mathlib.Omega.{arith}
 use lib.ListN.{length, drop}
-use Rattle.value.specs.Integer.{cap, run_of, digits_from_of}
+use Rattle.value.specs.Integer.{cap, run_of, digits_from}
 use Rattle.value.proofs.Digits.{run_empty, run_start, run_turn, run_stop, run_end}
 use borrow.Author.Rules.{rules}
 use Rattle.value.proofs.run.Statement.{statement}
 use Rattle.value.proofs.run.Tie as tie
 
 abbrev invariant-loop : tie.invariant-loop
-invariant-loop s radix value₀ i₀ value i = (i ≤ length s) × (value ≤ cap) × (run_of radix s ≡ digits_from_of radix value (drop i s))
+invariant-loop s radix value₀ i₀ value i = (i ≤ length s) × (value ≤ cap) × (run_of radix s ≡ digits_from radix value (drop i s))
 
 abbrev decreases-loop : tie.decreases-loop
 decreases-loop s radix value₀ i₀ value i = length s - i
