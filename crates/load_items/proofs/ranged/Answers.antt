@@ -1,0 +1,24 @@
+-- `ranged` meets its contract, by whether the field ends with its digits, and by their value.
+use mathlib.Core.Logic.{⊎_elim}
+use Rattle.load_items.proofs.Fields.{digits_within, ranged_zero, ranged_high, ranged_within, ranged_longer, ranged_empty}
+use Rattle.std.proofs.Common.{rules}
+use Rattle.load_items.proofs.ranged.Goals as goal
+
+pub returns-then-value-eq0 : goal.returns-then-value-eq0
+returns-then-value-eq0 c = ranged_zero _ _ _ _ c.digits_at-d.ensures c.ends.ensures c.if-ends.true c.if-at-end.true c.if-value-eq0.true
+
+pub returns-then-limit-value : goal.returns-then-limit-value
+returns-then-limit-value c = ranged_high _ _ _ _ c.digits_at-d.ensures c.ends.ensures c.if-ends.true c.if-at-end.true c.if-limit-value.true
+
+pub returns-then-at-end : goal.returns-then-at-end
+returns-then-at-end c = ranged_within _ _ _ _ c.digits_at-d.ensures c.ends.ensures c.if-ends.true c.if-at-end.true c.if-value-eq0.false c.if-limit-value.false
+
+pub wrong-requires : goal.wrong-requires
+wrong-requires c = digits_within _ _ c.digits_at-d.ensures c.requires
+
+pub returns : goal.returns
+returns c =
+    ⊎_elim
+    (λ w. ranged_empty _ _ _ _ c.digits_at-d.ensures c.ends.ensures w.0.taken w.1.left c.wrong.ensures)
+    (λ w. ranged_longer _ _ _ _ c.digits_at-d.ensures c.ends.ensures w.left c.wrong.ensures)
+    c.if-ends.branch

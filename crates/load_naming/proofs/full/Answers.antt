@@ -1,0 +1,16 @@
+-- `full` meets its contract, kind by kind.
+use Rattle.load.specs.Condition.{full_of}
+use Rattle.std.proofs.Common.{rules}
+use Rattle.load_naming.proofs.full.Goals as goal
+
+pub returns-in-Cue : goal.returns-in-Cue
+unfolding full_of
+returns-in-Cue c = rw c.in-Cue.is
+
+pub returns-in-Group : goal.returns-in-Group
+unfolding full_of
+returns-in-Group c = rw c.in-Group.is
+
+pub returns-in-Sub : goal.returns-in-Sub
+unfolding full_of
+returns-in-Sub c = rw c.in-Sub.is

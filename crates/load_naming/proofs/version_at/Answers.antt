@@ -1,0 +1,13 @@
+-- `version_at` meets its contract.
+use mathlib.Core.Path.{◌∙◌, sym, ap}
+use Rattle.text_fields.specs.Words.{Word}
+use Rattle.value.specs.Field.{version_of}
+use Rattle.load_naming.proofs.Fields.{field_in, field_lent, head_at}
+use Rattle.std.proofs.Common.{rules}
+use Rattle.load_naming.proofs.version_at.Goals as goal
+
+pub word-requires : goal.word-requires
+word-requires c = field_lent (field_in c.requires c.field_at-f.ensures)
+
+pub returns : goal.returns
+returns c = c.read_version.ensures ∙ ap version_of c.word.ensures ∙ sym (ap (λ (w : Word). version_of w.chars) (head_at c.requires c.field_at-f.ensures))

@@ -1,0 +1,14 @@
+-- `run` meets its contract: the walk with the numbers as given is the run of a normal load, and its end is what that run is told as. What was
+-- noted meanwhile is not asked for.
+use Rattle.load_run.proofs.Closing.{none_accepted, one_given, close_room, run_loaded_lem}
+use Rattle.std.proofs.Common.{rules}
+use Rattle.load_run.proofs.run.Goals as goal
+
+pub walk-done-requires : goal.walk-done-requires
+walk-done-requires c = let p = c.requires in (p.0, (p.1, none_accepted 1))
+
+pub close-requires : goal.close-requires
+close-requires c = close_room _ _ _ _ _ _ _ c.walk-done.result c.walk-done.ensures c.requires.stream_len_bound
+
+pub returns : goal.returns
+returns c = run_loaded_lem _ _ _ _ _ _ _ c.walk-done.result c.walk-done.ensures one_given c.close.ensures

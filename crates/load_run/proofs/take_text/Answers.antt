@@ -1,0 +1,36 @@
+-- `take_text` meets its contract: from what the step and the telling ensure; the faults told are those at the front of the lent list.
+use Rattle.load_run.proofs.Taking.{step_room, text_said, text_near, step_taken, step_booked}
+use Rattle.load.proofs.Steps.{step_in_small}
+use Rattle.load_tell.specs.Count.{ignored_by}
+use native.Mathlib.Omega.{arith}
+use lib.Seq.{length-take-le}
+use mathlib.Core.Path.{sym}
+use Rattle.std.proofs.Common.{rules}
+use Rattle.load_run.proofs.take_text.Goals as goal
+
+pub step-s-requires : goal.step-s-requires
+step-s-requires c =
+    let t = c.requires.taking in
+    (record { fitting = t.fitting; short = omega (arith, c.requires.text_of.short, c.requires.text_of.within); ready = t.ready }, (c.requires.counters_fit, c.requires.room))
+
+pub slice_bounds-tell-end : goal.slice_bounds-tell-end
+slice_bounds-tell-end c = omega (arith, c.step-s.ensures.faults_le_most_faults, c.step-s.kept.1.1.1.1.0, c.requires.room)
+
+pub slice_bounds-tell-end-2 : goal.slice_bounds-tell-end-2
+slice_bounds-tell-end-2 c = sym (length-take-le _ _ (omega (arith, c.step-s.ensures.faults_le_most_faults, c.step-s.kept.1.1.1.1.0, c.requires.room)))
+
+pub tell-count-requires : goal.tell-count-requires
+tell-count-requires c =
+    let t = c.requires.taking in (
+      t.countable,
+      (
+        step_room _ _ _ c.step-s.ensures.faults_after (step_in_small _ _ _ _ _) c.step-s.ensures.faults_le_most_faults c.requires.room _ _ _ c.args.high c.args.control t.countable t.room
+            c.requires.text_of.short (text_said _ _ _ _ _) (text_near _ _ _ c.args.received.now c.args.text.now _ t.fitting c.requires.text_of.within),
+        c.requires.text_of.marred,
+      ),
+    )
+
+pub returns : goal.returns
+returns c =
+    record { reports_after = step_taken _ _ _ c.step-s.ensures.faults_after (step_in_small _ _ _ _ _) c.step-s.ensures.faults_le_most_faults c.requires.room _ _ _ (ignored_by c.args.high c.args.control)
+          c.parted-held.ensures c.tell-count.ensures c.stops.ensures; asked_after = step_booked _ _ _ c.step-s.ensures.faults_after _ _ _ _ c.parted-held.ensures c.step-s.ensures.asked_after }

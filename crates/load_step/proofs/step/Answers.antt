@@ -1,0 +1,22 @@
+-- `step` meets its contract: with a keyword, and with none.
+use Rattle.load_held.proofs.Answers.{asked_all, rests_all}
+use Rattle.load_step.proofs.Basics.{step_blank, step_as, step_told}
+use Rattle.load_naming.proofs.Fields.{said_line}
+use Rattle.load_step.proofs.Booked.{blank_booked, fields_booked}
+use Rattle.std.proofs.Common.{rules}
+use Rattle.load_step.proofs.step.Goals as goal
+
+pub obey-requires : goal.obey-requires
+obey-requires c = record { fitting = c.requires.stepping.fitting; counters_fit = c.requires.counters_fit; line = said_line _ c.field_start-start.ensures c.keyword_at-said.ensures c.requires.stepping.short; held_ready = c.requires.stepping.ready; room = c.requires.room }
+
+pub returns-then-start-text : goal.returns-then-start-text
+returns-then-start-text c =
+    step_told _ _ _ _ _ _ c.requires.stepping.short
+    (asked_all _ _ _ _ (step_as _ c.field_start-start.ensures c.keyword_at-said.ensures _ _ _ c.if-start-text.true) c.obey.ensures.faults_after)
+    (fields_booked _ c.field_start-start.ensures _ _ _ _ _ c.keyword_at-said.ensures c.if-start-text.true c.obey.ensures.asked_after)
+
+pub returns : goal.returns
+returns c =
+    step_told _ _ _ _ _ _ c.requires.stepping.short
+    (asked_all _ _ _ _ (step_blank _ _ _ _ c.field_start-start.ensures c.if-start-text.false) (rests_all _ _ _ c.requires.stepping.ready c.ended.ensures _))
+    (blank_booked _ c.field_start-start.ensures _ _ _ _ _ c.if-start-text.false)

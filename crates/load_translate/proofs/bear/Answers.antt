@@ -1,0 +1,54 @@
+-- `bear` meets its contract: what was met so far stands in front of what the records that are left bear.
+use Rattle.load_translate.proofs.Reading.{bearing_fits}
+use Rattle.load_translate.proofs.Walking.{SoFar, loop_start, loop_countable, loop_room, loop_turn, loop_end}
+use Rattle.load_run.proofs.Taking.{spans_in, first_in, spans_at}
+use Rattle.load_run.specs.Take.{Spans}
+use native.Mathlib.Omega.{arith}
+use lib.Dec.{eqb}
+use lib.ListN.{length}
+use Prim.Native.Nat.{◌-◌, ◌≤◌}
+use Rattle.load_translate.proofs.bear.Goals as goal
+
+spans : (e : goal.After-record_end-end)
+    → Spans e.args.stream.now e.loop-n.at e.record_end-end.result (eqb e.plain_again-first.result e.record_end-end.result)
+spans e = spans_at _ e.loop-n.invariant.1.within e.plain_again-first.ensures e.record_end-end.ensures
+
+pub loop-n-init : goal.loop-n-init
+loop-n-init c = let p = c.requires in (p.1.1, loop_start _ _ _ _ _ p.0 p.1.0)
+
+pub plain_again-first-requires : goal.plain_again-first-requires
+plain_again-first-requires c = c.loop-n.invariant.1.within
+
+pub record_end-end-requires : goal.record_end-end-requires
+record_end-end-requires c = first_in _ c.loop-n.invariant.1.within c.plain_again-first.ensures
+
+pub bearing_at-b-requires : goal.bearing_at-b-requires
+bearing_at-b-requires c = spans c
+
+pub meet_bearing-seen-requires : goal.meet_bearing-seen-requires
+meet_bearing-seen-requires c =
+    let w = c.loop-n.invariant in
+    let f = w.1.found-length in
+    (omega (arith, w.0), (bearing_fits _ c.bearing_at-b.ensures, loop_countable w.1 c.loop-n-test.true))
+
+pub overflow_add-n : goal.overflow_add-n
+overflow_add-n c =
+    let h = loop_room c.loop-n.invariant.1 c.loop-n-test.true in
+    omega arith
+
+pub next_start-at-requires : goal.next_start-at-requires
+next_start-at-requires c = (spans_in _ _ _ (spans c.before.before.before.before.before)).1
+
+pub loop-n-smaller : goal.loop-n-smaller
+loop-n-smaller c = omega (arith, c.loop-n-test.true)
+
+pub loop-n-preserved : goal.loop-n-preserved
+loop-n-preserved c =
+    let w = c.loop-n.invariant in (
+      w.0,
+      loop_turn w.1 c.loop-n-test.true (spans c.before.before.before.before.before.before).ends c.next_start-at.ensures c.bearing_at-b.ensures c.meet_bearing-seen.ensures
+          c.meet_bearing-seen.auto.1.1.1.1.0,
+    )
+
+pub returns : goal.returns
+returns c = loop_end c.loop-n.invariant.1 c.loop-n-test.false

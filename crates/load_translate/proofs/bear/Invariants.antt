@@ -1,0 +1,17 @@
+-- `bear` meets its contract: what was met so far stands in front of what the records that are left bear.
+use Rattle.load_translate.proofs.Reading.{bearing_fits}
+use Rattle.load_translate.proofs.Walking.{SoFar, loop_start, loop_countable, loop_room, loop_turn, loop_end}
+use Rattle.load_run.proofs.Taking.{spans_in, first_in, spans_at}
+use Rattle.load_run.specs.Take.{Spans}
+use native.Mathlib.Omega.{arith}
+use lib.Dec.{eqb}
+use lib.ListN.{length}
+use Prim.Native.Nat.{◌-◌, ◌≤◌}
+use Rattle.load_translate.proofs.bear.Given as goal
+
+abbrev pub invariant-loop-n : goal.invariant-loop-n
+invariant-loop-n l =
+    (length l.initial.found ≤ length l.asked) × SoFar l.stream l.marks l.asked l.initial.found l.records l.seen l.n l.at l.found
+
+abbrev pub decreases-loop-n : goal.decreases-loop-n
+decreases-loop-n l = l.records - l.n

@@ -1,0 +1,26 @@
+-- `run` meets its contract: the walk, the links, the end.
+use Rattle.store_code.proofs.Laws.{fitting_kept}
+use Rattle.load_translate.proofs.Whole.{walk_losing, walk_records, close_room, translated_loaded}
+use Rattle.load_run.proofs.Closing.{none_accepted}
+use Rattle.std.proofs.Common.{rules}
+use Rattle.load_translate.proofs.run.Goals as goal
+
+pub walk-done-requires : goal.walk-done-requires
+walk-done-requires c = let p = c.requires in (p.0, (p.1, none_accepted 4))
+
+pub link-count-requires : goal.link-count-requires
+link-count-requires c =
+    let p = c.requires in
+    let w = c.walk-done.ensures in
+    let h = c.walk-done.kept.1 in (
+      fitting_kept _ _ _ h.0 p.0,
+      (p.1, (h.1.1.1.1.1.0, (walk_losing _ _ _ _ p.1 c.walk-done.result w, walk_records _ _ _ _ p.1 c.walk-done.result w))),
+    )
+
+pub close-requires : goal.close-requires
+close-requires c =
+    let p = c.requires in
+    close_room _ _ _ _ p.1 c.walk-done.result c.walk-done.ensures c.link-count.ensures p.0.range.cues.1
+
+pub returns : goal.returns
+returns c = translated_loaded _ _ _ _ c.requires.stream_len_bound c.walk-done.result c.walk-done.ensures c.link-count.ensures c.close.ensures

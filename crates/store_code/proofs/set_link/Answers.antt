@@ -1,0 +1,21 @@
+-- `set_link` meets its contract: the lent part is the slot, it comes back changed and as long as it was.
+use native.Mathlib.Omega.{arith}
+use Rattle.store_code.proofs.Laws.{slot_ends, lent_length, change_fits, edit_link, edit_back}
+use Rattle.std.proofs.Common.{rules}
+use Rattle.store_code.proofs.set_link.Goals as goal
+
+pub slice_bounds-relink-end : goal.slice_bounds-relink-end
+slice_bounds-relink-end c = (slot_ends _ _ _ c.slot_start-at.ensures c.slot_end-end.ensures c.requires.fitting c.requires.slot_bound).1
+
+pub relink-requires : goal.relink-requires
+relink-requires c =
+    let p = c.requires in
+    let l = lent_length _ _ _ c.slot_start-at.ensures c.slot_end-end.ensures p.0 p.1.0 in
+    change_fits c.args.desk _ _ p.1.1.fits (omega arith)
+
+pub returns : goal.returns
+returns c =
+    let p = c.requires in
+    edit_back _ _ _ _ _ c.slot_start-at.ensures c.slot_end-end.ensures p.0 p.1.0
+    (edit_link _ _ _ _ c.relink.ensures)
+    c.relink.auto.0

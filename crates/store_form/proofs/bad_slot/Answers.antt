@@ -1,0 +1,28 @@
+-- `bad_slot` meets its contract. The invariant: the first bad slot from here on is the first of all.
+use native.Mathlib.Omega.{arith}
+use Rattle.store.specs.Form.{slot_fits}
+use Rattle.store.specs.Form.{bad_slot}
+use Rattle.store_code.proofs.Found.{at_place, nowhere_place}
+use Rattle.store_form.proofs.Laws.{slots_start}
+use Rattle.cells.proofs.Search.{search_hit, search_miss, search_end}
+use Rattle.cells.specs.Search.{first_from}
+use mathlib.Core.Bool.{not}
+use Prim.Native.Nat.{◌-◌, ◌≤◌}
+use mathlib.Core.Path.{◌≡◌, ap}
+use Rattle.std.proofs.Common.{rules}
+use Rattle.store_form.proofs.bad_slot.Goals as goal
+
+pub loop-i-init : goal.loop-i-init
+loop-i-init c = (search rules, slots_start _ _ c.slots-n.ensures)
+
+pub slot_fits-requires : goal.slot_fits-requires
+slot_fits-requires c = let e = c.slots-n.ensures in (c.requires, omega (arith, c.loop-i-test.true))
+
+pub returns-then-not-slot_fits : goal.returns-then-not-slot_fits
+returns-then-not-slot_fits c = at_place (search_hit _ _ _ c.loop-i-test.true (ap not c.slot_fits.ensures) c.if-not-slot_fits.true c.loop-i.invariant.1)
+
+pub loop-i-preserved : goal.loop-i-preserved
+loop-i-preserved c = (search rules, search_miss _ _ _ c.loop-i-test.true (ap not c.slot_fits.ensures) c.if-not-slot_fits.false c.loop-i.invariant.1)
+
+pub returns : goal.returns
+returns c = nowhere_place (search_end _ _ _ c.loop-i-test.false c.loop-i.invariant.1)

@@ -1,0 +1,25 @@
+-- `fields::field_start` meets its contract: the place where the scan from `i` ends is the place where the scan from `at` ends.
+use mathlib.Core.Path.{◌≡◌, refl}
+use Prim.Native.Nat.{◌≤◌, ◌+◌, ◌-◌}
+use native.Mathlib.Omega.{arith}
+use lib.ListN.{length, drop}
+use borrow.Author.Tests.{not-true, not-false}
+use Rattle.cells.specs.Scan.{span}
+use Rattle.cells.proofs.Scan.{scan_turn, scan_stop, scan_end}
+use Rattle.text_fields.specs.Words.{is_delimiter}
+use Rattle.text_fields.specs.Places.{start_at}
+use Rattle.std.proofs.Common.{rules}
+use Rattle.text_fields.proofs.field_start.Goals as goal
+
+pub loop-i-init : goal.loop-i-init
+unfolding start_at
+loop-i-init c = (c.requires, refl)
+
+pub returns-then-not-is_delimiter : goal.returns-then-not-is_delimiter
+returns-then-not-is_delimiter c = scan_stop is_delimiter _ _ c.loop-i-test.true c.is_delimiter.ensures c.if-not-is_delimiter.true c.loop-i.invariant.1
+
+pub loop-i-preserved : goal.loop-i-preserved
+loop-i-preserved c = (omega arith, scan_turn is_delimiter _ _ c.loop-i-test.true c.is_delimiter.ensures c.if-not-is_delimiter.false c.loop-i.invariant.1)
+
+pub returns : goal.returns
+returns c = scan_end is_delimiter _ _ c.loop-i-test.false c.loop-i.invariant.1

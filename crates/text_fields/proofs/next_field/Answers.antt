@@ -1,0 +1,24 @@
+-- `next_field` meets its contract: up to `i`, where a field may end, there are only delimiters (`Behind`).
+use mathlib.Core.Path.{refl}
+use Prim.Native.Nat.{◌-◌}
+use native.Mathlib.Omega.{arith}
+use lib.ListN.{length}
+use borrow.Author.Tests.{not-true, not-false}
+use Rattle.text_fields.proofs.Runs.{Behind, behind_turn, behind_stop, behind_end}
+use Rattle.std.proofs.Common.{rules}
+use Rattle.text_fields.proofs.next_field.Goals as goal
+
+pub loop-i-init : goal.loop-i-init
+loop-i-init c = record { ended = c.requires; same = refl }
+
+pub returns-then-not-is_delimiter : goal.returns-then-not-is_delimiter
+returns-then-not-is_delimiter c = behind_stop c.loop-i.invariant c.loop-i-test.true c.is_delimiter.ensures c.if-not-is_delimiter.true
+
+pub loop-i-smaller : goal.loop-i-smaller
+loop-i-smaller c = let t = c.loop-i-test.true in omega arith
+
+pub loop-i-preserved : goal.loop-i-preserved
+loop-i-preserved c = behind_turn c.loop-i.invariant c.loop-i-test.true c.is_delimiter.ensures c.if-not-is_delimiter.false
+
+pub returns : goal.returns
+returns c = behind_end c.loop-i.invariant c.loop-i-test.false

@@ -1,0 +1,15 @@
+-- `next_field` meets its contract: up to `i`, where a field may end, there are only delimiters (`Behind`).
+use mathlib.Core.Path.{refl}
+use Prim.Native.Nat.{◌-◌}
+use native.Mathlib.Omega.{arith}
+use lib.ListN.{length}
+use borrow.Author.Tests.{not-true, not-false}
+use Rattle.text_fields.proofs.Runs.{Behind, behind_turn, behind_stop, behind_end}
+use Rattle.std.proofs.Common.{rules}
+use Rattle.text_fields.proofs.next_field.Given as goal
+
+abbrev pub invariant-loop-i : goal.invariant-loop-i
+invariant-loop-i l = Behind l.text l.end l.i
+
+abbrev pub decreases-loop-i : goal.decreases-loop-i
+decreases-loop-i l = length l.text - l.i

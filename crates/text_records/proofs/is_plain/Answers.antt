@@ -1,0 +1,35 @@
+-- `records::is_plain` meets its contract: `other` tells whether a character before place `i` is not plain.
+use mathlib.Core.Path.{◌≡◌, refl}
+use mathlib.Core.Bool.{◌||◌}
+use mathlib.Core.Logic.{⊎_elim}
+use Prim.Native.Nat.{◌≤◌, ◌<◌, ◌-◌}
+use native.Mathlib.Omega.{arith}
+use lib.ListN.{length, drop}
+use Rattle.text_records.specs.Cleaning.{has}
+use Rattle.text_records.specs.Window.{is_special, block}
+use Rattle.text_records.proofs.Cleaning.{looked_this, looked_past, looked_all}
+use Rattle.text_records.proofs.Plain.{plain_all}
+use Rattle.std.proofs.Common.{rules}
+use Rattle.text_records.proofs.is_plain.Goals as goal
+
+pub loop-i-init : goal.loop-i-init
+loop-i-init c = (omega arith, refl)
+
+pub loop-i-preserved : goal.loop-i-preserved
+loop-i-preserved c =
+    let s = c.args.s.now in
+    let i = c.loop-i.i in
+    let h : i < length s = omega (arith, c.requires) in (
+      omega arith,
+      ⊎_elim
+          (λ w. looked_this is_special s i c.loop-i.other h c.is_other.ensures w.0.taken w.1 c.loop-i.invariant.1)
+          (λ w. looked_past is_special s i _ h c.is_other.ensures w.0.left w.1 c.loop-i.invariant.1)
+          c.if-is_other.branch,
+    )
+
+pub returns : goal.returns
+returns c =
+    let s = c.args.s.now in
+    let i = c.loop-i.i in
+    let l : length s ≤ i = omega (arith, c.requires) in
+    plain_all s {b = c.loop-i.other} (looked_all is_special s i l c.loop-i.invariant.1)

@@ -1,0 +1,33 @@
+-- `records::plain_end` meets its contract: the place where the scan from `i` ends is the place where the scan from `at` ends.
+use mathlib.Core.Path.{◌≡◌, refl, sym}
+use mathlib.Core.Bool.{true, false}
+use mathlib.Core.Logic.{⊎_elim}
+use Prim.Native.Nat.{◌≤◌, ◌-◌}
+use native.Mathlib.Omega.{arith}
+use lib.ListN.{length}
+use Rattle.cells.proofs.Scan.{scan_turn, scan_stop, scan_end}
+use Rattle.text_records.specs.Window.{is_plain, plain_end}
+use Rattle.text_records.proofs.Plain.{graphic_plain, neither_special, space_plain}
+use Rattle.std.proofs.Common.{rules}
+use Rattle.text_records.proofs.plain_end.Goals as goal
+
+pub loop-i-init : goal.loop-i-init
+loop-i-init c = c.plain_blocks-i.ensures
+
+pub returns-then-c-ne-SPACE : goal.returns-then-c-ne-SPACE
+returns-then-c-ne-SPACE c =
+    scan_stop is_plain _ _ {b = false} c.loop-i-test.true (sym (neither_special _ c.is_graphic.ensures c.if-not-is_graphic.true c.if-c-ne-SPACE.true)) refl
+    c.loop-i.invariant.1
+
+pub loop-i-preserved : goal.loop-i-preserved
+loop-i-preserved c =
+    (
+      omega arith,
+      scan_turn is_plain _ _ {b = true} c.loop-i-test.true
+          (sym (⊎_elim (λ w. space_plain _ w.1.left) (λ w. graphic_plain _ c.is_graphic.ensures w.left) c.if-not-is_graphic.branch))
+          refl
+          c.loop-i.invariant.1,
+    )
+
+pub returns : goal.returns
+returns c = scan_end is_plain _ _ c.loop-i-test.false c.loop-i.invariant.1

@@ -1,0 +1,24 @@
+-- `records::squeeze` meets its contract: the loop's invariant is the law's `Squeezed`.
+use mathlib.Core.Logic.{⊎_elim}
+use Prim.Native.Nat.{◌-◌}
+use native.Mathlib.Omega.{arith}
+use lib.ListN.{length}
+use Rattle.text_records.proofs.Cleaning.{Squeezed, squeezed_none, squeezed_kept, squeezed_past, squeezed_count, squeezed_all}
+use Rattle.std.proofs.Common.{rules}
+use Rattle.text_records.proofs.squeeze.Goals as goal
+
+pub loop-i-init : goal.loop-i-init
+loop-i-init c = squeezed_none _
+
+pub bounds-s-n : goal.bounds-s-n
+bounds-s-n c = omega (arith, c.loop-i.invariant.few)
+
+pub loop-i-preserved : goal.loop-i-preserved
+loop-i-preserved c =
+    ⊎_elim
+    (λ w. squeezed_kept _ _ _ _ c.loop-i.invariant c.requires c.loop-i-test.true c.is_kept.ensures w.0.taken w.1 w.2)
+    (λ w. squeezed_past _ _ _ _ c.loop-i.invariant c.requires c.loop-i-test.true c.is_kept.ensures w.0.left w.1 w.2)
+    c.if-is_kept.branch
+
+pub returns : goal.returns
+returns c = record { value = squeezed_count _ _ _ _ c.loop-i.invariant c.loop-i-test.false; s_after = squeezed_all _ _ _ _ c.loop-i.invariant c.loop-i-test.false }
