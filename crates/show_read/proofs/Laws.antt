@@ -116,9 +116,9 @@ pub head_by_lem : (d : Desk) (s : List ℕ) (n : ℕ) (a : Admission) → a ≡ 
 unfolding head_call
 head_by_lem d s n a e = ap (λ (b : Admission). head_by b d s n) e
 
-pub head_at : (d : Desk) (s : List ℕ) {f : Found} {i : ℕ} {h : Head} → f ≡ at i → h ≡ head_at d s i → head_reply (HeadHas h) ≡ head_in d s f
+pub head_at_lem : (d : Desk) (s : List ℕ) {f : Found} {i : ℕ} {h : Head} → f ≡ at i → h ≡ head_at d s i → head_reply (HeadHas h) ≡ head_in d s f
 unfolding head_in
-head_at d s e q = ap (λ (x : Head). head_reply (HeadHas x)) q ∙ sym (ap (head_in d s) e)
+head_at_lem d s e q = ap (λ (x : Head). head_reply (HeadHas x)) q ∙ sym (ap (head_in d s) e)
 
 pub head_none : (d : Desk) (s : List ℕ) {f : Found} → f ≡ nowhere → head_reply HeadNone ≡ head_in d s f
 unfolding head_in

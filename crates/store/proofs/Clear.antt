@@ -13,7 +13,7 @@ use Rattle.store_desk.specs.declared.Desk.{Desk}
 use Rattle.store_desk.specs.declared.Kind.{Kind}
 use Rattle.store_desk.specs.Size.{slot_length, slots_of, store_length}
 use Rattle.store_desk.specs.Name.{Name, first_slot, slot_count, slots_end, kind_at, eq_kind}
-use Rattle.store_desk.proofs.Name.{eq_kind_lem, eq_kind-true, kind_of, kind_at, kind_end}
+use Rattle.store_desk.proofs.Name.{eq_kind_lem, eq_kind-true, kind_of, kind_at_lem, kind_end}
 use Rattle.store_head.specs.declared.Head.{Head}
 use Rattle.store_head.specs.Layout.{decode_head, decode_patch}
 use Rattle.store_head.proofs.Laws.{decode_zeros}
@@ -148,7 +148,7 @@ module _ (d : Desk) (s : List ℕ) (long : store_length d ≤ length s) (k : Kin
 
   same_kind : (j : ℕ) → j < slots_of d → kind_at d j ≡ k → slot_at d (cleared d s k p) j ≡ cond (hits_at d s p j) (zeros d) (slot_at d s j)
   same_kind j h q =
-      let w = kind_at d j h in
+      let w = kind_at_lem d j h in
       all_passed.within j (subst (λ (z : Kind). first_slot d z ≤ j) q w.0) (subst (λ (z : Kind). j < slots_end d z) q w.1)
 
   pub clear_slot : (j : ℕ) → j < slots_of d → slot_at d (cleared d s k p) j ≡ cond (removes d s k p j) (zeros d) (slot_at d s j)

@@ -18,7 +18,7 @@ use Rattle.store_desk.specs.declared.Kind.{Kind}
 use Rattle.store_desk.specs.declared.Kind.TheVariants.{Cue, Group, Sub}
 use Rattle.store_desk.specs.Size.{slot_length, slots_of, entries_of, store_length}
 use Rattle.store_desk.specs.Name.{Name, first_slot, slot_count, slots_end, kind_at, eq_name, ok_name, sub_slot}
-use Rattle.store_desk.proofs.Name.{eq_key-true, eq_name_lem, eq_name-true, eq_name_refl, kind_of, kind_at, kind_end, sub_parts, sub_inside, sub_same}
+use Rattle.store_desk.proofs.Name.{eq_key-true, eq_name_lem, eq_name-true, eq_name_refl, kind_of, kind_at_lem, kind_end, sub_parts, sub_inside, sub_same}
 use Rattle.store_head.specs.declared.Head.{Head}
 use Rattle.store_head.specs.Layout.{decode_head, decode_patch}
 use Rattle.store.specs.declared.StoreForm.{StoreForm}
@@ -181,7 +181,7 @@ module _ (d : Desk) (s : List ℕ) (g : GoodForm d s) (i : ℕ) (h : i < slots_o
   pub found_self : is_used (head_at d s i) ≡ true → find d s (name_at d s i) ≡ at i
   unfolding find shares
   found_self u =
-      let k = kind_at d i h in
+      let k = kind_at_lem d i h in
       first_is (holds_at d s (key_of (head_at d s i))) (slot_count d (kind_at d i)) (first_slot d (kind_at d i)) i
       (record {
         from = k.0;
@@ -358,7 +358,7 @@ put_good d s r n i p x e u k o w v =
     rest j h ne y =
         let us : is_used (head_at d s j) ≡ true = ap is_used (sym (head_same d t s j (other j ne))) ∙ y in
         let m : Name = name_at d s j in
-        let w = kind_at d j h in
+        let w = kind_at_lem d j h in
         let f : eq_name m n ≡ false =
         by_bool (eq_name m n)
         (λ q.

@@ -14,7 +14,7 @@ use Rattle.store_desk.specs.declared.Desk.{Desk}
 use Rattle.store_desk.specs.declared.Kind.{Kind}
 use Rattle.store_desk.specs.Size.{slots_of}
 use Rattle.store_desk.specs.Name.{Name, first_slot, kind_at, eq_name}
-use Rattle.store_desk.proofs.Name.{eq_name-true, kind_at, kind_of}
+use Rattle.store_desk.proofs.Name.{eq_name-true, kind_at_lem, kind_of}
 use Rattle.store.specs.Slots.{head_at, key_of, is_used, holds_at}
 use Rattle.store.specs.Form.{name_at, shares, repeats}
 use Rattle.store.proofs.Find.{holds_own, holds_true}
@@ -43,7 +43,7 @@ module _ (d : Desk) (s : List ℕ) (i : ℕ) where
     share_true : (j : ℕ) → first_slot d (kind_at d i) ≤ j → j < i → holds_at d s (key_of (head_at d s i)) j ≡ true → shares d s i j ≡ true
     unfolding shares
     share_true j a l t =
-        let k = kind_at d i h in
+        let k = kind_at_lem d i h in
         let o = holds_own d s (key_of (head_at d s i)) j t in
         let same : kind_at d j ≡ kind_at d i = kind_of d (kind_at d i) j a (omega (arith, k.1)) in
         let n : name_at d s i ≡ name_at d s j = λ z. record { kind = sym same z; key = sym o.1 z } in
@@ -55,7 +55,7 @@ module _ (d : Desk) (s : List ℕ) (i : ℕ) where
     share_holds j l e =
         let p = shares_parts d s i j e in
         let k : kind_at d j ≡ kind_at d i = ap (λ (n : Name). n.kind) (sym p.2) in (
-          subst (λ (z : Kind). first_slot d z ≤ j) k (kind_at d j (omega arith)).0,
+          subst (λ (z : Kind). first_slot d z ≤ j) k (kind_at_lem d j (omega arith)).0,
           holds_true d s (key_of (head_at d s i)) j p.1 (ap (λ (n : Name). n.key) (sym p.2)),
         )
 

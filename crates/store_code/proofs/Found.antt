@@ -15,7 +15,7 @@ use Rattle.store_desk.specs.declared.Kind.{Kind}
 use Rattle.store_desk.specs.declared.Kind.TheVariants.{Cue, Group, Sub}
 use Rattle.store_desk.specs.Size.{Within, slots_of}
 use Rattle.store_desk.specs.Name.{Name, first_slot, slot_count, pages_of, ok_name, ok_within, sub_slot}
-use Rattle.store_desk.proofs.Name.{kind_end, ok_page_lem, ok_within_lem, ok_sub, sub_inside}
+use Rattle.store_desk.proofs.Name.{kind_end, ok_page_lem, ok_within_lem, ok_sub_lem, sub_inside}
 use Rattle.store.specs.declared.Place.{Place}
 use Rattle.store.specs.declared.Place.TheVariants.{At, Nowhere}
 use Rattle.store.specs.Slots.{put_slot, find, on_found, place_of}
@@ -53,7 +53,7 @@ pub sub_range : (d : Desk) (k : Kind) (key : Key) → k ≡ Sub → ok_name d (n
 unfolding pages_of ok_within
 sub_range d k key e o =
     let o₂ : ok_name d (name_of Sub key) ≡ true = subst (λ (z : Kind). ok_name d (name_of z key) ≡ true) e o in
-    (ok_page_lem d (name_of Sub key) o₂, (ok_sub d key.whole key.fraction (ok_within_lem d (name_of Sub key) o₂)).0)
+    (ok_page_lem d (name_of Sub key) o₂, (ok_sub_lem d key.whole key.fraction (ok_within_lem d (name_of Sub key) o₂)).0)
 
 -- ---- where a memory goes
 pub new_lowest : (d : Desk) (s : List ℕ) (k : Kind) (key : Key) {p : Place} → (k ≡ Cue) ⊎ (k ≡ Group) → p ≡ place_of (lowest_unused d s k) → p ≡ place_of (new_seat d s k key)

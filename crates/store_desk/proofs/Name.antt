@@ -92,9 +92,9 @@ kind_of d Sub i l h =
     cond-false _ _ _ (le-ltb i d.cues (omega arith)) ∙ cond-false _ _ _ (le-ltb i (d.cues + d.groups) l)
 
 -- a slot is in the range of its kind
-pub kind_at : (d : Desk) (i : ℕ) → i < slots_of d → (first_slot d (kind_at d i) ≤ i) × (i < slots_end d (kind_at d i))
+pub kind_at_lem : (d : Desk) (i : ℕ) → i < slots_of d → (first_slot d (kind_at d i) ≤ i) × (i < slots_end d (kind_at d i))
 unfolding kind_at
-kind_at d i h =
+kind_at_lem d i h =
     by_lt i d.cues
     (λ a. subst P (sym (cond-true _ _ _ (lt-ltb _ _ a))) (in_cue a))
     (λ a.
@@ -126,9 +126,9 @@ pub ok_number_lem : (whole fraction : ℕ) → ok_number whole fraction ≡ true
 unfolding ok_number
 ok_number_lem w f e = (ltb-true _ _ (all_at _ 0 e), leb-true _ _ (all_at _ 1 e), leb-true _ _ (all_at _ 2 e))
 
-pub ok_sub : (d : Desk) (whole fraction : ℕ) → ok_sub d whole fraction ≡ true → Within 1 whole d.subs × (fraction ≡ 0)
+pub ok_sub_lem : (d : Desk) (whole fraction : ℕ) → ok_sub d whole fraction ≡ true → Within 1 whole d.subs × (fraction ≡ 0)
 unfolding ok_sub
-ok_sub d w f e = (within 1 w d.subs (all_at _ 0 e), eqb-true f 0 (all_at _ 1 e))
+ok_sub_lem d w f e = (within 1 w d.subs (all_at _ 0 e), eqb-true f 0 (all_at _ 1 e))
 
 module _ (d : Desk) (n : Name) (e : ok_name d n ≡ true) where
   pub ok_supported : supported d n.kind ≡ true
@@ -153,7 +153,7 @@ within_fits : (d : Desk) → InRange d → (k : Kind) (key : Key) → ok_within 
 unfolding ok_within
 within_fits d h Cue key e = let o = ok_number_lem _ _ e in omega arith
 within_fits d h Group key e = let o = ok_number_lem _ _ e in omega arith
-within_fits d h Sub key e = let o = ok_sub d _ _ e in let l = h.subs.1 in omega arith
+within_fits d h Sub key e = let o = ok_sub_lem d _ _ e in let l = h.subs.1 in omega arith
 
 pub ok_fits : (d : Desk) (n : Name) → InRange d → ok_name d n ≡ true → KeyFits n.key
 ok_fits d n h e =
@@ -201,7 +201,7 @@ pub sub_parts : (d : Desk) (key : Key) → ok_name d (record { kind = Sub; key =
 unfolding ok_within pages_of
 sub_parts d key e =
     let n : Name = record { kind = Sub; key = key } in
-    let o = ok_sub d key.whole key.fraction (ok_within_lem d n e) in
+    let o = ok_sub_lem d key.whole key.fraction (ok_within_lem d n e) in
     (ok_page_lem d n e, o.0, o.1)
 
 pub sub_same : (d : Desk) (a b : Key) → ok_name d (record { kind = Sub; key = a }) ≡ true → ok_name d (record { kind = Sub; key = b }) ≡ true

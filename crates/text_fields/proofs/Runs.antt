@@ -328,9 +328,9 @@ module _ (text : List ℕ) (at : ℕ) where
       ∙ keyword_key w
       ∙ sym (cond-false (eqb (get_or w 0 0) dollar) _ _ e))
 
-  item_by : item_by (get_or text at 0) (field_key (take 10 (chars_at text at))) ≡ item_of (chars_at text at)
+  item_by_lem : item_by (get_or text at 0) (field_key (take 10 (chars_at text at))) ≡ item_of (chars_at text at)
   unfolding item_by item_of
-  item_by =
+  item_by_lem =
       let w : List ℕ = chars_at text at in
       λ j. cond (sym first_dollar j) localItem (item_key w j)
 
@@ -346,7 +346,7 @@ module _ (text : List ℕ) (at : ℕ) where
       → v ≡ item_by a w.key → ◌≡◌ {A = SaidItem} (record { item = v; end = w.end }) (said_item_at text at)
   unfolding said_item_at keyed_at
   said_item_by {w} {a} {v} e f h =
-      let m : v ≡ item_of (chars_at text at) = h ∙ (λ j. item_by (f j) (e j).key) ∙ item_by in
+      let m : v ≡ item_of (chars_at text at) = h ∙ (λ j. item_by (f j) (e j).key) ∙ item_by_lem in
       λ j. record { item = m j; end = (e j).end }
 
 -- ---- CHAN

@@ -123,8 +123,8 @@ plain_below : (s : List ℕ) (at k : ℕ) → k < span is_plain (drop at s) → 
 plain_below s at k h = not-true (is_special (get_or (drop at s) k 0)) (span_below is_plain (drop at s) k h)
 
 -- a record's end is found from there on
-pub plain_end : (s : List ℕ) (at : ℕ) → record_end s (plain_end s at) ≡ record_end s at
-plain_end s at =
+pub plain_end_lem : (s : List ℕ) (at : ℕ) → record_end s (plain_end s at) ≡ record_end s at
+plain_end_lem s at =
     let n = span is_plain (drop at s) in
     let e : span is_text (drop at s) ≡ n + span is_text (drop n (drop at s)) =
     span_past is_text (drop at s) n (span_le is_plain (drop at s)) (λ k h. char_text (get_or (drop at s) k 0) (plain_below s at k h)) in
@@ -155,10 +155,10 @@ block_past s at k {b} h e f g =
 
 -- ---- what callers cite, with the places as the code has them: the scan for the end starts at `first`
 pub plain_turn : (s : List ℕ) (at : ℕ) {n a : ℕ} → n ≡ plain_end s at → record_end s at ≡ a → record_end s n ≡ a
-plain_turn s at e h = ap (λ (k : ℕ). record_end s k) e ∙ plain_end s at ∙ h
+plain_turn s at e h = ap (λ (k : ℕ). record_end s k) e ∙ plain_end_lem s at ∙ h
 
 pub end_is : (s : List ℕ) (at : ℕ) {first end : ℕ} → first ≡ plain_end s at → end ≡ record_end s first → end ≡ record_end s at
-end_is s at e f = f ∙ ap (λ (k : ℕ). record_end s k) e ∙ plain_end s at
+end_is s at e f = f ∙ ap (λ (k : ℕ). record_end s k) e ∙ plain_end_lem s at
 
 -- a record that is plain to its end
 module _ (s : List ℕ) (at : ℕ) {first end : ℕ} (e : first ≡ plain_end s at) (g : first ≡ end) where

@@ -17,7 +17,7 @@ use Rattle.store_desk.specs.declared.Kind.TheVariants.{Cue, Group, Sub}
 use Rattle.store_desk.specs.Size.{Within, is_within, InRange}
 use Rattle.store_desk.specs.Name.{Name, pages_of, supported, ok_number, ok_name, ok_within}
 use Rattle.store_desk.proofs.Size.{within_true}
-use Rattle.store_desk.proofs.Name.{ok_number_lem, ok_sub, ok_supported, ok_within_lem, ok_page_lem, ok_fits}
+use Rattle.store_desk.proofs.Name.{ok_number_lem, ok_sub_lem, ok_supported, ok_within_lem, ok_page_lem, ok_fits}
 use Rattle.store_head.specs.declared.Patch.{Patch}
 use Rattle.text_fields.specs.declared.Keyword.{Keyword}
 use Rattle.text_fields.specs.declared.Keyword.TheVariants as key
@@ -123,19 +123,19 @@ module _ (d : Desk) (r : InRange d) where
   unfolding numeral_of numbered_by ok_within
   numeral_of_lem Cue key c o =
       let n = ok_number_lem key.whole key.fraction o in
-      ap (numbered_by _) (number_read key.whole key.fraction n.1 n.2 (λ e. omega (arith, n.0)))
+      ap (numbered_by (word (number_text key.whole key.fraction) c)) (number_read key.whole key.fraction n.1 n.2 (λ e. omega (arith, n.0)))
   numeral_of_lem Group key c o =
       let n = ok_number_lem key.whole key.fraction o in
-      ap (numbered_by _) (number_read key.whole key.fraction n.1 n.2 (λ e. omega (arith, n.0)))
+      ap (numbered_by (word (number_text key.whole key.fraction) c)) (number_read key.whole key.fraction n.1 n.2 (λ e. omega (arith, n.0)))
   numeral_of_lem Sub key c o =
-      let n = ok_sub d key.whole key.fraction o in
+      let n = ok_sub_lem d key.whole key.fraction o in
       sub_numeral _ key.whole key.fraction n.0 n.1
 
   whole_fits : (k : Kind) (key : Key) → ok_within d k key ≡ true → key.whole ≤ whole_max
   unfolding ok_within
   whole_fits Cue key o = (ok_number_lem key.whole key.fraction o).1
   whole_fits Group key o = (ok_number_lem key.whole key.fraction o).1
-  whole_fits Sub key o = let n = ok_sub d key.whole key.fraction o in omega (arith, r.subs.1, n.0)
+  whole_fits Sub key o = let n = ok_sub_lem d key.whole key.fraction o in omega (arith, r.subs.1, n.0)
 
   module _ (k : Kind) (y : Key) (o : ok_name d (name k y) ≡ true) where
     named_of_lem : (qs : List ℕ) → named_of d k (spelled (number_text y.whole y.fraction ∷ integer_text y.page ∷ []) qs) ≡ Accepted y

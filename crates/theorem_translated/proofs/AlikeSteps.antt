@@ -20,7 +20,7 @@ use Rattle.store_desk.specs.declared.Kind.{Kind}
 use Rattle.store_desk.specs.declared.Kind.TheVariants.{Cue, Group, Sub}
 use Rattle.store_desk.specs.Size.{Within, slots_of}
 use Rattle.store_desk.specs.Name.{Name, first_slot, slot_count, slots_end, pages_of, supported, ok_within, ok_name}
-use Rattle.store_desk.proofs.Name.{kind_end, ok_number_lem, ok_sub, ok_within_lem, ok_page_lem}
+use Rattle.store_desk.proofs.Name.{kind_end, ok_number_lem, ok_sub_lem, ok_within_lem, ok_page_lem}
 use Rattle.text_fields.specs.declared.Item.{Item}
 use Rattle.text_fields.specs.declared.Item.TheVariants.{All, Cues, Groups, Patch as Patches, Subs, Local as LocalItem, Other as OtherItem}
 use Rattle.text_fields.specs.Words.{Word, fields_of, head_of, tail_of}
@@ -126,7 +126,7 @@ last_number_lem : (d : Desk) (k : Kind) (n : ℕ) → ok_within d k (on_first n)
 unfolding ok_within last_number
 last_number_lem d Cue n e = let o = ok_number_lem (n + 1) 0 e in omega arith
 last_number_lem d Group n e = let o = ok_number_lem (n + 1) 0 e in omega arith
-last_number_lem d Sub n e = let o = (ok_sub d (n + 1) 0 e).0 in omega arith
+last_number_lem d Sub n e = let o = (ok_sub_lem d (n + 1) 0 e).0 in omega arith
 
 pub next_first : (d : Desk) (k : Kind) (n : ℕ) → n < last_number d k → next_key d k n ≡ on_first n
 unfolding next_key

@@ -118,22 +118,22 @@ numbers_anew [] os b = refl
 numbers_anew (r ∷ rs) [] b = refl
 numbers_anew (r ∷ rs) (o ∷ os) b = numbers_anew rs os (numbered b (heard_in b r o)) ∙ numbered-anew b (heard_in b r o)
 
-one_more : (b : Numbers) (k j : Kind) → accepted_of (one_more b j) k ≡ cond (eq_kind k j) (accepted_of b k + 1) (accepted_of b k)
+one_more_lem : (b : Numbers) (k j : Kind) → accepted_of (one_more b j) k ≡ cond (eq_kind k j) (accepted_of b k + 1) (accepted_of b k)
 unfolding accepted_of one_more eq_kind
-one_more b Cue Cue = refl
-one_more b Cue Group = refl
-one_more b Cue Sub = refl
-one_more b Group Cue = refl
-one_more b Group Group = refl
-one_more b Group Sub = refl
-one_more b Sub Cue = refl
-one_more b Sub Group = refl
-one_more b Sub Sub = refl
+one_more_lem b Cue Cue = refl
+one_more_lem b Cue Group = refl
+one_more_lem b Cue Sub = refl
+one_more_lem b Group Cue = refl
+one_more_lem b Group Group = refl
+one_more_lem b Group Sub = refl
+one_more_lem b Sub Cue = refl
+one_more_lem b Sub Group = refl
+one_more_lem b Sub Sub = refl
 
 pub numbered_more : (b : Numbers) (k : Kind) (h : Heard) → accepted_of (numbered b h) k ≡ cond (is_heard k h) (accepted_of b k + 1) (accepted_of b k)
 unfolding numbered is_heard
 numbered_more b k Other = refl
-numbered_more b k (Accepted j) = one_more b k j
+numbered_more b k (Accepted j) = one_more_lem b k j
 numbered_more b k (Refused j) = refl
 numbered_more b k (Asked m) = refl
 
@@ -251,8 +251,8 @@ module _ (d : Desk) (t stream : List ℕ) (k : Kind) (i : ℕ) where
   anew_at : (numbers_at d t stream i).anew ≡ true
   anew_at = numbers_anew (records_of stream) (first_run d t stream i).outcomes anew_from_one
 
-  key_at : next_key d k (accepted_of (numbers_at d t stream i) k) ≡ key_at d t stream k i
-  key_at =
+  key_at_lem : next_key d k (accepted_of (numbers_at d t stream i) k) ≡ key_at d t stream k i
+  key_at_lem =
       let os = (first_run d t stream i).outcomes in
       ap (next_key d k) (numbers_by_lem k (records_of stream) os anew_from_one refl ∙ none_yet k (accepted_in k (records_of stream) os))
 
@@ -262,7 +262,7 @@ translated_numbered d t stream ready k i f o =
     let b = numbers_at d t stream i in
     let y = record_opens d b x.store k x.state (anew_at d t stream k i) (record_at stream i) f o in
     let r : Ready d x.store = run_in_ready d 0 anew_from_one nothing_open t (take i (records_of stream)) ready in
-    let e = key_at d t stream k i in
+    let e = key_at_lem d t stream k i in
     let n = name k (next_key d k (accepted_of b k)) in
     let a : memory_of d (started d x.store n) n ≡ kept (blank_memory d n.key) =
     start_view d x.store r n (y.ok r.range) y.place y.seated n ∙ cond-true (eq_name n n) _ _ (eq_name_refl n) in
@@ -279,7 +279,7 @@ translated_primaries d t stream k i l f =
     let b = numbers_at d t stream i in
     let fs = fields_of (record_at stream i) in
     let q = ap (λ (y : Step). y.outcome) (record_primary d b x.store k x.state (anew_at d t stream k i) (record_at stream i) l f) in
-    let e = key_at d t stream k i in
+    let e = key_at_lem d t stream k i in
     record {
       unsupported = λ u. q ∙ came_unsupported d b x.store k x.state (head_of fs) (tail_of fs) u;
       beyond =
