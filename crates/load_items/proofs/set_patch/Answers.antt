@@ -9,7 +9,7 @@ use Rattle.load_items.proofs.set_patch.Goals as goal
 pub patch_dimmer-requires : goal.patch_dimmer-requires
 patch_dimmer-requires c =
     let h = subst (EntryFits _) c.in-Patch.is c.requires.entry_fits in
-    let r = c.requires.fitting.ranges.channels in
+    let r = c.requires.fitting.range.channels in
     (c.requires.fitting, (record { on_page = c.requires.aim_fits; on_dimmer = h.1 }, omega arith))
 
 pub returns-in-Level : goal.returns-in-Level

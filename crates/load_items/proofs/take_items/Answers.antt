@@ -32,7 +32,7 @@ loop-i-smaller c =
     omega (arith, h, next_less _ _ c.next_field-i.ensures (item_forward _ _ _ _ c.item_at-item.ensures c.loop-i.invariant.starts h) h)
 
 pub loop-i-preserved : goal.loop-i-preserved
-loop-i-preserved c = loop_turn _ _ _ _ _ _ _ c.requires.items_ready.room c.loop-i.invariant c.loop-i-test.true c.item_at-item.ensures c.apply.ensures c.apply.kept.1.0 c.note-n.ensures c.next_field-i.ensures
+loop-i-preserved c = loop_turn _ _ _ _ _ _ _ c.requires.items_ready.room c.loop-i.invariant c.loop-i-test.true c.item_at-item.ensures c.apply.ensures c.apply.auto.store c.note-n.ensures c.next_field-i.ensures
 
 pub returns : goal.returns
 returns c = loop_end _ _ _ _ _ _ _ c.requires.items_ready.room c.loop-i.invariant c.loop-i-test.false

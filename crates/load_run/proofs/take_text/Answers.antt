@@ -14,10 +14,10 @@ step-s-requires c =
     (record { fitting = t.fitting; short = omega (arith, c.requires.text_of.short, c.requires.text_of.within); ready = t.ready }, (c.requires.counters_fit, c.requires.room))
 
 pub slice_bounds-tell-end : goal.slice_bounds-tell-end
-slice_bounds-tell-end c = omega (arith, c.step-s.ensures.faults_le_most_faults, c.step-s.kept.1.1.1.1.0, c.requires.room)
+slice_bounds-tell-end c = omega (arith, c.step-s.ensures.faults_le_most_faults, c.step-s.auto.faults, c.requires.room)
 
 pub slice_bounds-tell-end-2 : goal.slice_bounds-tell-end-2
-slice_bounds-tell-end-2 c = sym (length-take-le _ _ (omega (arith, c.step-s.ensures.faults_le_most_faults, c.step-s.kept.1.1.1.1.0, c.requires.room)))
+slice_bounds-tell-end-2 c = sym (length-take-le _ _ (omega (arith, c.step-s.ensures.faults_le_most_faults, c.step-s.auto.faults, c.requires.room)))
 
 pub tell-count-requires : goal.tell-count-requires
 tell-count-requires c =

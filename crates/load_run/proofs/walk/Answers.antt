@@ -67,7 +67,7 @@ pub loop-at-preserved : goal.loop-at-preserved
 loop-at-preserved c =
     let w = c.loop-at.invariant in
     let r = c.take_record-done.ensures in
-    let h = c.take_record-done.kept.1.1.1.1.1.1 in
+    let h = c.take_record-done.auto.store in
     let b = h.1.1.1 in (
       loop_turn w.0 c.loop-at-test.true (spans c.before.before.before.before.before.before.before.before.before.before.before.before.before.before.before.before.before.before.before.before).ends r.0 r.1 c.next_start-at-in-loop-at.ensures c.if-done.false h.0 h.1.0 b.0 b.1.0 b.1.1.0,
       h.1.1.0 ∙ w.1,

@@ -27,7 +27,7 @@ pub returns-in-Refused : goal.returns-in-Refused
 returns-in-Refused c = asked_as _ _ _ (primary_refused _ (numbers c.before.before.before.before.before.before.before.before.before.before) _ (keyword c.before.before.before.before.before.before.before.before.before.before) (words c.before.before.before.before.before.before.before.before.before.before) c.supports.ensures c.if-supports.true c.name_in.ensures c.in-Refused.is) (skips_as _ _ _ _ c.refused.ensures)
 
 pub opened-requires : goal.opened-requires
-opened-requires c = record { fitting = c.requires.fitting; key_value = primary_ok _ (numbers c.before.before.before.before.before.before.before.before.before.before) _ (words c.before.before.before.before.before.before.before.before.before.before) c.supports.ensures c.if-supports.true c.name_in.ensures c.requires.fitting.ranges c.in-Name.is }
+opened-requires c = record { fitting = c.requires.fitting; key_value = primary_ok _ (numbers c.before.before.before.before.before.before.before.before.before.before) _ (words c.before.before.before.before.before.before.before.before.before.before) c.supports.ensures c.if-supports.true c.name_in.ensures c.requires.fitting.range c.in-Name.is }
 
 pub returns-in-Name : goal.returns-in-Name
 returns-in-Name c = asked_as _ _ _ (primary_opened _ (numbers c.before.before.before.before.before.before.before.before.before.before.before.before.before) _ (keyword c.before.before.before.before.before.before.before.before.before.before.before.before.before) (words c.before.before.before.before.before.before.before.before.before.before.before.before.before) c.supports.ensures c.if-supports.true c.name_in.ensures c.in-Name.is) c.opened.ensures

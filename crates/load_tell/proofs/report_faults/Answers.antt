@@ -22,7 +22,7 @@ loop-i-preserved c =
     (
   omega arith,
   turn_told _ _ _ _ c.loop-i-test.true c.loop-i.invariant.1 c.fault_in-f.ensures (column_told _ _ _ c.report-n.ensures c.column_of-column.ensures),
-  c.report-n.auto.0 ∙ c.loop-i.invariant.2,
+  c.report-n.auto.reports ∙ c.loop-i.invariant.2,
 )
 
 pub returns : goal.returns

@@ -47,7 +47,7 @@ loop-n-preserved c =
     let w = c.loop-n.invariant in (
       w.0,
       loop_turn w.1 c.loop-n-test.true (spans c.before.before.before.before.before.before).ends c.next_start-at.ensures c.bearing_at-b.ensures c.meet_bearing-seen.ensures
-          c.meet_bearing-seen.auto.1.1.1.1.0,
+          c.meet_bearing-seen.auto.found.0,
     )
 
 pub returns : goal.returns

@@ -12,7 +12,7 @@ pub link-count-requires : goal.link-count-requires
 link-count-requires c =
     let p = c.requires in
     let w = c.walk-done.ensures in
-    let h = c.walk-done.kept.1 in (
+    let h = c.walk-done.auto.store in (
       fitting_kept _ _ _ h.0 p.0,
       (p.1, (h.1.1.1.1.1.0, (walk_losing _ _ _ _ p.1 c.walk-done.result w, walk_records _ _ _ _ p.1 c.walk-done.result w))),
     )

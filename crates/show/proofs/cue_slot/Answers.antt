@@ -6,7 +6,7 @@ use mathlib.Core.Path.{sym, ◌∙◌}
 use Rattle.show.proofs.cue_slot.Goals as goal
 
 pub find-requires : goal.find-requires
-find-requires c = record { fitting = c.requires.fitting; key_fits = ok_fits _ _ c.requires.fitting.ranges (sym c.ok_name.ensures ∙ c.if-ok_name.true) }
+find-requires c = record { fitting = c.requires.fitting; key_fits = ok_fits _ _ c.requires.fitting.range (sym c.ok_name.ensures ∙ c.if-ok_name.true) }
 
 pub returns : goal.returns
 returns c = unnamed _ _ _ c.requires.store_value c.ok_name.ensures c.if-ok_name.false

@@ -5,7 +5,7 @@ use Rattle.std.proofs.Common.{rules}
 use Rattle.show.proofs.levels_place.Goals as goal
 
 pub levels_start-requires : goal.levels_start-requires
-levels_start-requires c = record { in_range = c.requires.fitting.ranges; slot_bound = find_inside _ _ _ c.cue_slot.ensures c.in-At.is }
+levels_start-requires c = record { in_range = c.requires.fitting.range; slot_bound = find_inside _ _ _ c.cue_slot.ensures c.in-At.is }
 
 pub returns-in-At : goal.returns-in-At
 returns-in-At c = placed_at_lem _ (place_at c.cue_slot.ensures c.in-At.is) c.levels_start.ensures

@@ -6,7 +6,7 @@ use Rattle.std.proofs.Common.{rules}
 use Rattle.store_code.proofs.clear_patch.Goals as goal
 
 pub overflow_mul-entries : goal.overflow_mul-entries
-overflow_mul-entries c = let h = entries_le _ c.requires.fitting.ranges in omega (arith, c.entries.ensures)
+overflow_mul-entries c = let h = entries_le _ c.requires.fitting.range in omega (arith, c.entries.ensures)
 
 pub zero-requires : goal.zero-requires
 zero-requires c = patch_room _ c.requires.fitting c.patch_start-start.ensures c.entries.ensures
@@ -15,10 +15,10 @@ pub returns-then-page-eq0 : goal.returns-then-page-eq0
 returns-then-page-eq0 c = patch_cleared _ _ _ _ c.if-page-eq0.true c.patch_start-start.ensures c.entries.ensures c.zero.ensures
 
 pub overflow_mul-at : goal.overflow_mul-at
-overflow_mul-at c = let h = page_small _ c.requires.page_bound c.if-page-eq0.false c.patch_start-start.ensures c.place-count.ensures c.place.ensures c.requires.fitting.ranges in omega arith
+overflow_mul-at c = let h = page_small _ c.requires.page_bound c.if-page-eq0.false c.patch_start-start.ensures c.place-count.ensures c.place.ensures c.requires.fitting.range in omega arith
 
 pub overflow_add-at : goal.overflow_add-at
-overflow_add-at c = let h = page_small _ c.requires.page_bound c.if-page-eq0.false c.patch_start-start.ensures c.place-count.ensures c.place.ensures c.requires.fitting.ranges in omega arith
+overflow_add-at c = let h = page_small _ c.requires.page_bound c.if-page-eq0.false c.patch_start-start.ensures c.place-count.ensures c.place.ensures c.requires.fitting.range in omega arith
 
 pub zero-requires-2 : goal.zero-requires-2
 zero-requires-2 c = page_room _ c.requires.page_bound c.if-page-eq0.false c.patch_start-start.ensures c.place-count.ensures c.place.ensures c.requires.fitting

@@ -5,7 +5,7 @@ use Rattle.std.proofs.Common.{rules}
 use Rattle.store_code.proofs.entry_bytes.Goals as goal
 
 pub overflow_add-end : goal.overflow_add-end
-overflow_add-end c = let h = entry_small _ _ c.requires.bound c.requires.fitting.ranges in omega (arith, c.entry_start-at.ensures)
+overflow_add-end c = let h = entry_small _ _ c.requires.bound c.requires.fitting.range in omega (arith, c.entry_start-at.ensures)
 
 pub slice_bounds-result-end : goal.slice_bounds-result-end
 slice_bounds-result-end c = let h = entry_room _ _ c.requires.bound c.requires.fitting in omega (arith, c.entry_start-at.ensures)

@@ -32,7 +32,7 @@ abbrev part : goal.After-slot_length → List ℕ
 part c = take (length c.args.store.now - begin c) (drop (begin c) c.args.store.now)
 
 pub overflow_add-end : goal.overflow_add-end
-overflow_add-end c = let h = kind_small c.args.desk c.args.kind c.requires.fitting.ranges in omega (arith, c.first_slot-first.ensures, c.slot_count.ensures)
+overflow_add-end c = let h = kind_small c.args.desk c.args.kind c.requires.fitting.range in omega (arith, c.first_slot-first.ensures, c.slot_count.ensures)
 
 -- the slots of the kind begin in the store
 fits : (c : goal.After-slot_length) → begin c ≤ length c.args.store.now
@@ -49,7 +49,7 @@ begins c = ap (λ (k : ℕ). low c * k) c.slot_length.ensures
 -- their numbers are small
 small : (c : goal.After-slot_length) → high c ≤ 1568
 small c =
-    let h = kind_small c.args.desk c.args.kind c.requires.fitting.ranges in
+    let h = kind_small c.args.desk c.args.kind c.requires.fitting.range in
     omega (arith, c.first_slot-first.ensures, c.slot_count.ensures)
 
 -- each of them lies in the part
@@ -70,7 +70,7 @@ seeks c =
 pub overflow_mul-from : goal.overflow_mul-from
 overflow_mul-from c =
     let a = kind_from c.args.desk c.args.kind c.first_slot-first.ensures c.slot_length.ensures in
-    let b = patch_le c.args.desk c.requires.fitting.ranges in
+    let b = patch_le c.args.desk c.requires.fitting.range in
     omega arith
 
 pub slice_bounds-slots-count : goal.slice_bounds-slots-count
@@ -89,7 +89,7 @@ pub among_four-requires : goal.among_four-requires
 among_four-requires c =
     let i = c.loop-i.invariant in
     let r = room c.before.before.before (c.loop-i.i + 3) (omega (arith, i.1.0)) (omega (arith, c.loop-i-test.true)) in
-    (c.requires.fitting.ranges, (i.1.0, (r.0, r.1)))
+    (c.requires.fitting.range, (i.1.0, (r.0, r.1)))
 
 pub returns-in-At : goal.returns-in-At
 returns-in-At c = at_place (four_hit _ _ _ _ _ _ c.loop-i-test.true c.among_four.ensures c.in-At.is c.loop-i.invariant.1.1 ∙ seeks c.before.before.before.before.before.before.before)
@@ -117,7 +117,7 @@ pub word_in-requires : goal.word_in-requires
 word_in-requires c =
     let i = c.loop-i-2.invariant in
     let r = room c.before.before.before.before.before c.loop-i-2.i i.0 c.loop-i-2-test.true in
-    (c.requires.fitting.ranges, (let k = r.0 in omega arith, r.1))
+    (c.requires.fitting.range, (let k = r.0 in omega arith, r.1))
 
 pub returns-then-word_in-wanted : goal.returns-then-word_in-wanted
 returns-then-word_in-wanted c = at_place (word_hit _ _ _ c.loop-i-2-test.true c.word_in.ensures c.if-word_in-wanted.true c.loop-i-2.invariant.1 ∙ seeks c.before.before.before.before.before.before.before)

@@ -5,7 +5,7 @@ use Rattle.std.proofs.Common.{rules}
 use Rattle.store_code.proofs.new_seat.Goals as goal
 
 pub sub_slot-requires : goal.sub_slot-requires
-sub_slot-requires c = record { in_range = c.requires.fitting.ranges; within = sub_range _ _ _ c.in-Sub.is c.requires.key_value }
+sub_slot-requires c = record { in_range = c.requires.fitting.range; within = sub_range _ _ _ c.in-Sub.is c.requires.key_value }
 
 pub returns-in-Cue : goal.returns-in-Cue
 returns-in-Cue c = new_lowest _ _ _ _ (inl c.in-Cue.is) c.lowest_unused.ensures

@@ -5,7 +5,7 @@ use Rattle.std.proofs.Common.{rules}
 use Rattle.store_code.proofs.seat.Goals as goal
 
 pub find-kept-requires : goal.find-kept-requires
-find-kept-requires c = record { fitting = c.requires.fitting; key_fits = ok_fits _ _ c.requires.fitting.ranges c.requires.key_value }
+find-kept-requires c = record { fitting = c.requires.fitting; key_fits = ok_fits _ _ c.requires.fitting.range c.requires.key_value }
 
 pub returns-in-At : goal.returns-in-At
 returns-in-At c = seat_kept _ _ _ c.find-kept.ensures c.in-At.is

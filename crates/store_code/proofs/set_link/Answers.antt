@@ -18,4 +18,4 @@ returns c =
     let p = c.requires in
     edit_back _ _ _ _ _ c.slot_start-at.ensures c.slot_end-end.ensures p.0 p.1.0
     (edit_link _ _ _ _ c.relink.ensures)
-    c.relink.auto.0
+    c.relink.auto.slot

@@ -5,7 +5,7 @@ use Rattle.std.proofs.Common.{rules}
 use Rattle.store_code.proofs.start.Goals as goal
 
 pub blank-requires : goal.blank-requires
-blank-requires c = record { fitting = c.requires.fitting; slot_bound = seat_inside _ _ _ _ c.requires.key_value c.seat-place.ensures c.in-At.is; key_fits = ok_fits _ _ c.requires.fitting.ranges c.requires.key_value }
+blank-requires c = record { fitting = c.requires.fitting; slot_bound = seat_inside _ _ _ _ c.requires.key_value c.seat-place.ensures c.in-At.is; key_fits = ok_fits _ _ c.requires.fitting.range c.requires.key_value }
 
 pub returns-in-At : goal.returns-in-At
 returns-in-At c = start_at_lem _ _ _ c.seat-place.ensures c.in-At.is c.blank.ensures

@@ -17,13 +17,13 @@ pub word_at-requires : goal.word_at-requires
 word_at-requires c = let l = keys_inside c.args.desk in (c.requires, omega (arith, c.first_slot-n.ensures))
 
 pub offset_bounds-words-i : goal.offset_bounds-words-i
-offset_bounds-words-i c = let m = most_keys_lem _ c.requires.ranges in omega (arith, c.first_slot-n.ensures)
+offset_bounds-words-i c = let m = most_keys_lem _ c.requires.range in omega (arith, c.first_slot-n.ensures)
 
 pub bounds-words-i : goal.bounds-words-i
-bounds-words-i c = let m = most_keys_lem _ c.requires.ranges in omega (arith, c.first_slot-n.ensures)
+bounds-words-i c = let m = most_keys_lem _ c.requires.range in omega (arith, c.first_slot-n.ensures)
 
 pub loop-i-preserved : goal.loop-i-preserved
-loop-i-preserved c = (search rules, words_turn _ _ _ _ c.loop-i.invariant.1 (let m = most_keys_lem _ c.requires.ranges in omega (arith, c.first_slot-n.ensures)) c.word_at.ensures)
+loop-i-preserved c = (search rules, words_turn _ _ _ _ c.loop-i.invariant.1 (let m = most_keys_lem _ c.requires.range in omega (arith, c.first_slot-n.ensures)) c.word_at.ensures)
 
 pub returns : goal.returns
 returns c = words_end _ _ _ _ c.loop-i.invariant.1 c.loop-i.invariant.0 c.loop-i-test.false c.first_slot-n.ensures
