@@ -29,7 +29,7 @@ receive-r-requires c = spans_in _ _ _ c.requires.spans
 pub returns-then-over_long : goal.returns-then-over_long
 returns-then-over_long c =
     let g = is_long _ _ _ c.requires.spans c.receive-r.ensures c.over_long.ensures c.if-over_long.true in
-    (long_taken _ _ c.args.done _ _ _ g c.requires.taking.ready c.tell_long.ensures, long_booked _ c.args.done _ _ _ _ _ _ g)
+    record { reports_after = long_taken _ _ c.args.done _ _ _ g c.requires.taking.ready c.tell_long.ensures; asked_after = long_booked _ c.args.done _ _ _ _ _ _ g }
 
 pub slice_bounds-bytes-end : goal.slice_bounds-bytes-end
 slice_bounds-bytes-end c = within c.before
@@ -54,4 +54,4 @@ take_text-requires c =
 pub returns : goal.returns
 returns c =
     let g = is_long _ _ _ c.requires.spans c.receive-r.ensures c.over_long.ensures c.if-over_long.false in
-    (c.take_text.ensures.reports_after ∙ text_taken_lem (texted c.before.before.before.before.before.before.before.before.before.before.before.before.before.before.before.before.before.before.before.before.before) _ _ c.args.done _ _ g, c.take_text.ensures.asked_after ∙ text_booked_lem (texted c.before.before.before.before.before.before.before.before.before.before.before.before.before.before.before.before.before.before.before.before.before) _ c.args.done _ _ _ _ _ g)
+    record { reports_after = c.take_text.ensures.reports_after ∙ text_taken_lem (texted c.before.before.before.before.before.before.before.before.before.before.before.before.before.before.before.before.before.before.before.before.before) _ _ c.args.done _ _ g; asked_after = c.take_text.ensures.asked_after ∙ text_booked_lem (texted c.before.before.before.before.before.before.before.before.before.before.before.before.before.before.before.before.before.before.before.before.before) _ c.args.done _ _ _ _ _ g }

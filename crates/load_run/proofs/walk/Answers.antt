@@ -50,7 +50,7 @@ take_record-done-requires c =
     let m = w.1 in
     let h = c.loop-at-test.true in
     let f = (spans c.before.before.before.before.before.before).ends in
-    (spans c.before.before.before.before.before.before, (loop_room w.0 h f, (omega arith, loop_fit w.0 h f)))
+    record { spans = spans c.before.before.before.before.before.before; taking = loop_room w.0 h f; room = omega arith; counters_fit = loop_fit w.0 h f }
 
 pub returns-then-done : goal.returns-then-done
 returns-then-done c = loop_stop c.loop-at.invariant.0 c.loop-at-test.true (spans c.before.before.before.before.before.before.before.before.before.before.before.before.before.before.before.before.before.before.before).ends c.take_record-done.ensures.reports_after c.take_record-done.ensures.asked_after c.if-done.true

@@ -14,7 +14,7 @@ spans : (e : goal.After-record_end-end)
 spans e = spans_at _ e.loop-n.invariant.1.within e.plain_again-first.ensures e.record_end-end.ensures
 
 pub loop-n-init : goal.loop-n-init
-loop-n-init c = let p = c.requires in (p.1.1, loop_start _ _ _ _ _ p.0 p.1.0)
+loop-n-init c = (c.requires.found_in_bounds, loop_start _ _ _ _ _ c.requires.records_in_bounds c.requires.stream_len_bound)
 
 pub plain_again-first-requires : goal.plain_again-first-requires
 plain_again-first-requires c = c.loop-n.invariant.1.within
@@ -29,7 +29,7 @@ pub meet_bearing-seen-requires : goal.meet_bearing-seen-requires
 meet_bearing-seen-requires c =
     let w = c.loop-n.invariant in
     let f = w.1.found-length in
-    (omega (arith, w.0), (bearing_fits _ c.bearing_at-b.ensures, loop_countable w.1 c.loop-n-test.true))
+    record { found_in_bounds = omega (arith, w.0); bearable = bearing_fits _ c.bearing_at-b.ensures; countable = loop_countable w.1 c.loop-n-test.true }
 
 pub overflow_add-n : goal.overflow_add-n
 overflow_add-n c =

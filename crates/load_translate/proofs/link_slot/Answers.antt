@@ -5,7 +5,7 @@ use Rattle.std.proofs.Common.{rules}
 use Rattle.load_translate.proofs.link_slot.Goals as goal
 
 pub has_asked-requires : goal.has_asked-requires
-has_asked-requires c = let p = c.requires in (p.0, cue_slot _ _ p.1.0)
+has_asked-requires c = record { fitting = c.requires.fitting; slot_bound = cue_slot _ _ c.requires.slot_lt_cues }
 
 pub returns-then-not-has_asked : goal.returns-then-not-has_asked
 returns-then-not-has_asked c = slot_still _ _ _ _ _ _ _ c.has_asked.ensures c.if-not-has_asked.true

@@ -16,7 +16,7 @@ pub loop-i-init : goal.loop-i-init
 loop-i-init c = (search rules, entries_start _ _ c.entries-n.ensures)
 
 pub entry_fits-requires : goal.entry_fits-requires
-entry_fits-requires c = let e = c.entries-n.ensures in (c.requires, omega (arith, c.loop-i-test.true))
+entry_fits-requires c = let e = c.entries-n.ensures in record { fitting = c.requires; bound = omega (arith, c.loop-i-test.true) }
 
 pub returns-then-not-entry_fits : goal.returns-then-not-entry_fits
 returns-then-not-entry_fits c = at_place (search_hit _ _ _ c.loop-i-test.true (ap not c.entry_fits.ensures) c.if-not-entry_fits.true c.loop-i.invariant.1)

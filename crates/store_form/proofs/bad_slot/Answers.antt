@@ -16,7 +16,7 @@ pub loop-i-init : goal.loop-i-init
 loop-i-init c = (search rules, slots_start _ _ c.slots-n.ensures)
 
 pub slot_fits-requires : goal.slot_fits-requires
-slot_fits-requires c = let e = c.slots-n.ensures in (c.requires, omega (arith, c.loop-i-test.true))
+slot_fits-requires c = let e = c.slots-n.ensures in record { fitting = c.requires; slot_bound = omega (arith, c.loop-i-test.true) }
 
 pub returns-then-not-slot_fits : goal.returns-then-not-slot_fits
 returns-then-not-slot_fits c = at_place (search_hit _ _ _ c.loop-i-test.true (ap not c.slot_fits.ensures) c.if-not-slot_fits.true c.loop-i.invariant.1)
