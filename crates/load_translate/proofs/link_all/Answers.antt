@@ -49,7 +49,7 @@ pub loop-slot-preserved : goal.loop-slot-preserved
 loop-slot-preserved c =
     let w = c.loop-slot.invariant in
     let a = c.link_slot-n.auto in
-    (w.0, a.1.0 ∙ w.1, a.1.1.0 ∙ w.2, loop_turn w.3 (below c.loop-slot-test.true w.0) refl refl c.link_slot-n.ensures a.1.0)
+    (w.0, a.store ∙ w.1, a.reports ∙ w.2, loop_turn w.3 (below c.loop-slot-test.true w.0) refl refl c.link_slot-n.ensures a.store)
 
 pub returns : goal.returns
 returns c = let w = c.loop-slot.invariant in loop_end w.3 (over c.loop-slot-test.false w.0)

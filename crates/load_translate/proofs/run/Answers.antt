@@ -11,7 +11,7 @@ walk-done-requires c = record { fitting = c.requires.fitting; stream_len_bound =
 pub link-count-requires : goal.link-count-requires
 link-count-requires c =
     let w = c.walk-done.ensures in
-    let h = c.walk-done.auto.store in record { fitting = fitting_kept _ _ _ h.0 c.requires.fitting; stream_len_bound = c.requires.stream_len_bound; asked_len = h.1.1.1.1.1.0; losing = walk_losing _ _ _ _ c.requires.stream_len_bound c.walk-done.result w; records_in_bounds = walk_records _ _ _ _ c.requires.stream_len_bound c.walk-done.result w }
+    let h = c.walk-done.auto in record { fitting = fitting_kept _ _ _ h.store c.requires.fitting; stream_len_bound = c.requires.stream_len_bound; asked_len = h.asked; losing = walk_losing _ _ _ _ c.requires.stream_len_bound c.walk-done.result w; records_in_bounds = walk_records _ _ _ _ c.requires.stream_len_bound c.walk-done.result w }
 
 pub close-requires : goal.close-requires
 close-requires c =
