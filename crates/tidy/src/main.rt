@@ -2,13 +2,13 @@
 // "The written stream"). `tidy_session::tidy` says what is printed, of the bytes that are read.
 #![tactic(auto)]
 
-use libc::{STDIN_FILENO, STDOUT_FILENO};
+use std::io;
 
 // The input has room for one byte more than is taken, which tells too much.
-fn main() {
-    let mut input = io::large_buffer();
-    let n = io::read_full(STDIN_FILENO, &mut input);
+fn main(rt: HostRuntime) -> io::Result<()> {
+    let mut input = [0u8; 65536];
+    let n = input_room::read_full(&mut rt.stdin(), &mut input)?;
     let mut out = tidy_session::buffer();
     let end = tidy_session::tidy(&input[..n], &mut out);
-    io::write_all(STDOUT_FILENO, &out[..end]);
+    rt.write_all(&out[..end])
 }
