@@ -11,16 +11,17 @@ pub overflow_cast-numbers : goal.overflow_cast-numbers
 overflow_cast-numbers c = let h = tried_fits _ c.requires.counters_fit in search rules
 
 pub one_more-requires : goal.one_more-requires
-one_more-requires c = let a = anew_room _ c.requires.numbers_value in (omega arith, cues_fit _ c.requires.counters_fit)
+one_more-requires c = let a = anew_room _ c.requires.numbers_value in record { i_in_bounds = omega arith; i_bound = cues_fit _ c.requires.counters_fit }
 
 pub one_more-requires-in-Cue : goal.one_more-requires-in-Cue
-one_more-requires-in-Cue c = twice_room _ c.one_more.ensures c.requires.numbers_value c.requires.counters_fit
+one_more-requires-in-Cue c =
+    let r = twice_room _ c.one_more.ensures c.requires.numbers_value c.requires.counters_fit in record { i_in_bounds = r.0; i_bound = r.1 }
 
 pub one_more-requires-in-Group : goal.one_more-requires-in-Group
-one_more-requires-in-Group c = let a = anew_room _ c.requires.numbers_value in (omega arith, groups_fit _ c.requires.counters_fit)
+one_more-requires-in-Group c = let a = anew_room _ c.requires.numbers_value in record { i_in_bounds = omega arith; i_bound = groups_fit _ c.requires.counters_fit }
 
 pub one_more-requires-in-Sub : goal.one_more-requires-in-Sub
-one_more-requires-in-Sub c = let a = anew_room _ c.requires.numbers_value in (omega arith, subs_fit _ c.requires.counters_fit)
+one_more-requires-in-Sub c = let a = anew_room _ c.requires.numbers_value in record { i_in_bounds = omega arith; i_bound = subs_fit _ c.requires.counters_fit }
 
 pub returns-in-Cue : goal.returns-in-Cue
 returns-in-Cue c = cue_accepted _ _ _ _ c.in-Cue.is c.one_more.ensures c.one_more-in-Cue.ensures c.mark.ensures c.ask.ensures

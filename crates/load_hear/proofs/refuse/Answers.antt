@@ -5,7 +5,7 @@ use Rattle.std.proofs.Common.{rules}
 use Rattle.load_hear.proofs.refuse.Goals as goal
 
 pub one_more-requires : goal.one_more-requires
-one_more-requires c = let l = c.args.numbers.now in (anew_room l c.requires.numbers_value, tried_fits l c.requires.counters_fit)
+one_more-requires c = let l = c.args.numbers.now in record { i_in_bounds = anew_room l c.requires.numbers_value; i_bound = tried_fits l c.requires.counters_fit }
 
 pub returns-in-Cue : goal.returns-in-Cue
 returns-in-Cue c = cue_refused _ c.in-Cue.is c.one_more.ensures

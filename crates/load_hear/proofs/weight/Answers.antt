@@ -1,4 +1,5 @@
 -- `weight` meets its contract: the definition, bit by bit.
+use Rattle.std.proofs.Common.{rules}
 use Rattle.load_hear.proofs.Bits.{power_last}
 use Rattle.load_hear.specs.Marks.{power}
 use Rattle.load_hear.proofs.weight.Goals as goal
@@ -32,6 +33,4 @@ unfolding power
 returns-in-6 c = rw c.in-6.is
 
 pub returns-in_default : goal.returns-in_default
-returns-in_default c =
-    let n = c.in_default.rest in
-    power_last _ c.requires n.0.0.0.0.0.0.1 n.0.0.0.0.0.1 n.0.0.0.0.1 n.0.0.0.1 n.0.0.1 n.0.1 n.1
+returns-in_default c = search (rules, power_last)

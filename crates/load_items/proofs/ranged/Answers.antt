@@ -1,8 +1,8 @@
 -- `ranged` meets its contract, by whether the field ends with its digits, and by their value.
-use mathlib.Core.Logic.{⊎_elim}
 use Rattle.load_items.proofs.Fields.{digits_within, ranged_zero, ranged_high, ranged_within, ranged_longer, ranged_empty}
 use Rattle.std.proofs.Common.{rules}
 use Rattle.load_items.proofs.ranged.Goals as goal
+use Rattle.load_items.proofs.ranged.Goals.{then-ends+else-at-end, else-ends}
 
 pub returns-then-value-eq0 : goal.returns-then-value-eq0
 returns-then-value-eq0 c = ranged_zero _ _ _ _ c.digits_at-d.ensures c.ends.ensures c.if-ends.true c.if-at-end.true c.if-value-eq0.true
@@ -18,7 +18,7 @@ wrong-requires c = digits_within _ _ c.digits_at-d.ensures c.requires
 
 pub returns : goal.returns
 returns c =
-    ⊎_elim
-    (λ w. ranged_empty _ _ _ _ c.digits_at-d.ensures c.ends.ensures w.0.taken w.1.left c.wrong.ensures)
-    (λ w. ranged_longer _ _ _ _ c.digits_at-d.ensures c.ends.ensures w.left c.wrong.ensures)
-    c.if-ends.branch
+    elim c.if-ends.branch [
+      | then-ends+else-at-end w ↦ ranged_empty _ _ _ _ c.digits_at-d.ensures c.ends.ensures w.if-ends.true w.if-at-end.false c.wrong.ensures
+      | else-ends w ↦ ranged_longer _ _ _ _ c.digits_at-d.ensures c.ends.ensures w.if-ends.false c.wrong.ensures
+    ]

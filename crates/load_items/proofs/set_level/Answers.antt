@@ -6,7 +6,7 @@ use Rattle.std.proofs.Common.{rules}
 use Rattle.load_items.proofs.set_level.Goals as goal
 
 pub edit-requires : goal.edit-requires
-edit-requires c = record { fitting = c.requires.fitting; slot_bound = c.requires.aim_fits; editing = record { fits = tt; channel = (subst (EntryFits _) c.in-Level.is c.requires.entry_fits).0 } }
+edit-requires c = record { fitting = c.requires.fitting; slot_bound = c.requires.aim_fits; editing = record { fits = tt; channel = (subst (EntryFits c.args.desk) c.in-Level.is c.requires.entry_fits).0 } }
 
 pub returns-in-Level : goal.returns-in-Level
 returns-in-Level c = slot_level _ _ _ c.in-Level.is c.edit.ensures

@@ -8,9 +8,9 @@ use Rattle.load_items.proofs.set_patch.Goals as goal
 
 pub patch_dimmer-requires : goal.patch_dimmer-requires
 patch_dimmer-requires c =
-    let h = subst (EntryFits _) c.in-Patch.is c.requires.entry_fits in
+    let h = subst (EntryFits c.args.desk) c.in-Patch.is c.requires.entry_fits in
     let r = c.requires.fitting.range.channels in
-    (c.requires.fitting, (record { on_page = c.requires.aim_fits; on_dimmer = h.1 }, omega arith))
+    record { fitting = c.requires.fitting; on_patch = record { on_page = c.requires.aim_fits; on_dimmer = h.1 }; channel_lt_channel_span = omega (arith, h.0, r) }
 
 pub returns-in-Level : goal.returns-in-Level
 returns-in-Level c = page_level _ _ _ c.in-Level.is

@@ -16,12 +16,12 @@ item_at-item-requires c = record { within = c.loop-i.invariant.within; short = c
 pub apply-requires : goal.apply-requires
 apply-requires c =
     let p = c.requires.items_ready in
-    (fitting_kept _ _ _ c.loop-i.invariant.long p.fitting, (p.aimed, item_fits _ _ _ _ c.item_at-item.ensures))
+    record { fitting = fitting_kept _ _ _ c.loop-i.invariant.long p.fitting; aim_fits = p.aimed; entry_fits = item_fits _ _ _ _ c.item_at-item.ensures }
 
 pub note-n-requires : goal.note-n-requires
 note-n-requires c =
     let p = c.requires.items_ready in
-    (loop_room _ _ _ _ _ _ _ p.room c.loop-i.invariant c.loop-i-test.true, item_noted _ _ _ _ c.item_at-item.ensures p.short)
+    record { n_in_bounds = loop_room _ _ _ _ _ _ _ p.room c.loop-i.invariant c.loop-i-test.true; place_fits = item_noted _ _ _ _ c.item_at-item.ensures p.short }
 
 pub next_field-i-requires : goal.next_field-i-requires
 next_field-i-requires c = item_ended _ _ _ _ c.item_at-item.ensures c.loop-i.invariant.within

@@ -5,7 +5,7 @@ use Rattle.std.proofs.Common.{rules}
 use Rattle.load_run.proofs.run.Goals as goal
 
 pub walk-done-requires : goal.walk-done-requires
-walk-done-requires c = let p = c.requires in (p.0, (p.1, none_accepted 1))
+walk-done-requires c = record { fitting = c.requires.fitting; stream_len_bound = c.requires.stream_len_bound; from_none = none_accepted 1 }
 
 pub close-requires : goal.close-requires
 close-requires c = close_room _ _ _ _ _ _ _ c.walk-done.result c.walk-done.ensures c.requires.stream_len_bound

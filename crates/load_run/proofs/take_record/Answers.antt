@@ -4,24 +4,11 @@ use Rattle.load_run.proofs.Taking.{text_taken_lem, text_booked_lem, text_room_le
 use lib.ListN.{length, take, drop}
 use lib.Seq.{length-take-le}
 use Prim.Native.Nat.{◌-◌, ◌≤◌}
-use mathlib.Core.Logic.{⊎_elim}
-use mathlib.Core.Path.{sym, ◌∙◌}
+use mathlib.Core.Bool.{not}
+use mathlib.Core.Path.{sym, ap, ◌∙◌}
 use Rattle.std.proofs.Common.{rules}
 use Rattle.load_run.proofs.take_record.Goals as goal
-
--- where a plain record and another meet
-texted : (c : goal.Joined-not-plain)
-    → Texted (take (c.args.end - c.args.at) (drop c.args.at c.args.stream.now)) c.if-not-plain.bytes c.if-not-plain.n c.if-not-plain.high c.if-not-plain.control
-texted c =
-    ⊎_elim
-    (λ w. texted_as (cleaned_texted _ _ _ c.requires.spans c.receive-r.ensures c.over_long.ensures c.if-over_long.false w.2.ensures) w.4 w.5 w.6 w.7)
-    (λ w. texted_as (plain_texted _ _ _ c.requires.spans c.receive-r.ensures c.over_long.ensures c.if-over_long.false w.0.left) w.1 w.2 w.3 w.4)
-    c.if-not-plain.branch
-
--- the bytes of a record that is not over-long hold its characters
-within : (l : goal.Else-over_long) → let q = l.receive-r.result in q.count ≤ length q.bytes
-within l =
-    short_within _ _ _ l.requires.spans l.receive-r.ensures l.over_long.ensures l.if-over_long.false
+use Rattle.load_run.proofs.take_record.Goals.{then-not-plain, else-not-plain}
 
 pub receive-r-requires : goal.receive-r-requires
 receive-r-requires c = spans_in _ _ _ c.requires.spans
@@ -29,29 +16,63 @@ receive-r-requires c = spans_in _ _ _ c.requires.spans
 pub returns-then-over_long : goal.returns-then-over_long
 returns-then-over_long c =
     let g = is_long _ _ _ c.requires.spans c.receive-r.ensures c.over_long.ensures c.if-over_long.true in
-    (long_taken _ _ c.args.done _ _ _ g c.requires.taking.ready c.tell_long.ensures, long_booked _ c.args.done _ _ _ _ _ _ g)
+    record { reports_after = long_taken _ _ c.args.done _ _ _ g c.requires.taking.ready c.tell_long.ensures; asked_after = long_booked _ c.args.done _ _ _ _ _ _ g }
 
 pub slice_bounds-bytes-end : goal.slice_bounds-bytes-end
-slice_bounds-bytes-end c = within c.before
+slice_bounds-bytes-end c = short_within _ _ _ c.requires.spans c.receive-r.ensures c.over_long.ensures c.if-over_long.false
 
 pub slice_bounds-clean-end : goal.slice_bounds-clean-end
-slice_bounds-clean-end c = sym (length-take-le _ _ (within c.before.before))
+slice_bounds-clean-end c = sym (length-take-le _ _ (short_within _ _ _ c.requires.spans c.receive-r.ensures c.over_long.ensures c.if-over_long.false))
 
 pub slice_bounds-take_text-end : goal.slice_bounds-take_text-end
 slice_bounds-take_text-end c = (spans_in _ _ _ c.requires.spans).1
 
 pub slice_bounds-bytes-end-2 : goal.slice_bounds-bytes-end-2
-slice_bounds-bytes-end-2 c = (texted c.before).within
+slice_bounds-bytes-end-2 c =
+    let known = c.requires.spans in
+    let x : Texted (take (c.args.end - c.args.at) (drop c.args.at c.args.stream.now)) c.if-not-plain.bytes c.if-not-plain.n c.if-not-plain.high c.if-not-plain.control =
+        elim c.if-not-plain.branch [
+          then-not-plain w ↦
+            texted_as (cleaned_texted _ _ _ known c.receive-r.ensures c.over_long.ensures c.if-over_long.false w.clean-c.ensures) w.bytes-is w.n-is w.high-is w.control-is
+          | else-not-plain w ↦
+            texted_as (plain_texted _ _ _ known c.receive-r.ensures c.over_long.ensures c.if-over_long.false (ap not w.if-not-plain.false)) w.bytes-is w.n-is w.high-is w.control-is
+        ] in
+    x.within
 
 pub slice_bounds-take_text-end-2 : goal.slice_bounds-take_text-end-2
-slice_bounds-take_text-end-2 c = sym (length-take-le _ _ (texted c.before.before).within)
+slice_bounds-take_text-end-2 c =
+    let known = c.requires.spans in
+    let x : Texted (take (c.args.end - c.args.at) (drop c.args.at c.args.stream.now)) c.if-not-plain.bytes c.if-not-plain.n c.if-not-plain.high c.if-not-plain.control =
+        elim c.if-not-plain.branch [
+          then-not-plain w ↦
+            texted_as (cleaned_texted _ _ _ known c.receive-r.ensures c.over_long.ensures c.if-over_long.false w.clean-c.ensures) w.bytes-is w.n-is w.high-is w.control-is
+          | else-not-plain w ↦
+            texted_as (plain_texted _ _ _ known c.receive-r.ensures c.over_long.ensures c.if-over_long.false (ap not w.if-not-plain.false)) w.bytes-is w.n-is w.high-is w.control-is
+        ] in
+    sym (length-take-le _ _ x.within)
 
 pub take_text-requires : goal.take_text-requires
 take_text-requires c =
-    let x = text_room_lem (texted c.before.before.before.before.before.before.before.before) (short_chars _ _ _ c.requires.spans c.receive-r.ensures c.over_long.ensures c.if-over_long.false) (part_taking _ _ _ c.requires.spans c.requires.taking) in
-    (x.0, (x.1, c.requires.1.1))
+    let known = c.requires.spans in
+    let x : Texted (take (c.args.end - c.args.at) (drop c.args.at c.args.stream.now)) c.if-not-plain.bytes c.if-not-plain.n c.if-not-plain.high c.if-not-plain.control =
+        elim c.if-not-plain.branch [
+          then-not-plain w ↦
+            texted_as (cleaned_texted _ _ _ known c.receive-r.ensures c.over_long.ensures c.if-over_long.false w.clean-c.ensures) w.bytes-is w.n-is w.high-is w.control-is
+          | else-not-plain w ↦
+            texted_as (plain_texted _ _ _ known c.receive-r.ensures c.over_long.ensures c.if-over_long.false (ap not w.if-not-plain.false)) w.bytes-is w.n-is w.high-is w.control-is
+        ] in
+    let r = text_room_lem x (short_chars _ _ _ c.requires.spans c.receive-r.ensures c.over_long.ensures c.if-over_long.false) (part_taking _ _ _ c.requires.spans c.requires.taking) in
+    record { text_of = r.0; taking = r.1; room = c.requires.room; counters_fit = c.requires.counters_fit }
 
 pub returns : goal.returns
 returns c =
+    let known = c.requires.spans in
+    let x : Texted (take (c.args.end - c.args.at) (drop c.args.at c.args.stream.now)) c.if-not-plain.bytes c.if-not-plain.n c.if-not-plain.high c.if-not-plain.control =
+        elim c.if-not-plain.branch [
+          then-not-plain w ↦
+            texted_as (cleaned_texted _ _ _ known c.receive-r.ensures c.over_long.ensures c.if-over_long.false w.clean-c.ensures) w.bytes-is w.n-is w.high-is w.control-is
+          | else-not-plain w ↦
+            texted_as (plain_texted _ _ _ known c.receive-r.ensures c.over_long.ensures c.if-over_long.false (ap not w.if-not-plain.false)) w.bytes-is w.n-is w.high-is w.control-is
+        ] in
     let g = is_long _ _ _ c.requires.spans c.receive-r.ensures c.over_long.ensures c.if-over_long.false in
-    (c.take_text.ensures.reports_after ∙ text_taken_lem (texted c.before.before.before.before.before.before.before.before.before.before.before.before.before.before.before.before.before.before.before.before.before) _ _ c.args.done _ _ g, c.take_text.ensures.asked_after ∙ text_booked_lem (texted c.before.before.before.before.before.before.before.before.before.before.before.before.before.before.before.before.before.before.before.before.before) _ c.args.done _ _ _ _ _ g)
+    record { reports_after = c.take_text.ensures.reports_after ∙ text_taken_lem x _ _ c.args.done _ _ g; asked_after = c.take_text.ensures.asked_after ∙ text_booked_lem x _ c.args.done _ _ _ _ _ g }

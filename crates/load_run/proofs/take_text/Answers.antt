@@ -11,7 +11,7 @@ use Rattle.load_run.proofs.take_text.Goals as goal
 pub step-s-requires : goal.step-s-requires
 step-s-requires c =
     let t = c.requires.taking in
-    (record { fitting = t.fitting; short = omega (arith, c.requires.text_of.short, c.requires.text_of.within); ready = t.ready }, (c.requires.counters_fit, c.requires.room))
+    record { stepping = record { fitting = t.fitting; short = omega (arith, c.requires.text_of.short, c.requires.text_of.within); ready = t.ready }; counters_fit = c.requires.counters_fit; room = c.requires.room }
 
 pub slice_bounds-tell-end : goal.slice_bounds-tell-end
 slice_bounds-tell-end c = omega (arith, c.step-s.ensures.faults_le_most_faults, c.step-s.auto.faults, c.requires.room)
@@ -21,14 +21,8 @@ slice_bounds-tell-end-2 c = sym (length-take-le _ _ (omega (arith, c.step-s.ensu
 
 pub tell-count-requires : goal.tell-count-requires
 tell-count-requires c =
-    let t = c.requires.taking in (
-      t.countable,
-      (
-        step_room _ _ _ c.step-s.ensures.faults_after (step_in_small _ _ _ _ _) c.step-s.ensures.faults_le_most_faults c.requires.room _ _ _ c.args.high c.args.control t.countable t.room
-            c.requires.text_of.short (text_said _ _ _ _ _) (text_near _ _ _ c.args.received.now c.args.text.now _ t.fitting c.requires.text_of.within),
-        c.requires.text_of.marred,
-      ),
-    )
+    let t = c.requires.taking in record { countable = t.countable; tellable = step_room _ _ _ c.step-s.ensures.faults_after (step_in_small _ _ _ _ _) c.step-s.ensures.faults_le_most_faults c.requires.room _ _ _ c.args.high c.args.control t.countable t.room
+            c.requires.text_of.short (text_said _ _ _ _ _) (text_near _ _ _ c.args.received.now c.args.text.now _ t.fitting c.requires.text_of.within); marred = c.requires.text_of.marred }
 
 pub returns : goal.returns
 returns c =

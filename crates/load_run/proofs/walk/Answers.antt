@@ -1,22 +1,15 @@
 -- `walk` meets its contract: what is read so far stands in front of the run of what is left of the stream, and what was noted of it is in
 -- the lent lists. The lent list of faults keeps its length.
-use Rattle.load_run.proofs.Turn as turn
-use Rattle.load_run.proofs.Turn.{SoFar, loop_start, end_in, loop_room, loop_fit, loop_turn, loop_stop, loop_end}
+use Rattle.load_run.proofs.Turn.{SoFar, loop_start, end_in, loop_room, loop_fit, loop_less, loop_turn, loop_stop, loop_end}
 use Rattle.load_run.proofs.Taking.{first_in, spans_at}
 use Rattle.load_run.proofs.Turn.{blank_room, blank_less, blank_turn}
 use Rattle.load_items.specs.Done.{most_faults}
-use Rattle.load_run.specs.Take.{Spans}
 use native.Mathlib.Omega.{arith}
-use lib.Dec.{eqb}
 use lib.ListN.{length}
 use Prim.Native.Nat.{◌-◌}
 use mathlib.Core.Path.{◌≡◌, refl, sym, ◌∙◌}
 use Rattle.std.proofs.Common.{rules}
 use Rattle.load_run.proofs.walk.Goals as goal
-
-spans : (e : goal.After-record_end-end)
-    → Spans e.args.stream.now e.loop-at.at e.record_end-end.result (eqb e.plain_end-first.result e.record_end-end.result)
-spans e = spans_at _ e.loop-at.invariant.0.within e.plain_end-first.ensures e.record_end-end.ensures
 
 pub loop-at-init : goal.loop-at-init
 loop-at-init c = (loop_start _ _ _ _ _ _ _ c.requires.fitting c.requires.stream_len_bound c.requires.from_none c.begun-done.ensures, refl)
@@ -49,28 +42,28 @@ take_record-done-requires c =
     let w = c.loop-at.invariant in
     let m = w.1 in
     let h = c.loop-at-test.true in
-    let f = (spans c.before.before.before.before.before.before).ends in
-    (spans c.before.before.before.before.before.before, (loop_room w.0 h f, (omega arith, loop_fit w.0 h f)))
+    let f = (spans_at _ c.loop-at.invariant.0.within c.plain_end-first.ensures c.record_end-end.ensures).ends in
+    record { spans = (spans_at _ c.loop-at.invariant.0.within c.plain_end-first.ensures c.record_end-end.ensures); taking = loop_room w.0 h f; room = omega arith; counters_fit = loop_fit w.0 h f }
 
 pub returns-then-done : goal.returns-then-done
-returns-then-done c = loop_stop c.loop-at.invariant.0 c.loop-at-test.true (spans c.before.before.before.before.before.before.before.before.before.before.before.before.before.before.before.before.before.before.before).ends c.take_record-done.ensures.reports_after c.take_record-done.ensures.asked_after c.if-done.true
+returns-then-done c = loop_stop c.loop-at.invariant.0 c.loop-at-test.true (spans_at _ c.loop-at.invariant.0.within c.plain_end-first.ensures c.record_end-end.ensures).ends c.take_record-done.ensures.reports_after c.take_record-done.ensures.asked_after c.if-done.true
 
 pub next_start-at-requires-in-loop-at : goal.next_start-at-requires-in-loop-at
 next_start-at-requires-in-loop-at c =
-    let i = end_in c.loop-at.invariant.0 c.loop-at-test.true (spans c.before.before.before.before.before.before.before.before.before.before.before.before.before.before.before.before.before.before.before).ends in
+    let i = end_in c.loop-at.invariant.0 c.loop-at-test.true (spans_at _ c.loop-at.invariant.0.within c.plain_end-first.ensures c.record_end-end.ensures).ends in
     omega (arith, i.1)
 
 pub loop-at-smaller : goal.loop-at-smaller
-loop-at-smaller c = turn.loop-less c.loop-at.invariant.0 c.loop-at-test.true (spans c.before.before.before.before.before.before.before.before.before.before.before.before.before.before.before.before.before.before.before.before).ends c.take_record-done.ensures.reports_after c.take_record-done.ensures.asked_after c.next_start-at-in-loop-at.ensures
+loop-at-smaller c = loop_less c.loop-at.invariant.0 c.loop-at-test.true (spans_at _ c.loop-at.invariant.0.within c.plain_end-first.ensures c.record_end-end.ensures).ends c.take_record-done.ensures.reports_after c.take_record-done.ensures.asked_after c.next_start-at-in-loop-at.ensures
 
 pub loop-at-preserved : goal.loop-at-preserved
 loop-at-preserved c =
     let w = c.loop-at.invariant in
     let r = c.take_record-done.ensures in
-    let h = c.take_record-done.auto.store in
-    let b = h.1.1.1 in (
-      loop_turn w.0 c.loop-at-test.true (spans c.before.before.before.before.before.before.before.before.before.before.before.before.before.before.before.before.before.before.before.before).ends r.0 r.1 c.next_start-at-in-loop-at.ensures c.if-done.false h.0 h.1.0 b.0 b.1.0 b.1.1.0,
-      h.1.1.0 ∙ w.1,
+    let k = c.take_record-done.auto in
+    let s = spans_at _ c.loop-at.invariant.0.within c.plain_end-first.ensures c.record_end-end.ensures in (
+      loop_turn w.0 c.loop-at-test.true s.ends r.reports_after r.asked_after c.next_start-at-in-loop-at.ensures c.if-done.false k.store k.reports k.numbers k.marks k.asked,
+      k.faults ∙ w.1,
     )
 
 pub returns : goal.returns

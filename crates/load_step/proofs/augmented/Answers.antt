@@ -13,28 +13,13 @@ use Rattle.load_step.proofs.Booked.{asks_in_lem, link_asked, not_asked, ask_room
 use Rattle.std.proofs.Common.{rules}
 use Rattle.load_step.proofs.augmented.Goals as goal
 
-abbrev keyword : goal.Start → Word
-keyword s = keyword_in s.args.text.now
-
-abbrev words : goal.Start → List Word
-words s = words_from s.args.text.now s.args.at
-
-abbrev anew : goal.Start → Bool
-anew s = is_anew s.args.numbers.now
-
 pub overflow_add-borne_at : goal.overflow_add-borne_at
 overflow_add-borne_at c = let h : c.borne_at.result + 1 < 4294967296 = ask_room _ c.borne_at.ensures in omega arith
 
 pub returns-then-asks_link : goal.returns-then-asks_link
 returns-then-asks_link c =
-    let h = asks_in_lem c.args.numbers.now c.args.held.state.open c.args.e c.is_anew.ensures c.asks_link.ensures in (
-      asked_did_all _ _ _ _ (augment_heard _ _ (anew c.before.before.before.before.before.before.before.before.before.before.before.before.before.before) c.args.e (keyword c.before.before.before.before.before.before.before.before.before.before.before.before.before.before) (words c.before.before.before.before.before.before.before.before.before.before.before.before.before.before) h c.if-asks_link.true) (rests-did_all _ _ _ _ c.answered.ensures _),
-      link_asked _ _ _ _ c.args.e (words c.before.before.before.before.before.before.before.before.before.before.before.before.before.before) h c.if-asks_link.true c.borne_at.ensures c.ask.ensures c.answered.ensures,
-    )
+    let h = asks_in_lem c.args.numbers.now c.args.held.state.open c.args.e c.is_anew.ensures c.asks_link.ensures in record { faults_after = asked_did_all _ _ _ _ (augment_heard _ _ (is_anew c.args.numbers.now) c.args.e (keyword_in c.args.text.now) (words_from c.args.text.now c.args.at) h c.if-asks_link.true) (rests-did_all _ _ _ _ c.answered.ensures _); asked_after = link_asked _ _ _ _ c.args.e (words_from c.args.text.now c.args.at) h c.if-asks_link.true c.borne_at.ensures c.ask.ensures c.answered.ensures }
 
 pub returns : goal.returns
 returns c =
-    let h = asks_in_lem c.args.numbers.now c.args.held.state.open c.args.e c.is_anew.ensures c.asks_link.ensures in (
-      asked_did_all _ _ _ _ (augment_obeyed _ _ (anew c.before.before.before.before.before.before.before.before.before.before.before.before.before.before.before) c.args.e (keyword c.before.before.before.before.before.before.before.before.before.before.before.before.before.before.before) (words c.before.before.before.before.before.before.before.before.before.before.before.before.before.before.before) h c.if-asks_link.false) c.secondary.ensures,
-      not_asked _ _ _ _ c.args.e (words c.before.before.before.before.before.before.before.before.before.before.before.before.before.before.before) h _ _ _ _ _ (keyword c.before.before.before.before.before.before.before.before.before.before.before.before.before.before.before) c.if-asks_link.false c.secondary.ensures,
-    )
+    let h = asks_in_lem c.args.numbers.now c.args.held.state.open c.args.e c.is_anew.ensures c.asks_link.ensures in record { faults_after = asked_did_all _ _ _ _ (augment_obeyed _ _ (is_anew c.args.numbers.now) c.args.e (keyword_in c.args.text.now) (words_from c.args.text.now c.args.at) h c.if-asks_link.false) c.secondary.ensures; asked_after = not_asked _ _ _ _ c.args.e (words_from c.args.text.now c.args.at) h _ _ _ _ _ (keyword_in c.args.text.now) c.if-asks_link.false c.secondary.ensures }

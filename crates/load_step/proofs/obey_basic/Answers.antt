@@ -13,36 +13,29 @@ use Rattle.load_step.proofs.Basics.{basic_ident, basic_clear, basic_patch, basic
 use Rattle.std.proofs.Common.{rules}
 use Rattle.load_step.proofs.obey_basic.Goals as goal
 
--- the keyword and the fields behind it
-abbrev keyword : goal.Start → Word
-keyword s = keyword_in s.args.text.now
-
-abbrev words : goal.Start → List Word
-words s = words_from s.args.text.now s.args.at
-
 pub returns-in-Ident : goal.returns-in-Ident
 unfolding is_clear
-returns-in-Ident c = basic_as _ (keyword c.before.before.before.before.before.before.before) (words c.before.before.before.before.before.before.before) _ _ _ c.args.anew c.in-Ident.is refl (asked_all _ _ _ _ (basic_ident _ _ _ c.ident.ensures) (rests_all _ _ _ c.requires.held_ready c.ended.ensures _))
+returns-in-Ident c = basic_as _ (keyword_in c.args.text.now) (words_from c.args.text.now c.args.at) _ _ _ c.args.anew c.in-Ident.is refl (asked_all _ _ _ _ (basic_ident _ _ _ c.ident.ensures) (rests_all _ _ _ c.requires.held_ready c.ended.ensures _))
 
 pub returns-in-Clear : goal.returns-in-Clear
-returns-in-Clear c = basic_clear _ (keyword c.before.before.before.before.before.before.before.before.before) (words c.before.before.before.before.before.before.before.before.before) _ _ _ c.args.anew c.in-Clear.is c.clear.ensures
+returns-in-Clear c = basic_clear _ (keyword_in c.args.text.now) (words_from c.args.text.now c.args.at) _ _ _ c.args.anew c.in-Clear.is c.clear.ensures
 
 pub returns-in-Patch : goal.returns-in-Patch
 unfolding is_clear
-returns-in-Patch c = basic_as _ (keyword c.before.before.before.before.before.before.before.before.before.before.before.before.before) (words c.before.before.before.before.before.before.before.before.before.before.before.before.before) _ _ _ c.args.anew c.in-Patch.is refl (basic_patch _ _ _ _ _ c.requires.held_ready c.requires.fitting c.patch.ensures c.with_held.ensures)
+returns-in-Patch c = basic_as _ (keyword_in c.args.text.now) (words_from c.args.text.now c.args.at) _ _ _ c.args.anew c.in-Patch.is refl (basic_patch _ _ _ _ _ c.requires.held_ready c.requires.fitting c.patch.ensures c.with_held.ensures)
 
 pub returns-in-Enddata : goal.returns-in-Enddata
 unfolding is_clear
-returns-in-Enddata c = basic_as _ (keyword c.before.before.before.before.before.before.before) (words c.before.before.before.before.before.before.before) _ _ _ c.args.anew c.in-Enddata.is refl (asked_all _ _ _ _ (basic_enddata _ _ _ c.blameless.ensures) (rests_all _ _ _ c.requires.held_ready c.ended-in-Enddata.ensures _))
+returns-in-Enddata c = basic_as _ (keyword_in c.args.text.now) (words_from c.args.text.now c.args.at) _ _ _ c.args.anew c.in-Enddata.is refl (asked_all _ _ _ _ (basic_enddata _ _ _ c.blameless.ensures) (rests_all _ _ _ c.requires.held_ready c.ended-in-Enddata.ensures _))
 
 pub returns-in-Passed : goal.returns-in-Passed
 unfolding basic_ask is_clear
-returns-in-Passed c = basic_as _ (keyword c.before.before.before.before.before.before) (words c.before.before.before.before.before.before) _ _ _ c.args.anew c.in-Passed.is refl (rests_all _ _ _ c.requires.held_ready c.ended-in-Passed.ensures _)
+returns-in-Passed c = basic_as _ (keyword_in c.args.text.now) (words_from c.args.text.now c.args.at) _ _ _ c.args.anew c.in-Passed.is refl (rests_all _ _ _ c.requires.held_ready c.ended-in-Passed.ensures _)
 
 pub returns-in-Local : goal.returns-in-Local
 unfolding basic_ask is_clear
-returns-in-Local c = basic_as _ (keyword c.before.before.before.before.before.before.before) (words c.before.before.before.before.before.before.before) _ _ _ c.args.anew c.in-Local.is refl (skips_all _ _ _ _ (c.ended-in-Local.ensures ∙ ap (λ (h : Held). ended_as h Passed) c.resting.ensures) _)
+returns-in-Local c = basic_as _ (keyword_in c.args.text.now) (words_from c.args.text.now c.args.at) _ _ _ c.args.anew c.in-Local.is refl (skips_all _ _ _ _ (c.ended-in-Local.ensures ∙ ap (λ (h : Held). ended_as h Passed) c.resting.ensures) _)
 
 pub returns-in-Unknown : goal.returns-in-Unknown
 unfolding is_clear
-returns-in-Unknown c = basic_as _ (keyword c.before.before.before.before.before.before.before) (words c.before.before.before.before.before.before.before) _ _ _ c.args.anew c.in-Unknown.is refl (asked_all _ _ _ _ (basic_unknown _ _ _ c.blamed_at.ensures) (rests_all _ _ _ c.requires.held_ready c.ended-in-Unknown.ensures _))
+returns-in-Unknown c = basic_as _ (keyword_in c.args.text.now) (words_from c.args.text.now c.args.at) _ _ _ c.args.anew c.in-Unknown.is refl (asked_all _ _ _ _ (basic_unknown _ _ _ c.blamed_at.ensures) (rests_all _ _ _ c.requires.held_ready c.ended-in-Unknown.ensures _))

@@ -11,26 +11,17 @@ use Rattle.load_step.proofs.Primaries.{primary_unsupported, primary_refused, pri
 use Rattle.std.proofs.Common.{rules}
 use Rattle.load_step.proofs.primary.Goals as goal
 
-abbrev keyword : goal.Start → Word
-keyword s = keyword_in s.args.text.now
-
-abbrev words : goal.Start → List Word
-words s = words_from s.args.text.now s.args.at
-
-abbrev numbers : goal.Start → Numbers
-numbers s = numbers_in s.args.numbers.now
-
 pub name_in-requires : goal.name_in-requires
 name_in-requires c = record { kind_value = sym c.supports.ensures ∙ c.if-supports.true; counters_fit = c.requires.counters_fit; line = c.requires.line }
 
 pub returns-in-Refused : goal.returns-in-Refused
-returns-in-Refused c = asked_as _ _ _ (primary_refused _ (numbers c.before.before.before.before.before.before.before.before.before.before) _ (keyword c.before.before.before.before.before.before.before.before.before.before) (words c.before.before.before.before.before.before.before.before.before.before) c.supports.ensures c.if-supports.true c.name_in.ensures c.in-Refused.is) (skips_as _ _ _ _ c.refused.ensures)
+returns-in-Refused c = asked_as _ _ _ (primary_refused _ (numbers_in c.args.numbers.now) _ (keyword_in c.args.text.now) (words_from c.args.text.now c.args.at) c.supports.ensures c.if-supports.true c.name_in.ensures c.in-Refused.is) (skips_as _ _ _ _ c.refused.ensures)
 
 pub opened-requires : goal.opened-requires
-opened-requires c = record { fitting = c.requires.fitting; key_value = primary_ok _ (numbers c.before.before.before.before.before.before.before.before.before.before) _ (words c.before.before.before.before.before.before.before.before.before.before) c.supports.ensures c.if-supports.true c.name_in.ensures c.requires.fitting.range c.in-Name.is }
+opened-requires c = record { fitting = c.requires.fitting; key_value = primary_ok _ (numbers_in c.args.numbers.now) _ (words_from c.args.text.now c.args.at) c.supports.ensures c.if-supports.true c.name_in.ensures c.requires.fitting.range c.in-Name.is }
 
 pub returns-in-Name : goal.returns-in-Name
-returns-in-Name c = asked_as _ _ _ (primary_opened _ (numbers c.before.before.before.before.before.before.before.before.before.before.before.before.before) _ (keyword c.before.before.before.before.before.before.before.before.before.before.before.before.before) (words c.before.before.before.before.before.before.before.before.before.before.before.before.before) c.supports.ensures c.if-supports.true c.name_in.ensures c.in-Name.is) c.opened.ensures
+returns-in-Name c = asked_as _ _ _ (primary_opened _ (numbers_in c.args.numbers.now) _ (keyword_in c.args.text.now) (words_from c.args.text.now c.args.at) c.supports.ensures c.if-supports.true c.name_in.ensures c.in-Name.is) c.opened.ensures
 
 pub returns : goal.returns
-returns c = asked_as _ _ _ (primary_unsupported _ (numbers c.before.before.before.before.before.before.before.before) _ (keyword c.before.before.before.before.before.before.before.before) (words c.before.before.before.before.before.before.before.before) c.supports.ensures c.if-supports.false c.unsupported.ensures c.blamed_at.ensures) (skips_as _ _ _ _ c.refused-2.ensures)
+returns c = asked_as _ _ _ (primary_unsupported _ (numbers_in c.args.numbers.now) _ (keyword_in c.args.text.now) (words_from c.args.text.now c.args.at) c.supports.ensures c.if-supports.false c.unsupported.ensures c.blamed_at.ensures) (skips_as _ _ _ _ c.refused-2.ensures)

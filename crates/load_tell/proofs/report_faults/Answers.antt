@@ -18,8 +18,7 @@ pub report-n-requires : goal.report-n-requires
 report-n-requires c = tellable_report _ (turn_room _ _ _ _ _ c.loop-i-test.true c.loop-i.invariant.1 c.fault_in-f.ensures c.requires.tellable) c.column_of-column.ensures
 
 pub loop-i-preserved : goal.loop-i-preserved
-loop-i-preserved c =
-    (
+loop-i-preserved c = (
   omega arith,
   turn_told _ _ _ _ c.loop-i-test.true c.loop-i.invariant.1 c.fault_in-f.ensures (column_told _ _ _ c.report-n.ensures c.column_of-column.ensures),
   c.report-n.auto.reports ∙ c.loop-i.invariant.2,

@@ -9,12 +9,8 @@ use lib.ListN.{length}
 use Prim.Native.Nat.{◌-◌, ◌≤◌}
 use Rattle.load_translate.proofs.bear.Goals as goal
 
-spans : (e : goal.After-record_end-end)
-    → Spans e.args.stream.now e.loop-n.at e.record_end-end.result (eqb e.plain_again-first.result e.record_end-end.result)
-spans e = spans_at _ e.loop-n.invariant.1.within e.plain_again-first.ensures e.record_end-end.ensures
-
 pub loop-n-init : goal.loop-n-init
-loop-n-init c = let p = c.requires in (p.1.1, loop_start _ _ _ _ _ p.0 p.1.0)
+loop-n-init c = (c.requires.found_in_bounds, loop_start _ _ _ _ _ c.requires.records_in_bounds c.requires.stream_len_bound)
 
 pub plain_again-first-requires : goal.plain_again-first-requires
 plain_again-first-requires c = c.loop-n.invariant.1.within
@@ -23,13 +19,13 @@ pub record_end-end-requires : goal.record_end-end-requires
 record_end-end-requires c = first_in _ c.loop-n.invariant.1.within c.plain_again-first.ensures
 
 pub bearing_at-b-requires : goal.bearing_at-b-requires
-bearing_at-b-requires c = spans c
+bearing_at-b-requires c = spans_at _ c.loop-n.invariant.1.within c.plain_again-first.ensures c.record_end-end.ensures
 
 pub meet_bearing-seen-requires : goal.meet_bearing-seen-requires
 meet_bearing-seen-requires c =
     let w = c.loop-n.invariant in
     let f = w.1.found-length in
-    (omega (arith, w.0), (bearing_fits _ c.bearing_at-b.ensures, loop_countable w.1 c.loop-n-test.true))
+    record { found_in_bounds = omega (arith, w.0); bearable = bearing_fits _ c.bearing_at-b.ensures; countable = loop_countable w.1 c.loop-n-test.true }
 
 pub overflow_add-n : goal.overflow_add-n
 overflow_add-n c =
@@ -37,7 +33,7 @@ overflow_add-n c =
     omega arith
 
 pub next_start-at-requires : goal.next_start-at-requires
-next_start-at-requires c = (spans_in _ _ _ (spans c.before.before.before.before.before)).1
+next_start-at-requires c = (spans_in _ _ _ (spans_at _ c.loop-n.invariant.1.within c.plain_again-first.ensures c.record_end-end.ensures)).1
 
 pub loop-n-smaller : goal.loop-n-smaller
 loop-n-smaller c = omega (arith, c.loop-n-test.true)
@@ -46,8 +42,8 @@ pub loop-n-preserved : goal.loop-n-preserved
 loop-n-preserved c =
     let w = c.loop-n.invariant in (
       w.0,
-      loop_turn w.1 c.loop-n-test.true (spans c.before.before.before.before.before.before).ends c.next_start-at.ensures c.bearing_at-b.ensures c.meet_bearing-seen.ensures
-          c.meet_bearing-seen.auto.found.0,
+      loop_turn w.1 c.loop-n-test.true (spans_at _ c.loop-n.invariant.1.within c.plain_again-first.ensures c.record_end-end.ensures).ends c.next_start-at.ensures c.bearing_at-b.ensures c.meet_bearing-seen.ensures
+          c.meet_bearing-seen.auto.found,
     )
 
 pub returns : goal.returns

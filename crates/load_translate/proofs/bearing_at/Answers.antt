@@ -10,20 +10,6 @@ use mathlib.Core.Path.{sym}
 use Rattle.std.proofs.Common.{rules}
 use Rattle.load_translate.proofs.bearing_at.Goals as goal
 
--- the bytes of a record that is not over-long hold its characters
-within : (l : goal.Else-over_long) → let q = l.receive-r.result in q.count ≤ length q.bytes
-within l = short_within _ _ _ l.requires l.receive-r.ensures l.over_long.ensures l.if-over_long.false
-
-short : (l : goal.Else-over_long) → length (take (l.args.end - l.args.at) (drop l.args.at l.args.stream.now)) ≤ 80
-short l = short_chars _ _ _ l.requires l.receive-r.ensures l.over_long.ensures l.if-over_long.false
-
--- a plain one, and another that is cleaned
-plainly : (y : goal.Then-plain)
-    → let q = y.receive-r.result in
-    Texted (take (y.args.end - y.args.at) (drop y.args.at y.args.stream.now)) q.bytes q.count false false
-plainly y =
-    plain_texted _ _ _ y.requires y.receive-r.ensures y.over_long.ensures y.if-over_long.false (not_of_true _ y.if-plain.true)
-
 pub receive-r-requires : goal.receive-r-requires
 receive-r-requires c = spans_in _ _ _ c.requires
 
@@ -31,22 +17,22 @@ pub returns-then-over_long : goal.returns-then-over_long
 returns-then-over_long c = long_bears _ (is_long _ _ _ c.requires c.receive-r.ensures c.over_long.ensures c.if-over_long.true)
 
 pub slice_bounds-bytes-end : goal.slice_bounds-bytes-end
-slice_bounds-bytes-end c = within c.before
+slice_bounds-bytes-end c = short_within _ _ _ c.requires c.receive-r.ensures c.over_long.ensures c.if-over_long.false
 
 pub slice_bounds-text_bearing-end : goal.slice_bounds-text_bearing-end
-slice_bounds-text_bearing-end c = sym (length-take-le _ _ (within c.before.before))
+slice_bounds-text_bearing-end c = sym (length-take-le _ _ (short_within _ _ _ c.requires c.receive-r.ensures c.over_long.ensures c.if-over_long.false))
 
 pub text_bearing-requires : goal.text_bearing-requires
-text_bearing-requires c = text_short (plainly c.before) (short c.before.before)
+text_bearing-requires c = text_short (plain_texted _ _ _ c.requires c.receive-r.ensures c.over_long.ensures c.if-over_long.false (not_of_true _ c.if-plain.true)) (short_chars _ _ _ c.requires c.receive-r.ensures c.over_long.ensures c.if-over_long.false)
 
 pub returns-then-plain : goal.returns-then-plain
-returns-then-plain c = text_bears (plainly c.before.before) (is_long _ _ _ c.requires c.receive-r.ensures c.over_long.ensures c.if-over_long.false) c.text_bearing.ensures
+returns-then-plain c = text_bears (plain_texted _ _ _ c.requires c.receive-r.ensures c.over_long.ensures c.if-over_long.false (not_of_true _ c.if-plain.true)) (is_long _ _ _ c.requires c.receive-r.ensures c.over_long.ensures c.if-over_long.false) c.text_bearing.ensures
 
 pub slice_bounds-bytes-end-2 : goal.slice_bounds-bytes-end-2
-slice_bounds-bytes-end-2 c = within c.before
+slice_bounds-bytes-end-2 c = short_within _ _ _ c.requires c.receive-r.ensures c.over_long.ensures c.if-over_long.false
 
 pub slice_bounds-clean-end : goal.slice_bounds-clean-end
-slice_bounds-clean-end c = sym (length-take-le _ _ (within c.before.before))
+slice_bounds-clean-end c = sym (length-take-le _ _ (short_within _ _ _ c.requires c.receive-r.ensures c.over_long.ensures c.if-over_long.false))
 
 pub slice_bounds-bytes-end-3 : goal.slice_bounds-bytes-end-3
 slice_bounds-bytes-end-3 c = (cleaned_texted _ _ _ c.requires c.receive-r.ensures c.over_long.ensures c.if-over_long.false c.clean-c.ensures).within
@@ -55,7 +41,7 @@ pub slice_bounds-text_bearing-end-2 : goal.slice_bounds-text_bearing-end-2
 slice_bounds-text_bearing-end-2 c = sym (length-take-le _ _ (cleaned_texted _ _ _ c.requires c.receive-r.ensures c.over_long.ensures c.if-over_long.false c.clean-c.ensures).within)
 
 pub text_bearing-requires-2 : goal.text_bearing-requires-2
-text_bearing-requires-2 c = text_short (cleaned_texted _ _ _ c.requires c.receive-r.ensures c.over_long.ensures c.if-over_long.false c.clean-c.ensures) (short c.before.before.before.before.before)
+text_bearing-requires-2 c = text_short (cleaned_texted _ _ _ c.requires c.receive-r.ensures c.over_long.ensures c.if-over_long.false c.clean-c.ensures) (short_chars _ _ _ c.requires c.receive-r.ensures c.over_long.ensures c.if-over_long.false)
 
 pub returns : goal.returns
 returns c = text_bears (cleaned_texted _ _ _ c.requires c.receive-r.ensures c.over_long.ensures c.if-over_long.false c.clean-c.ensures) (is_long _ _ _ c.requires c.receive-r.ensures c.over_long.ensures c.if-over_long.false) c.text_bearing-2.ensures

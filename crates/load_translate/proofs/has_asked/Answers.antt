@@ -11,6 +11,5 @@ returns-then-asked-eq0 c = not_asked _ _ c.if-asked-eq0.true
 
 pub returns : goal.returns
 returns c =
-    let p = c.requires in
-    used_test c.word_at.result used_word (unused_test _ _ _ p.0 p.1 (λ j. (c.shared_slice_known-1.given j).fits) c.word_at.ensures)
+    used_test c.word_at.result used_word (unused_test _ _ _ c.requires.fitting c.requires.slot_bound (λ j. (c.shared_slice_known-1.given j).fits) c.word_at.ensures)
     ∙ is_asked _ _ c.if-asked-eq0.false

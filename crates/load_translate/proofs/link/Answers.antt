@@ -5,5 +5,4 @@ use Rattle.load_translate.proofs.link.Goals as goal
 
 pub returns : goal.returns
 returns c =
-    let p = c.requires in
-    sought_linked _ _ _ _ _ _ p.0.range.cues.1 c.seek.ensures c.link_all.ensures
+    sought_linked _ _ _ _ _ _ c.requires.fitting.range.cues.1 c.seek.ensures c.link_all.ensures

@@ -17,8 +17,7 @@ over h e = omega arith
 
 pub loop-slot-init : goal.loop-slot-init
 loop-slot-init c =
-    let p = c.requires in
-    (refl, refl, refl, loop_start _ _ _ p.0 p.1.1.1)
+    (refl, refl, refl, loop_start _ _ _ c.requires.fitting c.requires.losing)
 
 pub bounds-asked-slot : goal.bounds-asked-slot
 bounds-asked-slot c =
@@ -38,7 +37,7 @@ pub link_slot-n-requires : goal.link_slot-n-requires
 link_slot-n-requires c =
     let w = c.loop-slot.invariant in
     let h = below c.loop-slot-test.true w.0 in
-    (w.3.fitting, (h, loop_room w.3 h))
+    record { fitting = w.3.fitting; slot_lt_cues = h; reportable = loop_room w.3 h }
 
 pub overflow_add-slot : goal.overflow_add-slot
 overflow_add-slot c = omega (arith, c.loop-slot-test.true)
@@ -50,7 +49,7 @@ pub loop-slot-preserved : goal.loop-slot-preserved
 loop-slot-preserved c =
     let w = c.loop-slot.invariant in
     let a = c.link_slot-n.auto in
-    (w.0, a.1.0 ∙ w.1, a.1.1.0 ∙ w.2, loop_turn w.3 (below c.loop-slot-test.true w.0) refl refl c.link_slot-n.ensures a.1.0)
+    (w.0, a.store ∙ w.1, a.reports ∙ w.2, loop_turn w.3 (below c.loop-slot-test.true w.0) refl refl c.link_slot-n.ensures a.store)
 
 pub returns : goal.returns
 returns c = let w = c.loop-slot.invariant in loop_end w.3 (over c.loop-slot-test.false w.0)

@@ -6,21 +6,16 @@ use Rattle.std.proofs.Common.{rules}
 use Rattle.load_translate.proofs.run.Goals as goal
 
 pub walk-done-requires : goal.walk-done-requires
-walk-done-requires c = let p = c.requires in (p.0, (p.1, none_accepted 4))
+walk-done-requires c = record { fitting = c.requires.fitting; stream_len_bound = c.requires.stream_len_bound; from_none = none_accepted 4 }
 
 pub link-count-requires : goal.link-count-requires
 link-count-requires c =
-    let p = c.requires in
     let w = c.walk-done.ensures in
-    let h = c.walk-done.auto.store in (
-      fitting_kept _ _ _ h.0 p.0,
-      (p.1, (h.1.1.1.1.1.0, (walk_losing _ _ _ _ p.1 c.walk-done.result w, walk_records _ _ _ _ p.1 c.walk-done.result w))),
-    )
+    let h = c.walk-done.auto in record { fitting = fitting_kept _ _ _ h.store c.requires.fitting; stream_len_bound = c.requires.stream_len_bound; asked_len = h.asked; losing = walk_losing _ _ _ _ c.requires.stream_len_bound c.walk-done.result w; records_in_bounds = walk_records _ _ _ _ c.requires.stream_len_bound c.walk-done.result w }
 
 pub close-requires : goal.close-requires
 close-requires c =
-    let p = c.requires in
-    close_room _ _ _ _ p.1 c.walk-done.result c.walk-done.ensures c.link-count.ensures p.0.range.cues.1
+    close_room _ _ _ _ c.requires.stream_len_bound c.walk-done.result c.walk-done.ensures c.link-count.ensures c.requires.fitting.range.cues.1
 
 pub returns : goal.returns
 returns c = translated_loaded _ _ _ _ c.requires.stream_len_bound c.walk-done.result c.walk-done.ensures c.link-count.ensures c.close.ensures

@@ -34,8 +34,8 @@ overflow_add-total c = omega (arith, adding_small c.loop-i.invariant c.requires 
 pub pairs_after-pairs-requires : goal.pairs_after-pairs-requires
 pairs_after-pairs-requires c = c.loop-i.invariant.most
 
-pub overflow_add-i : goal.overflow_add-i
-overflow_add-i c = omega (arith, c.loop-i-test.true, c.requires)
+pub overflow_add-i-else-level-eq0 : goal.overflow_add-i-else-level-eq0
+overflow_add-i-else-level-eq0 c = omega (arith, c.loop-i-test.true, c.requires)
 
 pub loop-i-smaller : goal.loop-i-smaller
 loop-i-smaller c = omega (arith, c.loop-i-test.true)

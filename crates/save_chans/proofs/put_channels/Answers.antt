@@ -33,8 +33,8 @@ put_channel-next-requires c = record { room = putting_room c.loop-i.invariant c.
 pub pairs_after-pairs-requires : goal.pairs_after-pairs-requires
 pairs_after-pairs-requires c = c.loop-i.invariant.most
 
-pub overflow_add-i : goal.overflow_add-i
-overflow_add-i c = omega (arith, c.loop-i-test.true, c.requires.levels_len_bound)
+pub overflow_add-i-else-level-eq0 : goal.overflow_add-i-else-level-eq0
+overflow_add-i-else-level-eq0 c = omega (arith, c.loop-i-test.true, c.requires.levels_len_bound)
 
 pub loop-i-smaller : goal.loop-i-smaller
 loop-i-smaller c = omega (arith, c.loop-i-test.true)

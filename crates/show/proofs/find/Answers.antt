@@ -7,7 +7,7 @@ use mathlib.Core.Path.{sym, ◌∙◌}
 use Rattle.show.proofs.find.Goals as goal
 
 pub levels_place-requires : goal.levels_place-requires
-levels_place-requires c = taken _ _ (sym c.in-Admitted.is ∙ c.turned_away.ensures)
+levels_place-requires c = let t = taken _ _ (sym c.in-Admitted.is ∙ c.turned_away.ensures) in record { fitting = t.0; store_value = t.1 }
 
 pub returns-in-Away : goal.returns-in-Away
 unfolding find_by

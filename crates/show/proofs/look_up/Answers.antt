@@ -12,7 +12,7 @@ pub word-requires : goal.word-requires
 word-requires c = away_most _ _ (sym c.in-Away.is ∙ c.turned_away.ensures)
 
 pub levels_of-requires : goal.levels_of-requires
-levels_of-requires c = taken _ _ (sym c.in-Admitted.is ∙ c.turned_away.ensures)
+levels_of-requires c = let t = taken _ _ (sym c.in-Admitted.is ∙ c.turned_away.ensures) in record { fitting = t.0; store_value = t.1 }
 
 pub returns-in-Away : goal.returns-in-Away
 unfolding look_by

@@ -7,7 +7,7 @@ use mathlib.Core.Path.{sym, ◌∙◌}
 use Rattle.show.proofs.write.Goals as goal
 
 pub put-requires : goal.put-requires
-put-requires c = taken _ _ (sym c.in-Admitted.is ∙ c.turned_away.ensures)
+put-requires c = let t = taken _ _ (sym c.in-Admitted.is ∙ c.turned_away.ensures) in record { fitting = t.0; store_value = t.1 }
 
 pub returns-in-Away : goal.returns-in-Away
 unfolding write_by

@@ -1,5 +1,5 @@
 -- `head_at` meets its contract: the slot that is named is one of the desk's, and its head is decoded.
-use Rattle.show_read.proofs.Laws.{named_inside, head_at, head_none}
+use Rattle.show_read.proofs.Laws.{named_inside, head_at_lem, head_none}
 use Rattle.store_code.proofs.Found.{place_at, place_nowhere}
 use Rattle.std.proofs.Common.{rules}
 use Rattle.show_read.proofs.head_at.Goals as goal
@@ -8,7 +8,7 @@ pub head_of-requires : goal.head_of-requires
 head_of-requires c = record { fitting = c.requires; slot_bound = named_inside _ _ c.slot_of.ensures c.in-At.is }
 
 pub returns-in-At : goal.returns-in-At
-returns-in-At c = head_at _ _ (place_at c.slot_of.ensures c.in-At.is) c.head_of.ensures
+returns-in-At c = head_at_lem _ _ (place_at c.slot_of.ensures c.in-At.is) c.head_of.ensures
 
 pub returns-in-Nowhere : goal.returns-in-Nowhere
 returns-in-Nowhere c = head_none _ _ (place_nowhere c.slot_of.ensures c.in-Nowhere.is)

@@ -7,19 +7,19 @@ use Rattle.std.proofs.Common.{rules}
 use Rattle.store_code.proofs.edit_slot.Goals as goal
 
 pub change_head-requires : goal.change_head-requires
-change_head-requires c = change_fits c.args.desk _ _ c.requires.editing.fits c.requires.desk_in_bounds
+change_head-requires c = let f = change_fits c.args.desk _ _ c.requires.editing.fits c.requires.desk_in_bounds in record { head_fits = f.0; head_length_in_bounds = f.1 }
 
 pub change_head-requires-in-Down : goal.change_head-requires-in-Down
-change_head-requires-in-Down c = change_fits c.args.desk _ _ c.requires.editing.fits c.requires.desk_in_bounds
+change_head-requires-in-Down c = let f = change_fits c.args.desk _ _ c.requires.editing.fits c.requires.desk_in_bounds in record { head_fits = f.0; head_length_in_bounds = f.1 }
 
 pub change_head-requires-in-Followon : goal.change_head-requires-in-Followon
-change_head-requires-in-Followon c = change_fits c.args.desk _ _ c.requires.editing.fits c.requires.desk_in_bounds
+change_head-requires-in-Followon c = let f = change_fits c.args.desk _ _ c.requires.editing.fits c.requires.desk_in_bounds in record { head_fits = f.0; head_length_in_bounds = f.1 }
 
 pub change_head-requires-in-Link : goal.change_head-requires-in-Link
-change_head-requires-in-Link c = change_fits c.args.desk _ _ c.requires.editing.fits c.requires.desk_in_bounds
+change_head-requires-in-Link c = let f = change_fits c.args.desk _ _ c.requires.editing.fits c.requires.desk_in_bounds in record { head_fits = f.0; head_length_in_bounds = f.1 }
 
 pub set_level-requires : goal.set_level-requires
-set_level-requires c = record { in_range = c.requires.in_range; within = subst (OnDesk _) c.in-Level.is c.requires.editing.channel; desk_in_bounds = c.requires.desk_in_bounds }
+set_level-requires c = record { in_range = c.requires.in_range; within = subst (OnDesk c.args.desk) c.in-Level.is c.requires.editing.channel; desk_in_bounds = c.requires.desk_in_bounds }
 
 pub returns-in-Up : goal.returns-in-Up
 unfolding edit_slot

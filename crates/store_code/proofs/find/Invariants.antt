@@ -27,7 +27,7 @@ abbrev pub decreases-loop-i-2 : goal.decreases-loop-i-2
 decreases-loop-i-2 l = l.end - l.i
 
 abbrev pub invariant-loop-i : goal.invariant-loop-i
-invariant-loop-i l = (l.i ≤ l.end) × invariant-loop2 l.desk l.store l.wanted l.first l.end l.from l.slots l.initial.i l.i
+invariant-loop-i l = (l.i ≤ l.end) × ((l.first ≤ l.i) × (first_from (is_word l.desk l.slots l.first l.wanted) (l.end - l.i) l.i ≡ first_from (is_word l.desk l.slots l.first l.wanted) (l.end - l.first) l.first))
 
 abbrev pub decreases-loop-i : goal.decreases-loop-i
 decreases-loop-i l = l.end - l.i

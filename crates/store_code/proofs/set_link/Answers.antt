@@ -9,13 +9,12 @@ slice_bounds-relink-end c = (slot_ends _ _ _ c.slot_start-at.ensures c.slot_end-
 
 pub relink-requires : goal.relink-requires
 relink-requires c =
-    let p = c.requires in
-    let l = lent_length _ _ _ c.slot_start-at.ensures c.slot_end-end.ensures p.0 p.1.0 in
-    change_fits c.args.desk _ _ p.1.1.fits (omega arith)
+    let l = lent_length _ _ _ c.slot_start-at.ensures c.slot_end-end.ensures c.requires.fitting c.requires.slot_bound in
+    let f = change_fits c.args.desk _ _ c.requires.editing.fits (omega arith) in
+    record { head_fits = f.0; head_length_in_bounds = f.1 }
 
 pub returns : goal.returns
 returns c =
-    let p = c.requires in
-    edit_back _ _ _ _ _ c.slot_start-at.ensures c.slot_end-end.ensures p.0 p.1.0
+    edit_back _ _ _ _ _ c.slot_start-at.ensures c.slot_end-end.ensures c.requires.fitting c.requires.slot_bound
     (edit_link _ _ _ _ c.relink.ensures)
     c.relink.auto.slot

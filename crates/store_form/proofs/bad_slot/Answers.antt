@@ -16,13 +16,13 @@ pub loop-i-init : goal.loop-i-init
 loop-i-init c = (search rules, slots_start _ _ c.slots-n.ensures)
 
 pub slot_fits-requires : goal.slot_fits-requires
-slot_fits-requires c = let e = c.slots-n.ensures in (c.requires, omega (arith, c.loop-i-test.true))
+slot_fits-requires c = let e = c.slots-n.ensures in record { fitting = c.requires; slot_bound = omega (arith, c.loop-i-test.true) }
 
 pub returns-then-not-slot_fits : goal.returns-then-not-slot_fits
-returns-then-not-slot_fits c = at_place (search_hit _ _ _ c.loop-i-test.true (ap not c.slot_fits.ensures) c.if-not-slot_fits.true c.loop-i.invariant.1)
+returns-then-not-slot_fits c = at_place (search_hit _ _ _ c.loop-i-test.true (ap not c.slot_fits.ensures) (ap not c.if-not-slot_fits.true) c.loop-i.invariant.1)
 
 pub loop-i-preserved : goal.loop-i-preserved
-loop-i-preserved c = (search rules, search_miss _ _ _ c.loop-i-test.true (ap not c.slot_fits.ensures) c.if-not-slot_fits.false c.loop-i.invariant.1)
+loop-i-preserved c = (search rules, search_miss _ _ _ c.loop-i-test.true (ap not c.slot_fits.ensures) (ap not c.if-not-slot_fits.false) c.loop-i.invariant.1)
 
 pub returns : goal.returns
 returns c = nowhere_place (search_end _ _ _ c.loop-i-test.false c.loop-i.invariant.1)

@@ -14,7 +14,7 @@ pub loop-i-init : goal.loop-i-init
 loop-i-init c = (search rules, words_none _ _)
 
 pub word_at-requires : goal.word_at-requires
-word_at-requires c = let l = keys_inside c.args.desk in (c.requires, omega (arith, c.first_slot-n.ensures))
+word_at-requires c = let l = keys_inside c.args.desk in record { fitting = c.requires; slot_bound = omega (arith, c.first_slot-n.ensures) }
 
 pub offset_bounds-words-i : goal.offset_bounds-words-i
 offset_bounds-words-i c = let m = most_keys_lem _ c.requires.range in omega (arith, c.first_slot-n.ensures)

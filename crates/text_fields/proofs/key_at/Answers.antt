@@ -6,6 +6,7 @@ use lib.ListN.{length}
 use Rattle.text_fields.proofs.Runs.{Keying, keying_start, keying_turn, keying_past, keying_stop, keying_end, letter_product, key_turn_low}
 use Rattle.std.proofs.Common.{rules}
 use Rattle.text_fields.proofs.key_at.Goals as goal
+use Rattle.text_fields.proofs.key_at.Goals.{then-unit-lt-ELEVENTH, else-unit-lt-ELEVENTH}
 
 pub loop-i-init : goal.loop-i-init
 loop-i-init c = keying_start _ _ c.requires
@@ -21,10 +22,12 @@ overflow_add-key c = omega (arith, key_turn_low _ c.loop-i.invariant c.letter.en
 
 pub loop-i-preserved : goal.loop-i-preserved
 loop-i-preserved c =
-    ⊎_elim
-    (λ w. keying_turn c.loop-i.invariant c.loop-i-test.true c.is_delimiter.ensures c.if-is_delimiter.false w.0.taken w.1.ensures w.2 w.3)
-    (λ w. keying_past c.loop-i.invariant c.loop-i-test.true c.is_delimiter.ensures c.if-is_delimiter.false w.0.left w.1 w.2)
-    c.if-unit-lt-ELEVENTH.branch
+    elim c.if-unit-lt-ELEVENTH.branch [
+      | then-unit-lt-ELEVENTH w ↦
+          keying_turn c.loop-i.invariant c.loop-i-test.true c.is_delimiter.ensures c.if-is_delimiter.false w.if-unit-lt-ELEVENTH.true w.letter.ensures w.key-is w.unit-is
+      | else-unit-lt-ELEVENTH w ↦
+          keying_past c.loop-i.invariant c.loop-i-test.true c.is_delimiter.ensures c.if-is_delimiter.false w.if-unit-lt-ELEVENTH.false w.key-is w.unit-is
+    ]
 
 pub returns : goal.returns
 returns c = keying_end c.loop-i.invariant c.loop-i-test.false

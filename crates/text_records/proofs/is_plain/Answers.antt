@@ -11,6 +11,7 @@ use Rattle.text_records.proofs.Cleaning.{looked_this, looked_past, looked_all}
 use Rattle.text_records.proofs.Plain.{plain_all}
 use Rattle.std.proofs.Common.{rules}
 use Rattle.text_records.proofs.is_plain.Goals as goal
+use Rattle.text_records.proofs.is_plain.Goals.{then-is_other, else-is_other}
 
 pub loop-i-init : goal.loop-i-init
 loop-i-init c = (omega arith, refl)
@@ -21,10 +22,10 @@ loop-i-preserved c =
     let i = c.loop-i.i in
     let h : i < length s = omega (arith, c.requires) in (
       omega arith,
-      ⊎_elim
-          (λ w. looked_this is_special s i c.loop-i.other h c.is_other.ensures w.0.taken w.1 c.loop-i.invariant.1)
-          (λ w. looked_past is_special s i _ h c.is_other.ensures w.0.left w.1 c.loop-i.invariant.1)
-          c.if-is_other.branch,
+      elim c.if-is_other.branch [
+        | then-is_other w ↦ looked_this is_special s i c.loop-i.other h c.is_other.ensures w.if-is_other.true w.other-is c.loop-i.invariant.1
+        | else-is_other w ↦ looked_past is_special s i _ h c.is_other.ensures w.if-is_other.false w.other-is c.loop-i.invariant.1
+      ],
     )
 
 pub returns : goal.returns

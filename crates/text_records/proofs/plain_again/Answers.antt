@@ -1,6 +1,6 @@
 -- `plain_again` meets its contract: the place where the scan from `i` ends is the place where the scan from `at` ends.
-use mathlib.Core.Path.{◌≡◌, refl, sym}
-use mathlib.Core.Bool.{true, false}
+use mathlib.Core.Path.{◌≡◌, refl, sym, ap}
+use mathlib.Core.Bool.{true, false, not}
 use mathlib.Core.Logic.{⊎_elim}
 use Prim.Native.Nat.{◌≤◌, ◌-◌}
 use native.Mathlib.Omega.{arith}
@@ -10,24 +10,24 @@ use Rattle.text_records.specs.Window.{is_plain, plain_end}
 use Rattle.text_records.proofs.Plain.{graphic_plain, neither_special, space_plain}
 use Rattle.std.proofs.Common.{rules}
 use Rattle.text_records.proofs.plain_again.Goals as goal
+use Rattle.text_records.proofs.plain_again.Goals.{then-not-is_graphic+else-c-ne-SPACE, else-not-is_graphic}
 
 pub loop-i-init : goal.loop-i-init
 loop-i-init c = c.plain_blocks-i.ensures
 
 pub returns-then-c-ne-SPACE : goal.returns-then-c-ne-SPACE
 returns-then-c-ne-SPACE c =
-    scan_stop is_plain _ _ {b = false} c.loop-i-test.true (sym (neither_special _ c.is_graphic.ensures c.if-not-is_graphic.true c.if-c-ne-SPACE.true)) refl
+    scan_stop is_plain _ _ {b = false} c.loop-i-test.true (sym (neither_special _ c.is_graphic.ensures (ap not c.if-not-is_graphic.true) c.if-c-ne-SPACE.true)) refl
     c.loop-i.invariant.1
 
 pub loop-i-preserved : goal.loop-i-preserved
-loop-i-preserved c =
-    (
-      omega arith,
-      scan_turn is_plain _ _ {b = true} c.loop-i-test.true
-          (sym (⊎_elim (λ w. space_plain _ w.1.left) (λ w. graphic_plain _ c.is_graphic.ensures w.left) c.if-not-is_graphic.branch))
-          refl
-          c.loop-i.invariant.1,
-    )
+loop-i-preserved c = (
+  omega arith,
+  scan_turn is_plain _ _ {b = true} c.loop-i-test.true
+      (sym (elim c.if-not-is_graphic.branch [ then-not-is_graphic+else-c-ne-SPACE w ↦ space_plain _ w.if-c-ne-SPACE.false | else-not-is_graphic w ↦ graphic_plain _ c.is_graphic.ensures (ap not w.if-not-is_graphic.false) ]))
+      refl
+      c.loop-i.invariant.1,
+)
 
 pub returns : goal.returns
 returns c = scan_end is_plain _ _ c.loop-i-test.false c.loop-i.invariant.1

@@ -1,5 +1,6 @@
 -- `records::plain_blocks` meets its contract: a block that is plain does not move the end.
-use mathlib.Core.Path.{◌≡◌, refl}
+use mathlib.Core.Path.{◌≡◌, refl, ap}
+use mathlib.Core.Bool.{not}
 use Prim.Native.Nat.{◌≤◌, ◌+◌, ◌-◌}
 use native.Mathlib.Omega.{arith}
 use lib.ListN.{length}
@@ -19,7 +20,7 @@ loop-i-preserved c =
     let s = c.args.stream.now in
     let i = c.loop-i.i in
     let h : i + block ≤ length s = omega arith in
-    (h, block_past s i block h c.is_plain.ensures c.if-not-is_plain.false c.loop-i.invariant.1)
+    (h, block_past s i block h c.is_plain.ensures (ap not c.if-not-is_plain.false) c.loop-i.invariant.1)
 
 pub returns : goal.returns
 returns c = c.loop-i.invariant

@@ -14,8 +14,7 @@ pub loop-i-init : goal.loop-i-init
 loop-i-init c = (search rules, refl, refl)
 
 pub loop-i-preserved : goal.loop-i-preserved
-loop-i-preserved c =
-    (
+loop-i-preserved c = (
   omega arith,
   looked_on is_high _ _ (ltb 127 c.loop-i.most) c.loop-i-test.true (high_grown _ _ c.larger-most.ensures) c.loop-i.invariant.1,
   looked_on is_control _ _ (ltb 0 c.loop-i.control) c.loop-i-test.true (control_grown _ _ c.control_of.ensures c.larger-control.ensures) c.loop-i.invariant.2,

@@ -6,6 +6,7 @@ use lib.ListN.{length}
 use Rattle.text_records.proofs.Cleaning.{Squeezed, squeezed_none, squeezed_kept, squeezed_past, squeezed_count, squeezed_all}
 use Rattle.std.proofs.Common.{rules}
 use Rattle.text_records.proofs.squeeze.Goals as goal
+use Rattle.text_records.proofs.squeeze.Goals.{then-is_kept, else-is_kept}
 
 pub loop-i-init : goal.loop-i-init
 loop-i-init c = squeezed_none _
@@ -15,10 +16,10 @@ bounds-s-n c = omega (arith, c.loop-i.invariant.few)
 
 pub loop-i-preserved : goal.loop-i-preserved
 loop-i-preserved c =
-    ⊎_elim
-    (λ w. squeezed_kept _ _ _ _ c.loop-i.invariant c.requires c.loop-i-test.true c.is_kept.ensures w.0.taken w.1 w.2)
-    (λ w. squeezed_past _ _ _ _ c.loop-i.invariant c.requires c.loop-i-test.true c.is_kept.ensures w.0.left w.1 w.2)
-    c.if-is_kept.branch
+    elim c.if-is_kept.branch [
+      | then-is_kept w ↦ squeezed_kept _ _ _ _ c.loop-i.invariant c.requires c.loop-i-test.true c.is_kept.ensures w.if-is_kept.true w.s-is w.n-is
+      | else-is_kept w ↦ squeezed_past _ _ _ _ c.loop-i.invariant c.requires c.loop-i-test.true c.is_kept.ensures w.if-is_kept.false w.s-is w.n-is
+    ]
 
 pub returns : goal.returns
 returns c = record { value = squeezed_count _ _ _ _ c.loop-i.invariant c.loop-i-test.false; s_after = squeezed_all _ _ _ _ c.loop-i.invariant c.loop-i-test.false }
