@@ -30,7 +30,8 @@ def wrong(doc, text):
     sys.exit(64)
 
 
-# The folder to build in. Only rt itself must have target/; all else goes where SPHAIRUNE_WORK says.
+# The folder to build in. rt keeps its own work in crates/NAME/out, and tools/library leaves the library in target/native; all else goes where
+# SPHAIRUNE_WORK says.
 def working():
     work = os.path.abspath(os.environ.get("SPHAIRUNE_WORK") or os.path.join(ROOT, "target"))
     try:

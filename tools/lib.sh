@@ -6,6 +6,7 @@
 
 tool=$(basename "$0")
 root=$(dirname "$(dirname "$(readlink -f "$0")")")
+# shellcheck disable=SC2034
 machine=$(uname -m)
 
 say() { printf '%s: %s\n' "$tool" "$*" >&2; }
@@ -57,7 +58,8 @@ temporary() {
     trap 'exit 143' TERM
 }
 
-# The folder to build in. Only rt itself must have target/; all else goes where SPHAIRUNE_WORK says.
+# The folder to build in. rt keeps its own work in crates/NAME/out, and tools/library leaves the library in target/native; all else goes where
+# SPHAIRUNE_WORK says.
 working() {
     work=$(path_of "${SPHAIRUNE_WORK:-$root/target}")
     { mkdir -p "$work" && [ -w "$work" ]; } 2>/dev/null || fail "cannot write in $work: name a folder to build in, SPHAIRUNE_WORK=FOLDER"
@@ -75,25 +77,24 @@ library() {
     export SPHAIRUNE_LIB
 }
 
-# Where the kit stands, and what it has for this machine.
+# Where the kit stands: rt names a page at its top.
 find_kit() {
     command -v rt >/dev/null || fail "no rt on the path: put the bin folder of the Rattle kit there"
-    kit=${RATTLE_HOME:-$(dirname "$(dirname "$(readlink -f "$(command -v rt)")")")}
-    own=$kit/on/$machine
-    [ -d "$own/toolchain" ] || fail "the kit at $kit has nothing for this machine, $machine"
+    kit=$(dirname "$(rt doc)")
 }
 
-# proof LOG WORDS..: has rt prove, which may take a while, and ends the tool where it does not.
+# proof LOG CRATE WORDS..: has rt prove a crate and what it stands on, which may take a while, and ends the tool where it does not.
 proof() {
-    log=$1 status=0
-    shift
-    { mkdir -p "$root/target" "$(dirname "$log")" && [ -w "$root/target" ]; } 2>/dev/null ||
-        fail "rt proves in $root/target alone, which cannot be written: make target a link to a folder that can, or work in a copy"
-    say "proving, rt $*: about 10 minutes from nothing, seconds where nothing changed (it tells $log how far it is)"
-    (cd "$root" && rt "$@") >"$log" 2>&1 || status=$?
+    log=$1 crate=$2 status=0
+    shift 2
+    { mkdir -p "$(dirname "$log")" && : >"$log"; } 2>/dev/null ||
+        fail "$(dirname "$log") cannot be written: make target a link to a folder that can, or work in a copy"
+    say "proving, rt $* in crates/$crate: long from nothing, seconds where nothing changed (it tells $log how far it is)"
+    (cd "$root/crates/$crate" && rt "$@") >"$log" 2>&1 || status=$?
     [ "$status" -eq 0 ] || {
         cat "$log" >&2
         say "rt $* ended with status $status"
+        [ "$status" -eq 1 ] || status=2
         exit "$status"
     }
 }
@@ -101,23 +102,30 @@ proof() {
 # A word as a shell reads it back.
 quoted() { printf "'%s'\n" "$(printf '%s\n' "$1" | sed "s/'/'\\\\''/g")"; }
 
-# links FROM TO BUT: a link in TO for each entry of FROM but one.
+# links FROM TO BUT..: a link in TO for each entry of FROM but those.
 links() {
-    for entry in "$1"/*; do
-        [ "$(basename "$entry")" = "$3" ] || ln -s "$entry" "$2/"
+    from=$1 to=$2
+    shift 2
+    for entry in "$from"/*; do
+        case " $* " in
+            *" $(basename "$entry") "*) ;;
+            *) ln -s "$entry" "$to/" ;;
+        esac
     done
 }
 
-# linked_kit PLACE: the kit once more at PLACE, as links, with the program on standard input in place of its clang.
+# linked_kit PLACE: the kit once more at PLACE, as links, with the program on standard input in place of its clang. What rt takes for its kit
+# is the folder above the one that its own text stands in, so that this is copied.
 linked_kit() {
     rm -rf "$1"
-    mkdir -p "$1/on/$machine/toolchain/bin"
-    links "$kit" "$1" on
-    links "$own" "$1/on/$machine" toolchain
-    links "$own/toolchain" "$1/on/$machine/toolchain" bin
-    links "$own/toolchain/bin" "$1/on/$machine/toolchain/bin" clang
-    cat >"$1/on/$machine/toolchain/bin/clang"
-    chmod +x "$1/on/$machine/toolchain/bin/clang"
+    mkdir -p "$1/bin" "$1/toolchain/bin"
+    links "$kit" "$1" bin toolchain
+    links "$kit/bin" "$1/bin" rt rtlib.py
+    cp "$kit/bin/rt" "$kit/bin/rtlib.py" "$1/bin/"
+    links "$kit/toolchain" "$1/toolchain" bin
+    links "$kit/toolchain/bin" "$1/toolchain/bin" clang
+    cat >"$1/toolchain/bin/clang"
+    chmod +x "$1/toolchain/bin/clang"
 }
 
 # What sed takes out of the text of an LLVM module that the kit made, so that it is for no machine in particular. Tools use it.

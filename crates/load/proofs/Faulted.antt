@@ -1,8 +1,8 @@
 -- The field that a fault blames, among the fields of its record: the keyword or none where the condition's number says so. By computing with
 -- the conditions, each a number.
 -- Assumes nothing.
-use mathlib.Core.Path.{◌≡◌, refl, sym, ap, ◌∙◌}
-use mathlib.Core.Bool.{Bool, true, false}
+use mathlib.Core.Path.{◌≡◌, refl, ap}
+use mathlib.Core.Bool.{true, false}
 use mathlib.Core.List.{List, [], ◌∷◌, ◌++◌}
 use Prim.Native.Nat.{ℕ, suc, ◌<◌}
 use lib.ListN.{length, get_or}

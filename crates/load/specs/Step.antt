@@ -8,7 +8,7 @@ use Rattle.text_records.specs.Cleaning.{is_high, is_control, has}
 use Rattle.text_fields.specs.Words.{Word}
 use Rattle.store.specs.Slots.{find, on_found}
 use Rattle.store.specs.Change.{seat, started, edited, cleared, cleared_patch}
-use Rattle.load.specs.Item.{blame_none, faults_of, page, all_done}
+use Rattle.load.specs.Item.{blame_none, faults_of, all_done}
 use Rattle.load.specs.declared.Open.{Open}
 use Rattle.load.specs.declared.Open.TheVariants.{Nothing, Skipping, Memory}
 use Rattle.load.specs.declared.Fault.{Fault}

@@ -1,14 +1,14 @@
 -- The readers' definitions case by case, in the form in which the code has its tests; by unfolding and the tests' values.
 -- Assumes nothing.
-use mathlib.Core.Path.{◌≡◌, refl, sym, ap, ◌∙◌, subst}
+use mathlib.Core.Path.{◌≡◌, refl, sym, ap, ◌∙◌}
 use mathlib.Core.Bool.{Bool, true, false}
-use mathlib.Core.List.{List, [], ◌∷◌}
+use mathlib.Core.List.{List}
 use Prim.Native.Nat.{ℕ, ◌-◌, ◌≤◌, ◌<◌}
 use native.Mathlib.Omega.{arith}
 use lib.Dec.{eqb}
 use borrow.Author.Tests.{eq-eqb, ne_eqb}
 use Rattle.cells.specs.Search.{Found, at, nowhere}
-use Rattle.cells.proofs.Split.{cond-true, cond-false, clash}
+use Rattle.cells.proofs.Split.{cond-true, cond-false}
 use Rattle.store_desk.specs.declared.Desk.{Desk}
 use Rattle.store_desk.specs.declared.Kind.{Kind}
 use Rattle.store_desk.specs.declared.Kind.TheVariants.{Cue, Group, Sub}
@@ -26,12 +26,11 @@ use Rattle.store_code.specs.Fits.{OnPatch}
 use Rattle.store_code.proofs.Found.{place_at, at_place, nowhere_place}
 use Rattle.save.specs.Listed.{Slots, slots, slots_in, slot_numbers}
 use Rattle.show.specs.declared.Admission.{Admission}
-use Rattle.show.specs.declared.Admission.TheVariants.{Admitted, Away}
-use Rattle.show.specs.Calls.{lent_admission, admission_of, not_kept}
+use Rattle.show.specs.Calls.{lent_admission, admission_of}
 use Rattle.show_read.specs.declared.Listed.TheVariants.{NotKept as ListNone, Done as ListDone}
 use Rattle.show_read.specs.declared.Headed.TheVariants.{NotKept as HeadNone, Has as HeadHas}
 use Rattle.show_read.specs.declared.Patched.TheVariants.{NotKept as PatchNone, Has as PatchHas}
-use Rattle.show_read.specs.Calls.{ListCall, listed_as, list_reply, list_of, kind_list, memories_by, memories_call}
+use Rattle.show_read.specs.Calls.{listed_as, list_reply, list_of, kind_list, memories_by, memories_call}
 use Rattle.show_read.specs.Calls.{slot_named, head_reply, head_in, head_by, head_call, levels_by, levels_call, patch_reply, patch_in, patch_by, patch_call}
 
 -- ---- memories

@@ -2,8 +2,7 @@
 -- the list as it was and tells nothing beside its number.
 -- Assumes nothing.
 use mathlib.Core.Path.{◌≡◌, refl, sym, ap, ◌∙◌}
-use mathlib.Core.Bool.{cond}
-use mathlib.Core.List.{List, [], ◌∷◌}
+use mathlib.Core.List.{List, []}
 use Prim.Native.Nat.{ℕ}
 use lib.Dec.{eqb}
 use lib.ListN.{get_or}
@@ -15,7 +14,6 @@ use Rattle.store_desk.specs.declared.Refusal.{Refusal}
 use Rattle.store_desk.specs.Name.{has_dimmer}
 use Rattle.store_desk.specs.Refusal.{Reply}
 use Rattle.store_desk.proofs.Reply.{refused_apart, refused_no_reply}
-use Rattle.store_head.specs.declared.Head.{Head}
 use Rattle.store_head.specs.Layout.{head_from, patch_of}
 use Rattle.show.specs.declared.Admission.{Admission}
 use Rattle.show.specs.declared.Admission.TheVariants.{Admitted, Away}
@@ -29,7 +27,7 @@ use Rattle.show_read.specs.declared.Headed.{Headed}
 use Rattle.show_read.specs.declared.Headed.TheVariants.{Away as HeadAway, NotKept as HeadNone, Has as HeadHas}
 use Rattle.show_read.specs.declared.Patched.{Patched}
 use Rattle.show_read.specs.declared.Patched.TheVariants.{Away as PatchAway, NotKept as PatchNone, Has as PatchHas}
-use Rattle.show_read.specs.Calls.{ListCall, listed_as, list_reply, list_of, kind_list, memories_by, memories_call, MemoriesPromise}
+use Rattle.show_read.specs.Calls.{ListCall, list_reply, list_of, kind_list, memories_by, memories_call, MemoriesPromise}
 use Rattle.show_read.specs.Calls.{slot_named, head_reply, head_in, head_by, head_call, HeadPromise, levels_by, levels_call, LevelsPromise}
 use Rattle.show_read.specs.Calls.{patch_reply, patch_in, patch_by, patch_call, PatchPromise}
 

@@ -1,28 +1,25 @@
 -- Each reader's number is that of the first of its lines that holds, and its place that of the search that found it.
 -- Assumes nothing.
-use mathlib.Core.Path.{◌≡◌, refl, sym, ap, ◌∙◌, subst}
-use mathlib.Core.Bool.{Bool, true, false}
+use mathlib.Core.Path.{◌≡◌, refl, sym, ap, subst}
 use mathlib.Core.List.{List, [], ◌∷◌}
 use mathlib.Core.Logic.{inl, inr}
-use Prim.Native.Nat.{ℕ, ◌<◌}
+use Prim.Native.Nat.{ℕ}
 use native.Mathlib.Omega.{arith}
 use lib.Dec.{eqb}
 use borrow.Author.Tests.{eqb-true, eqb-false}
 use Rattle.cells.specs.Search.{Found, at, nowhere}
 use Rattle.cells.proofs.Split.{by_test, clash}
 use Rattle.store_desk.specs.declared.Desk.{Desk}
-use Rattle.store_desk.specs.declared.Kind.{Kind}
-use Rattle.store_desk.specs.Size.{Within, slots_of}
 use Rattle.store_desk.specs.Name.{has_slot, has_dimmer}
 use Rattle.store_desk.specs.Refusal.{Reply}
 use Rattle.store_desk.proofs.Name.{slot_there, dimmer_there}
 use Rattle.show.specs.declared.Admission.{Admission}
 use Rattle.show.specs.declared.Admission.TheVariants.{Admitted, Away}
 use Rattle.show.specs.declared.Placed.{Placed}
-use Rattle.show.specs.Calls.{lent_admission, admission_of, not_kept, find_reply, placed_at}
+use Rattle.show.specs.Calls.{lent_admission, admission_of, find_reply, placed_at}
 use Rattle.show.specs.Refusals.{PlaceTold}
 use Rattle.show.proofs.Laws.{away_reply}
-use Rattle.show.proofs.Refusals.{First, told, apart, other, store_lines, store_first, lent_first, Said, small_said, kept_said, placed_said, store_said, lent_said}
+use Rattle.show.proofs.Refusals.{First, told, apart, other, store_first, lent_first, Said, small_said, kept_said, placed_said, store_said, lent_said}
 use Rattle.show_read.specs.declared.Listed.{Listed}
 use Rattle.show_read.specs.declared.Headed.{Headed}
 use Rattle.show_read.specs.declared.Patched.{Patched}

@@ -2,7 +2,7 @@
 -- order, and then what the desk lacks. The promises of `Calls` meet them (laws `memories_refused`, `head_refused`, `levels_refused`,
 -- `patch_refused`, and of the place `memories_place`).
 -- Assumes nothing.
-use Rattle.std.specs.Prelude.{List, [], ◌∷◌, ◌≡◌, ℕ, ◌<◌, ◌≤◌}
+use Rattle.std.specs.Prelude.{List, [], ◌∷◌, ℕ, ◌<◌}
 use Rattle.store_desk.specs.declared.Desk.{Desk}
 use Rattle.store_desk.specs.Size.{Within, slots_of}
 use Rattle.show.specs.Calls.{not_kept_word}

@@ -2,7 +2,7 @@
 -- short, and then the output is as it was.
 -- Assumes nothing.
 use mathlib.Core.Path.{◌≡◌, refl, sym, ap, ◌∙◌, subst}
-use mathlib.Core.List.{List, []}
+use mathlib.Core.List.{List}
 use mathlib.Core.Logic.{inl, inr}
 use Prim.Native.Nat.{ℕ, ◌≤◌}
 use native.Mathlib.Omega.{arith}
@@ -12,7 +12,7 @@ use borrow.Author.Tests.{ltb-true, ltb-false, le-ltb}
 use Rattle.cells.proofs.Split.{by_test, cond-false}
 use Rattle.show.specs.declared.Written.{Written}
 use Rattle.show.specs.Calls.{most_bytes, WriteCall, write_reply, put_call}
-use Rattle.show.proofs.OneAnswer.{WriteKept, put_kept, write_apart}
+use Rattle.show.proofs.OneAnswer.{put_kept, write_apart}
 use Rattle.show.proofs.Refusals.{First, told, apart, other}
 use Rattle.show_words.specs.Words.{TextPromise, TextRefused, short}
 

@@ -38,7 +38,7 @@ use Rattle.theorem_translated.proofs.Good.{translated_ready}
 use Rattle.theorem_translated.proofs.Alike.{loads_alike}
 use Rattle.theorem_same_show.specs.Show.{SameShow, ReadBack}
 use Rattle.theorem_same_show.proofs.Theorem.{written_reads_back}
-use Rattle.theorem_rehearse.specs.Rehearse.{HadRoom, Rehearsal, loaded, Carries, KeepsWithin, PatchedAlike, Ships, Complete, SamePatch}
+use Rattle.theorem_rehearse.specs.Rehearse.{HadRoom, Rehearsal, Carries, KeepsWithin, PatchedAlike, Ships, Complete, SamePatch}
 use Rattle.theorem_rehearse.proofs.Seen.{saw_room}
 use Rattle.theorem_rehearse.proofs.Rehearse.{rehearsed}
 use Rattle.theorem_called.specs.Called.{ReadBackAs, WriteThenLoad, WrittenIsLoaded, NotTurnedAway, LetIn, GoodAfter, SeenRoom, RehearsedCalls, LoadedAlike}

@@ -1,12 +1,11 @@
 -- A walk over a store: the listed slots are those of the ordered list, each is found under its own name, and the readers decode it.
 -- Assumes nothing.
 use mathlib.Core.Path.{◌≡◌, refl, sym, ap, ◌∙◌, subst}
-use mathlib.Core.Bool.{Bool, true}
+use mathlib.Core.Bool.{true}
 use mathlib.Core.List.{List, [], ◌∷◌, map}
-use mathlib.Core.Logic.{◌⊎◌, inl, inr}
+use mathlib.Core.Logic.{inl, inr}
 use Prim.Native.Nat.{ℕ, suc, ◌+◌, ◌-◌, ◌*◌, ◌<◌}
 use native.Mathlib.Omega.{arith}
-use lib.Dec.{ltb}
 use lib.ListN.{take, drop}
 use borrow.Author.Tests.{lt-ltb}
 use Rattle.cells.specs.Search.{Found, at, nowhere}
@@ -15,7 +14,7 @@ use Rattle.store_desk.specs.declared.Desk.{Desk}
 use Rattle.store_desk.specs.declared.Key.{Key}
 use Rattle.store_desk.specs.declared.Kind.{Kind}
 use Rattle.store_desk.specs.Name.{Name, less_key, KeyFits, has_slot}
-use Rattle.store_desk.specs.Refusal.{Reply, replied}
+use Rattle.store_desk.specs.Refusal.{replied}
 use Rattle.store_desk.specs.Size.{head_length, levels_length, slot_length, slots_of}
 use Rattle.store_head.specs.Layout.{head_values}
 use Rattle.store.specs.Slots.{head_at, key_of, find}

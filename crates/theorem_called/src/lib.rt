@@ -1,3 +1,2 @@
 // Theorems of the public calls, as a user meets them: no functions.
 #![tactic(auto)]
-

@@ -2,10 +2,10 @@
 // bytes, and then that input. Prints for each its header line behind `== `, and what `tidy` prints of it. `tools/sessions` makes the files.
 #![tactic(auto)]
 
-ghost use Rattle.std.specs.Prelude.{◌≡◌, ◌<◌, ◌≤◌, length, replicate};
+ghost use Rattle.std.specs.Prelude.{◌≡◌, ◌<◌, IfOk, length, replicate};
 ghost use Rattle.tidy_vectors.specs.Case.{length_given, case_at};
 
-use libc::{STDIN_FILENO, STDOUT_FILENO};
+use std::io;
 use value::Integer;
 
 // Where a session's header line ends, and where its input begins and ends.
@@ -51,41 +51,42 @@ fn case_at(input: &[u8], at: usize) -> Case
     }
 }
 
-fn print_header(line: &[u8]) {
-    io::write_all(STDOUT_FILENO, b"== ");
-    io::write_all(STDOUT_FILENO, line);
-    io::write_all(STDOUT_FILENO, b"\n");
+fn print_header(rt: &impl Print, line: &[u8]) -> io::Result<()> {
+    rt.write_all(b"== ")?;
+    rt.write_all(line)?;
+    rt.write_all(b"\n")
 }
 
-fn print_tidy(input: &[u8]) {
+fn print_tidy(rt: &impl Print, input: &[u8]) -> io::Result<()> {
     let mut out = tidy_session::buffer();
     let end = tidy_session::tidy(input, &mut out);
-    io::write_all(STDOUT_FILENO, &out[..end]);
+    rt.write_all(&out[..end])
 }
 
 // Prints the session at a place, and answers where the next begins.
-fn print_case(input: &[u8], at: usize) -> usize
+fn print_case(rt: &impl Print, input: &[u8], at: usize) -> io::Result<usize>
     requires { at < length input.now }
-    ensures { result ≡ (case_at input.now at).end }
+    ensures { IfOk result (λ end. end ≡ (case_at input.now at).end) }
 {
     let c = case_at(input, at);
     let line = c.line;
     let body = c.body;
     let end = c.end;
-    print_header(&input[at..line]);
-    print_tidy(&input[body..end]);
-    end
+    print_header(rt, &input[at..line])?;
+    print_tidy(rt, &input[body..end])?;
+    Ok(end)
 }
 
-fn print_cases(input: &[u8]) {
+fn print_cases(rt: &impl Print, input: &[u8]) -> io::Result<()> {
     let mut at = 0;
     while at < input.len() {
-        at = print_case(input, at);
+        at = print_case(rt, input, at)?;
     }
+    Ok(())
 }
 
-fn main() {
+fn main(rt: HostRuntime) -> io::Result<()> {
     let mut input = buffer();
-    let n = io::read_full(STDIN_FILENO, &mut input);
-    print_cases(&input[..n]);
+    let n = input_room::read_full(&mut rt.stdin(), &mut input)?;
+    print_cases(&rt, &input[..n])
 }

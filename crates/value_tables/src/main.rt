@@ -7,7 +7,7 @@ ghost use Rattle.std.specs.Prelude.{◌≡◌, ◌<◌, ◌≤◌, length};
 ghost use Rattle.value.specs.Integer.{run_of};
 ghost use Rattle.value_tables.specs.Says.{says_of};
 
-use libc::STDOUT_FILENO;
+use std::io;
 use value::Integer;
 
 const LINE: usize = 10;
@@ -29,54 +29,48 @@ fn says(cell: &[u8], v: u8) -> bool
 }
 
 // What an entry rests on.
-fn print_basis(first: bool, second: bool) {
+fn print_basis(rt: &impl Print, first: bool, second: bool) -> io::Result<()> {
     if first {
         if second {
-            io::write_all(STDOUT_FILENO, b" C-1 C-2\n");
-            return;
+            return rt.write_all(b" C-1 C-2\n");
         }
-        io::write_all(STDOUT_FILENO, b" C-1\n");
-        return;
+        return rt.write_all(b" C-1\n");
     }
     if second {
-        io::write_all(STDOUT_FILENO, b" C-2\n");
-        return;
+        return rt.write_all(b" C-2\n");
     }
-    io::write_all(STDOUT_FILENO, b" formula\n");
+    rt.write_all(b" formula\n")
 }
 
 // The line of one percentage.
-fn print_entry(text: &[u8], p: usize)
+fn print_entry(rt: &impl Print, text: &[u8], p: usize) -> io::Result<()>
     requires p_bound { p < 101 }
     requires in_bounds { 1010 ≤ length text.now }
 {
     let v = value_level::percent_byte(p);
-    io::print_decimal(STDOUT_FILENO, p as u64);
-    io::write_all(STDOUT_FILENO, b" ");
-    io::print_hex(STDOUT_FILENO, v as u64, 2);
+    print!(rt; "{p} {v:02x}")?;
     let at = p * LINE;
     let second = says(&text[at + SECOND..at + SECOND + 2], v);
     let first = says(&text[at + FIRST..at + FIRST + 2], v);
-    print_basis(first, second);
+    print_basis(rt, first, second)
 }
 
-fn print_entries(text: &[u8])
+fn print_entries(rt: &impl Print, text: &[u8]) -> io::Result<()>
     requires { 1010 ≤ length text.now }
 {
-    let mut p: usize = 0;
-    while p < LINES {
-        print_entry(text, p);
-        p += 1;
+    for p in 0..LINES {
+        print_entry(rt, text, p)?;
     }
+    Ok(())
 }
 
-fn main() {
-    let mut buffer = io::buffer();
-    let n = io::read_full(0, &mut buffer);
+// The room has place for more than the tables, which tells another size.
+fn main(rt: HostRuntime) -> io::Result<()> {
+    let mut buffer = [0u8; 4096];
+    let n = input_room::read_full(&mut rt.stdin(), &mut buffer)?;
     let text = &buffer[..n];
     if text.len() == LINES * LINE {
-        print_entries(text);
-        return;
+        return print_entries(&rt, text);
     }
-    io::write_all(STDOUT_FILENO, b"the tables have another size\n");
+    rt.write_all(b"the tables have another size\n")
 }

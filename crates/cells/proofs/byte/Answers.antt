@@ -1,7 +1,6 @@
 -- `cells::byte` meets its contract: past the end `get_or` is its default.
 use mathlib.Core.Path.{sym}
 use lib.ListN.{get_or-eq_default}
-use Rattle.std.proofs.Common.{rules}
 use Rattle.cells.proofs.byte.Goals as goal
 
 pub returns-else-i-s : goal.returns-else-i-s

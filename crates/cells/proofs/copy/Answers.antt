@@ -1,9 +1,9 @@
 -- `cells::copy` meets its contract: after i turns the first i bytes of src stand at the front of dst.
-use mathlib.Core.Path.{◌≡◌, refl, sym, ap, ◌∙◌}
+use mathlib.Core.Path.{refl, sym, ap, ◌∙◌}
 use mathlib.Core.List.{List}
-use Prim.Native.Nat.{ℕ, ◌≤◌, ◌-◌}
+use Prim.Native.Nat.{ℕ}
 use native.Mathlib.Omega.{arith}
-use lib.ListN.{length, take, length-set}
+use lib.ListN.{length-set}
 use lib.Seq.{take_all}
 use Rattle.cells.specs.Put.{put}
 use Rattle.cells.proofs.Put.{put_nil, copy_turn}
@@ -14,8 +14,7 @@ pub loop-i-init : goal.loop-i-init
 loop-i-init c = (search rules, sym (put_nil _ _), refl)
 
 pub loop-i-preserved : goal.loop-i-preserved
-loop-i-preserved c =
-    (
+loop-i-preserved c = (
   omega arith,
   copy_turn _ _ _ c.loop-i.invariant.1 c.loop-i-test.true c.requires,
   length-set c.loop-i.dst _ _ ∙ c.loop-i.invariant.2,

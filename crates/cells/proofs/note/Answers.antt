@@ -1,6 +1,5 @@
 -- `note` meets its contract: past its end a list keeps what it has, as `set` does.
 use Rattle.cells.proofs.Noted.{noted_none}
-use Rattle.std.proofs.Common.{rules}
 use Rattle.cells.proofs.note.Goals as goal
 
 pub returns-else-i-list : goal.returns-else-i-list

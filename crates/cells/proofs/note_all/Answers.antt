@@ -1,8 +1,6 @@
 -- `note_all` meets its contract. The loop's invariant: what is left to note goes in from place i on. The measure is how many are left.
 use native.Mathlib.Omega.{arith}
-use Prim.Native.Nat.{◌-◌}
-use lib.ListN.{length}
-use Rattle.cells.proofs.Noted.{Noting, noting_start, noting_turn, noting_end}
+use Rattle.cells.proofs.Noted.{noting_start, noting_turn, noting_end}
 use Rattle.std.proofs.Common.{rules}
 use Rattle.cells.proofs.note_all.Goals as goal
 

@@ -1,5 +1,4 @@
 -- `blamed` meets its contract: a missing field has no place, any other the one behind its start.
-use Rattle.std.proofs.Common.{rules}
 use Rattle.load.proofs.Blames.{blamed_none, blamed_some}
 use Rattle.load.proofs.blamed.Goals as goal
 

@@ -1,6 +1,5 @@
 -- `blamed_at` meets its contract: the first field from there on is there where it starts within the text.
 use Rattle.load.proofs.Blames.{blamed_there, blamed_past}
-use Rattle.std.proofs.Common.{rules}
 use Rattle.load.proofs.blamed_at.Goals as goal
 
 pub returns-then-start-text : goal.returns-then-start-text

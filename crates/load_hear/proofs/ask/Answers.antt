@@ -1,7 +1,6 @@
 -- `ask` meets its contract: past the end of the list nothing is set.
 use mathlib.Core.Path.{sym}
 use lib.Seq.{set_out}
-use Rattle.std.proofs.Common.{rules}
 use Rattle.load_hear.proofs.ask.Goals as goal
 
 pub returns-else-slot-asked : goal.returns-else-slot-asked

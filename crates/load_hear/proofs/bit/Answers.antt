@@ -2,7 +2,6 @@
 use mathlib.Core.Path.{sym, subst}
 use Prim.Native.Nat.{ℕ, ◌<◌}
 use Rattle.load_hear.proofs.Bits.{bit_is, power_some}
-use Rattle.std.proofs.Common.{rules}
 use Rattle.load_hear.proofs.bit.Goals as goal
 
 pub nonzero_div-result : goal.nonzero_div-result

@@ -4,7 +4,6 @@ use Prim.Native.Nat.{ℕ}
 use lib.Dec.{eqb}
 use Rattle.load_hear.proofs.Noting.{none_marked}
 use Rattle.load_hear.specs.Marks.{is_marked}
-use Rattle.std.proofs.Common.{rules}
 use Rattle.load_hear.proofs.is_mark.Goals as goal
 
 pub returns-then-i-marks : goal.returns-then-i-marks

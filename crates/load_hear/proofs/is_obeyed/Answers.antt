@@ -1,6 +1,5 @@
 -- `is_obeyed` meets its contract: the definition, arm by arm.
 use Rattle.load.specs.Anew.{is_obeyed}
-use Rattle.std.proofs.Common.{rules}
 use Rattle.load_hear.proofs.is_obeyed.Goals as goal
 
 pub returns-in-Blank : goal.returns-in-Blank

@@ -1,6 +1,5 @@
 -- `mark` meets its contract: past the end of the marks nothing is set.
 use Rattle.load_hear.proofs.Noting.{mark_none, mark_some}
-use Rattle.std.proofs.Common.{rules}
 use Rattle.load_hear.proofs.mark.Goals as goal
 
 pub returns-then-i-marks : goal.returns-then-i-marks

@@ -1,8 +1,6 @@
 -- `note_primary` meets its contract: a normal load notes nothing, and else the outcome says whether the primary was accepted.
 use mathlib.Core.Path.{sym, ◌∙◌}
-use borrow.Author.Tests.{not-true, not-false}
 use Rattle.load_hear.proofs.Booking.{nothing_noted, accepted_noted, refused_noted}
-use Rattle.std.proofs.Common.{rules}
 use Rattle.load_hear.proofs.note_primary.Goals as goal
 
 pub returns-then-not-is_anew : goal.returns-then-not-is_anew

@@ -1,7 +1,6 @@
 -- `refuse` meets its contract: a CUE that was refused was tried, and no other counter moves.
 use Rattle.load_hear.specs.Book.{counted_at}
 use Rattle.load_hear.proofs.Booking.{anew_room, tried_fits, cue_refused}
-use Rattle.std.proofs.Common.{rules}
 use Rattle.load_hear.proofs.refuse.Goals as goal
 
 pub one_more-requires : goal.one_more-requires

@@ -2,7 +2,6 @@
 use Prim.Native.Nat.{◌+◌, ◌<◌}
 use native.Mathlib.Omega.{arith}
 use Rattle.load_hear.proofs.Bits.{set_stays, new_is, new_room}
-use Rattle.std.proofs.Common.{rules}
 use Rattle.load_hear.proofs.with_bit.Goals as goal
 
 pub returns-then-bit-eq1 : goal.returns-then-bit-eq1

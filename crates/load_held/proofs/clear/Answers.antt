@@ -3,7 +3,6 @@ use mathlib.Core.Path.{◌∙◌}
 use Rattle.load.specs.Ask.{item_ask}
 use Rattle.load_held.proofs.Answers.{asked_as, rests_as}
 use Rattle.load_held.proofs.Clearing.{item_start, item_other, item_line, clear_as}
-use Rattle.std.proofs.Common.{rules}
 use Rattle.load_held.proofs.clear.Goals as goal
 
 pub item_at-said-requires : goal.item_at-said-requires

@@ -2,7 +2,6 @@
 use mathlib.Core.Path.{◌∙◌}
 use Rattle.load_held.proofs.Answers.{asked_as, rests_as}
 use Rattle.load_held.proofs.Clearing.{paged_bad, paged_good, all_as, clears_as}
-use Rattle.std.proofs.Common.{rules}
 use Rattle.load_held.proofs.clear_all.Goals as goal
 
 pub blamed_at-requires : goal.blamed_at-requires

@@ -1,5 +1,4 @@
 -- `clear_dimmers` meets its contract: a patch with the page, and one without.
-use Rattle.std.proofs.Common.{rules}
 use Rattle.load_held.proofs.Clearing.{dimmers_have, dimmers_lack}
 use Rattle.load_held.proofs.clear_dimmers.Goals as goal
 

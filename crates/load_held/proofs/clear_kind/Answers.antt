@@ -2,7 +2,6 @@
 use mathlib.Core.Path.{◌∙◌}
 use Rattle.load_held.proofs.Answers.{asked_as, rests_as}
 use Rattle.load_held.proofs.Clearing.{kind_page, paged_bad, paged_good, kind_unsupported, kind_as, table_cleared}
-use Rattle.std.proofs.Common.{rules}
 use Rattle.load_held.proofs.clear_kind.Goals as goal
 
 pub blamed_at-requires : goal.blamed_at-requires

@@ -2,7 +2,6 @@
 use mathlib.Core.Path.{◌∙◌}
 use Rattle.load_held.proofs.Answers.{asked_as, rests_as}
 use Rattle.load_held.proofs.Clearing.{page_le, paged_bad, paged_good, dimmers_as, patch_cleared}
-use Rattle.std.proofs.Common.{rules}
 use Rattle.load_held.proofs.clear_patch.Goals as goal
 
 pub blamed_at-requires : goal.blamed_at-requires

@@ -1,5 +1,4 @@
 -- `clear_table` meets its contract: a table with the page, and one without.
-use Rattle.std.proofs.Common.{rules}
 use Rattle.load_held.proofs.Clearing.{table_page, table_has, table_lacks}
 use Rattle.load_held.proofs.clear_table.Goals as goal
 

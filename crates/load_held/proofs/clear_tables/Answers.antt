@@ -1,5 +1,4 @@
 -- `clear_tables` meets its contract: the patch, then kind by kind.
-use Rattle.std.proofs.Common.{rules}
 use Rattle.load_held.proofs.Clearing.{tables_are}
 use Rattle.load_held.proofs.clear_tables.Goals as goal
 

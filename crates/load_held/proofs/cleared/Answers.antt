@@ -1,5 +1,4 @@
 -- `cleared` meets its contract.
-use Rattle.std.proofs.Common.{rules}
 use Rattle.load_held.proofs.Answers.{ended_as_lem}
 use Rattle.load_held.proofs.cleared.Goals as goal
 

@@ -1,5 +1,4 @@
 -- `settled` meets its contract, by what was open and whether the store keeps it.
-use Rattle.std.proofs.Common.{rules}
 use Rattle.load_held.proofs.Holding.{settle_nothing, settle_skipping, settle_found, settle_gone}
 use Rattle.load_held.proofs.settled.Goals as goal
 

@@ -2,7 +2,6 @@
 use Rattle.load_items.proofs.Laws.{aimed_as}
 use Rattle.load_items.specs.Take.{AimFits}
 use mathlib.Core.Path.{subst}
-use Rattle.std.proofs.Common.{rules}
 use Rattle.load_items.proofs.apply.Goals as goal
 
 pub set_level-requires : goal.set_level-requires

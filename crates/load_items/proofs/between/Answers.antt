@@ -1,6 +1,5 @@
 -- `between` meets its contract, by how many fields an item has.
 use Rattle.load_items.proofs.Laws.{start_fits, between_none, between_dimmer}
-use Rattle.std.proofs.Common.{rules}
 use Rattle.load_items.proofs.between.Goals as goal
 
 pub ranged-requires : goal.ranged-requires

@@ -1,6 +1,5 @@
 -- `entry` meets its contract, by how many fields an item has.
 use Rattle.load_items.proofs.Laws.{entry_pair, entry_triple}
-use Rattle.std.proofs.Common.{rules}
 use Rattle.load_items.proofs.entry.Goals as goal
 
 pub returns-in-Pair : goal.returns-in-Pair

@@ -1,7 +1,6 @@
 -- `item_at` meets its contract: each field starts where the one before it ends, and the first at fault is blamed.
 use Rattle.load_items.proofs.Laws.{fields_read, start_fits, second_ended, third_ended, item_channel, item_middle, item_level, item_obeyed}
 use native.Mathlib.Omega.{arith}
-use Rattle.std.proofs.Common.{rules}
 use Rattle.load_items.proofs.item_at.Goals as goal
 
 pub between-m-requires : goal.between-m-requires

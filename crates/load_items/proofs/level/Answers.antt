@@ -1,6 +1,5 @@
 -- `level` meets its contract, by whether the field ends with its level.
 use Rattle.load_items.proofs.Fields.{leveling_within, lit_whole, lit_longer}
-use Rattle.std.proofs.Common.{rules}
 use Rattle.load_items.proofs.level.Goals as goal
 
 pub returns-then-ends : goal.returns-then-ends

@@ -1,6 +1,5 @@
 -- `lit_by` meets its contract, by what the level is.
 use Rattle.load_items.proofs.Fields.{lit_percent, lit_hex, lit_level}
-use Rattle.std.proofs.Common.{rules}
 use Rattle.load_items.proofs.lit_by.Goals as goal
 
 pub returns-in-NotPercent : goal.returns-in-NotPercent

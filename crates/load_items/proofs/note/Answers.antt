@@ -1,7 +1,6 @@
 -- `note` meets its contract: only a fault is stored, and it fits a word.
 use native.Mathlib.Omega.{arith}
 use Rattle.load_items.proofs.Faults.{fault_place, fault_condition, note_level, note_patch, note_fault}
-use Rattle.std.proofs.Common.{rules}
 use Rattle.load_items.proofs.note.Goals as goal
 
 pub overflow_cast-faults : goal.overflow_cast-faults

@@ -1,6 +1,5 @@
 -- `ranged` meets its contract, by whether the field ends with its digits, and by their value.
 use Rattle.load_items.proofs.Fields.{digits_within, ranged_zero, ranged_high, ranged_within, ranged_longer, ranged_empty}
-use Rattle.std.proofs.Common.{rules}
 use Rattle.load_items.proofs.ranged.Goals as goal
 use Rattle.load_items.proofs.ranged.Goals.{then-ends+else-at-end, else-ends}
 

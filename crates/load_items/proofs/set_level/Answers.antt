@@ -2,7 +2,6 @@
 use Rattle.load_items.proofs.Laws.{slot_level, slot_patch, slot_fault}
 use Rattle.load.specs.Fits.{EntryFits}
 use mathlib.Core.Path.{subst}
-use Rattle.std.proofs.Common.{rules}
 use Rattle.load_items.proofs.set_level.Goals as goal
 
 pub edit-requires : goal.edit-requires

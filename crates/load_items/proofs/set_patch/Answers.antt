@@ -3,7 +3,6 @@ use Rattle.load_items.proofs.Laws.{page_level, page_patch, page_fault}
 use Rattle.load.specs.Fits.{EntryFits}
 use native.Mathlib.Omega.{arith}
 use mathlib.Core.Path.{subst}
-use Rattle.std.proofs.Common.{rules}
 use Rattle.load_items.proofs.set_patch.Goals as goal
 
 pub patch_dimmer-requires : goal.patch_dimmer-requires

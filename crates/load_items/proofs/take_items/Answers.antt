@@ -1,9 +1,7 @@
 -- `take_items` meets its contract: the faults so far with those from here on are those from the start on, and what is done likewise (`Going`).
 -- The measure is what is left of the text.
 use Rattle.store_code.proofs.Laws.{fitting_kept}
-use Rattle.load_items.proofs.Laws.{Going, item_fits, item_noted, item_ended, item_forward, next_less, loop_start, loop_lent, loop_room, loop_turn, loop_end}
-use lib.ListN.{length}
-use Prim.Native.Nat.{◌-◌}
+use Rattle.load_items.proofs.Laws.{item_fits, item_noted, item_ended, item_forward, next_less, loop_start, loop_room, loop_turn, loop_end}
 use native.Mathlib.Omega.{arith}
 use Rattle.load_items.proofs.take_items.Goals as goal
 

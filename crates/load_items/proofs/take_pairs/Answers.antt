@@ -1,6 +1,5 @@
 -- `take_pairs` meets its contract: the items from where the first field starts, if there is one.
 use Rattle.load_items.proofs.Laws.{ready_start, starts_start, pairs_taken, pairs_none}
-use Rattle.std.proofs.Common.{rules}
 use Rattle.load_items.proofs.take_pairs.Goals as goal
 
 pub take_items-requires : goal.take_items-requires

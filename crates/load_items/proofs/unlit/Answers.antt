@@ -1,6 +1,5 @@
 -- `unlit` meets its contract, by the mark.
 use Rattle.load_items.proofs.Fields.{unlit_hex, unlit_percent}
-use Rattle.std.proofs.Common.{rules}
 use Rattle.load_items.proofs.unlit.Goals as goal
 
 pub returns-then-hex_mark : goal.returns-then-hex_mark

@@ -1,5 +1,4 @@
 -- `wrong` meets its contract: the field goes on to its end.
-use Rattle.std.proofs.Common.{rules}
 use Rattle.load_items.proofs.wrong.Goals as goal
 
 pub returns : goal.returns

@@ -1,6 +1,5 @@
 -- `accepted` meets its contract, kind by kind.
 use Rattle.load.specs.Anew.{accepted_of}
-use Rattle.std.proofs.Common.{rules}
 use Rattle.load_naming.proofs.accepted.Goals as goal
 
 pub returns-in-Cue : goal.returns-in-Cue

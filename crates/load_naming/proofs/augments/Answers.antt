@@ -1,6 +1,5 @@
 -- `augments` meets its contract, secondary by secondary.
 use Rattle.load.specs.Ask.{augments}
-use Rattle.std.proofs.Common.{rules}
 use Rattle.load_naming.proofs.augments.Goals as goal
 
 pub returns-in-Chan : goal.returns-in-Chan

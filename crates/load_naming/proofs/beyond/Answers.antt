@@ -1,7 +1,6 @@
 -- `beyond` meets its contract, kind by kind.
 use Rattle.load.specs.Condition.{full_of}
 use Rattle.load.specs.Anew.{beyond_of}
-use Rattle.std.proofs.Common.{rules}
 use Rattle.load_naming.proofs.beyond.Goals as goal
 
 pub returns-in-Cue : goal.returns-in-Cue

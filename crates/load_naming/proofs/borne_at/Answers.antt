@@ -3,7 +3,6 @@ use mathlib.Core.Path.{◌∙◌, sym, ap}
 use Rattle.text_fields.specs.Words.{Word}
 use Rattle.value.specs.Number.{borne_of}
 use Rattle.load_naming.proofs.Fields.{field_in, field_lent, head_at}
-use Rattle.std.proofs.Common.{rules}
 use Rattle.load_naming.proofs.borne_at.Goals as goal
 
 pub word-requires : goal.word-requires

@@ -3,7 +3,6 @@ use mathlib.Core.Path.{ap}
 use Rattle.load.specs.declared.Fault.{Fault}
 use Rattle.load.specs.declared.Reading.TheVariants.{Wrong as Misread}
 use Rattle.load.specs.Ask.{times_of}
-use Rattle.std.proofs.Common.{rules}
 use Rattle.load_naming.proofs.change_at.Goals as goal
 
 pub returns-in-Chan : goal.returns-in-Chan

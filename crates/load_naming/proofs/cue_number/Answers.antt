@@ -1,6 +1,5 @@
 -- `cue_number` meets its contract, case by case.
 use Rattle.load_naming.proofs.Numbers.{number_malformed, number_large, number_good}
-use Rattle.std.proofs.Common.{rules}
 use Rattle.load_naming.proofs.cue_number.Goals as goal
 
 pub returns-in-Malformed : goal.returns-in-Malformed

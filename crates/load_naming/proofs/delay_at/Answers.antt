@@ -1,6 +1,5 @@
 -- `delay_at` meets its contract: with no field, and with one.
 use Rattle.load_naming.proofs.Fields.{field_in, delay_none, delay_some}
-use Rattle.std.proofs.Common.{rules}
 use Rattle.load_naming.proofs.delay_at.Goals as goal
 
 pub returns-then-is_missing : goal.returns-then-is_missing

@@ -3,7 +3,6 @@ use Rattle.store.specs.declared.Edit.TheVariants.{Down}
 use Rattle.load.specs.Ask.{times_of}
 use Rattle.load_naming.proofs.Fields.{field_in, start_low, line_next}
 use Rattle.load_naming.proofs.Times.{fade_wrong, delay_wrong, delay_good}
-use Rattle.std.proofs.Common.{rules}
 use Rattle.load_naming.proofs.down_at.Goals as goal
 
 pub time_in-requires : goal.time_in-requires

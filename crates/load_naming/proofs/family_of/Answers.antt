@@ -1,6 +1,5 @@
 -- `family_of` meets its contract, keyword by keyword.
 use Rattle.load.specs.Ask.{family_of}
-use Rattle.std.proofs.Common.{rules}
 use Rattle.load_naming.proofs.family_of.Goals as goal
 
 pub returns-in-Ident : goal.returns-in-Ident

@@ -1,7 +1,6 @@
 -- `followon_at` meets its contract: a time, or none.
 use Rattle.load_naming.proofs.Fields.{field_in, start_low}
 use Rattle.load_naming.proofs.Times.{followon_wrong, followon_good}
-use Rattle.std.proofs.Common.{rules}
 use Rattle.load_naming.proofs.followon_at.Goals as goal
 
 pub time_in-requires : goal.time_in-requires

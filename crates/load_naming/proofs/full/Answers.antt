@@ -1,6 +1,5 @@
 -- `full` meets its contract, kind by kind.
 use Rattle.load.specs.Condition.{full_of}
-use Rattle.std.proofs.Common.{rules}
 use Rattle.load_naming.proofs.full.Goals as goal
 
 pub returns-in-Cue : goal.returns-in-Cue

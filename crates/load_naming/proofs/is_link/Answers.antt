@@ -1,6 +1,5 @@
 -- `is_link` meets its contract, secondary by secondary.
 use Rattle.load.specs.Anew.{is_link}
-use Rattle.std.proofs.Common.{rules}
 use Rattle.load_naming.proofs.is_link.Goals as goal
 
 pub returns-in-Chan : goal.returns-in-Chan

@@ -1,6 +1,5 @@
 -- `key_of` meets its contract, case by case.
 use Rattle.load_naming.proofs.Names.{named_wrong, named_bad, named_good}
-use Rattle.std.proofs.Common.{rules}
 use Rattle.load_naming.proofs.key_of.Goals as goal
 
 pub returns-in-Wrong : goal.returns-in-Wrong

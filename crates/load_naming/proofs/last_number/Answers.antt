@@ -1,6 +1,5 @@
 -- `last_number` meets its contract, kind by kind.
 use Rattle.load.specs.Anew.{last_number}
-use Rattle.std.proofs.Common.{rules}
 use Rattle.load_naming.proofs.last_number.Goals as goal
 
 pub returns-in-Cue : goal.returns-in-Cue

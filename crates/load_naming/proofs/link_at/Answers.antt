@@ -1,7 +1,6 @@
 -- `link_at` meets its contract: a number, or none.
 use Rattle.load_naming.proofs.Fields.{field_in}
 use Rattle.load_naming.proofs.Times.{link_wrong, link_good}
-use Rattle.std.proofs.Common.{rules}
 use Rattle.load_naming.proofs.link_at.Goals as goal
 
 pub cue_number-requires : goal.cue_number-requires

@@ -1,6 +1,5 @@
 -- `most_pages` meets its contract.
 use Rattle.load_naming.proofs.Names.{most_is}
-use Rattle.std.proofs.Common.{rules}
 use Rattle.load_naming.proofs.most_pages.Goals as goal
 
 pub returns : goal.returns

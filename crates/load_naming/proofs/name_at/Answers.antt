@@ -1,7 +1,6 @@
 -- `name_at` meets its contract: the number, then the page.
 use Rattle.load_naming.proofs.Fields.{field_in, line_next}
 use Rattle.load_naming.proofs.Names.{named_is}
-use Rattle.std.proofs.Common.{rules}
 use Rattle.load_naming.proofs.name_at.Goals as goal
 
 pub number_in-number-requires : goal.number_in-number-requires

@@ -2,7 +2,6 @@
 use native.Mathlib.Nat.{div-le_self, mod-le}
 use native.Mathlib.Omega.{arith}
 use Rattle.load_naming.proofs.Next.{last_pos, next_is}
-use Rattle.std.proofs.Common.{rules}
 use Rattle.load_naming.proofs.next_key.Goals as goal
 
 pub nonzero_div-result : goal.nonzero_div-result

@@ -1,6 +1,5 @@
 -- `next_name` meets its contract: the next key, or what is beyond the last page.
 use Rattle.load_naming.proofs.Next.{accepted_small, next_named_lem, next_beyond}
-use Rattle.std.proofs.Common.{rules}
 use Rattle.load_naming.proofs.next_name.Goals as goal
 
 pub next_key-key-requires : goal.next_key-key-requires

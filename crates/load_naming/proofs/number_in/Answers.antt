@@ -1,6 +1,5 @@
 -- `number_in` meets its contract, kind by kind.
 use Rattle.load_naming.proofs.Names.{numeral_cue, numeral_group, numeral_sub}
-use Rattle.std.proofs.Common.{rules}
 use Rattle.load_naming.proofs.number_in.Goals as goal
 
 pub returns-in-Cue : goal.returns-in-Cue

@@ -1,6 +1,5 @@
 -- `page_at` meets its contract: with no field, and with one.
 use Rattle.load_naming.proofs.Fields.{field_in, field_lent, page_none, page_some}
-use Rattle.std.proofs.Common.{rules}
 use Rattle.load_naming.proofs.page_at.Goals as goal
 
 pub returns-then-is_missing : goal.returns-then-is_missing

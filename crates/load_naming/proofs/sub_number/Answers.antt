@@ -1,6 +1,5 @@
 -- `sub_number` meets its contract, case by case.
 use Rattle.load_naming.proofs.Numbers.{sub_malformed, sub_zero, sub_high, sub_good}
-use Rattle.std.proofs.Common.{rules}
 use Rattle.load_naming.proofs.sub_number.Goals as goal
 
 pub returns-in_default : goal.returns-in_default

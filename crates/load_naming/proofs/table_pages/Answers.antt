@@ -2,7 +2,6 @@
 use mathlib.Core.Path.{sym, ◌∙◌}
 use Rattle.load.specs.Ask.{table_pages}
 use Rattle.cells.proofs.Split.{cond-true, cond-false}
-use Rattle.std.proofs.Common.{rules}
 use Rattle.load_naming.proofs.table_pages.Goals as goal
 
 pub returns-then-supports : goal.returns-then-supports

@@ -1,7 +1,6 @@
 -- `time_in` meets its contract.
 use mathlib.Core.Path.{◌∙◌, ap}
 use Rattle.value.specs.Time.{time_of}
-use Rattle.std.proofs.Common.{rules}
 use Rattle.load_naming.proofs.time_in.Goals as goal
 
 pub returns : goal.returns

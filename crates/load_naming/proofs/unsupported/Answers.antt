@@ -1,6 +1,5 @@
 -- `unsupported` meets its contract, kind by kind.
 use Rattle.load.specs.Condition.{unsupported_of}
-use Rattle.std.proofs.Common.{rules}
 use Rattle.load_naming.proofs.unsupported.Goals as goal
 
 pub returns-in-Cue : goal.returns-in-Cue

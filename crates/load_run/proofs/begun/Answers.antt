@@ -1,5 +1,4 @@
 -- `begun` meets its contract: nothing is open, and nothing was read.
-use Rattle.std.proofs.Common.{rules}
 use Rattle.load_run.specs.Loaded.{nothing_begun}
 use Rattle.load_run.proofs.begun.Goals as goal
 

@@ -1,7 +1,6 @@
 -- `close` meets its contract: the counters as they are, or after 0100.
 use Rattle.load_run.proofs.Closing.{close_stopped, close_told}
 use native.Mathlib.Omega.{arith}
-use Rattle.std.proofs.Common.{rules}
 use Rattle.load_run.proofs.close.Goals as goal
 
 pub returns-then-stopped : goal.returns-then-stopped

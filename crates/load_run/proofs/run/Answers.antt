@@ -1,7 +1,6 @@
 -- `run` meets its contract: the walk with the numbers as given is the run of a normal load, and its end is what that run is told as. What was
 -- noted meanwhile is not asked for.
 use Rattle.load_run.proofs.Closing.{none_accepted, one_given, close_room, run_loaded_lem}
-use Rattle.std.proofs.Common.{rules}
 use Rattle.load_run.proofs.run.Goals as goal
 
 pub walk-done-requires : goal.walk-done-requires

@@ -1,5 +1,4 @@
 -- `take_blank` meets its contract: the definition, with the tally.
-use Rattle.std.proofs.Common.{rules}
 use Rattle.load_run.proofs.take_blank.Goals as goal
 
 pub returns : goal.returns

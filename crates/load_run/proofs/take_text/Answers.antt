@@ -5,7 +5,6 @@ use Rattle.load_tell.specs.Count.{ignored_by}
 use native.Mathlib.Omega.{arith}
 use lib.Seq.{length-take-le}
 use mathlib.Core.Path.{sym}
-use Rattle.std.proofs.Common.{rules}
 use Rattle.load_run.proofs.take_text.Goals as goal
 
 pub step-s-requires : goal.step-s-requires
@@ -21,10 +20,17 @@ slice_bounds-tell-end-2 c = sym (length-take-le _ _ (omega (arith, c.step-s.ensu
 
 pub tell-count-requires : goal.tell-count-requires
 tell-count-requires c =
-    let t = c.requires.taking in record { countable = t.countable; tellable = step_room _ _ _ c.step-s.ensures.faults_after (step_in_small _ _ _ _ _) c.step-s.ensures.faults_le_most_faults c.requires.room _ _ _ c.args.high c.args.control t.countable t.room
-            c.requires.text_of.short (text_said _ _ _ _ _) (text_near _ _ _ c.args.received.now c.args.text.now _ t.fitting c.requires.text_of.within); marred = c.requires.text_of.marred }
+    let t = c.requires.taking in record {
+      countable = t.countable;
+      tellable = step_room _ _ _ c.step-s.ensures.faults_after (step_in_small _ _ _ _ _) c.step-s.ensures.faults_le_most_faults c.requires.room _ _ _ c.args.high c.args.control t.countable t.room
+          c.requires.text_of.short (text_said _ _ _ _ _) (text_near _ _ _ c.args.received.now c.args.text.now _ t.fitting c.requires.text_of.within);
+      marred = c.requires.text_of.marred;
+    }
 
 pub returns : goal.returns
 returns c =
-    record { reports_after = step_taken _ _ _ c.step-s.ensures.faults_after (step_in_small _ _ _ _ _) c.step-s.ensures.faults_le_most_faults c.requires.room _ _ _ (ignored_by c.args.high c.args.control)
-          c.parted-held.ensures c.tell-count.ensures c.stops.ensures; asked_after = step_booked _ _ _ c.step-s.ensures.faults_after _ _ _ _ c.parted-held.ensures c.step-s.ensures.asked_after }
+    record {
+      reports_after = step_taken _ _ _ c.step-s.ensures.faults_after (step_in_small _ _ _ _ _) c.step-s.ensures.faults_le_most_faults c.requires.room _ _ _ (ignored_by c.args.high c.args.control)
+          c.parted-held.ensures c.tell-count.ensures c.stops.ensures;
+      asked_after = step_booked _ _ _ c.step-s.ensures.faults_after _ _ _ _ c.parted-held.ensures c.step-s.ensures.asked_after;
+    }

@@ -1,14 +1,10 @@
 -- `walk` meets its contract: what is read so far stands in front of the run of what is left of the stream, and what was noted of it is in
 -- the lent lists. The lent list of faults keeps its length.
-use Rattle.load_run.proofs.Turn.{SoFar, loop_start, end_in, loop_room, loop_fit, loop_less, loop_turn, loop_stop, loop_end}
+use Rattle.load_run.proofs.Turn.{loop_start, end_in, loop_room, loop_fit, loop_less, loop_turn, loop_stop, loop_end}
 use Rattle.load_run.proofs.Taking.{first_in, spans_at}
 use Rattle.load_run.proofs.Turn.{blank_room, blank_less, blank_turn}
-use Rattle.load_items.specs.Done.{most_faults}
 use native.Mathlib.Omega.{arith}
-use lib.ListN.{length}
-use Prim.Native.Nat.{◌-◌}
-use mathlib.Core.Path.{◌≡◌, refl, sym, ◌∙◌}
-use Rattle.std.proofs.Common.{rules}
+use mathlib.Core.Path.{refl, sym, ◌∙◌}
 use Rattle.load_run.proofs.walk.Goals as goal
 
 pub loop-at-init : goal.loop-at-init

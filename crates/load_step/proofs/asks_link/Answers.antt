@@ -1,7 +1,5 @@
 -- `asks_link` meets its contract: in a load with translation, by what is open.
-use borrow.Author.Tests.{not-true, not-false}
 use Rattle.load_step.proofs.Secondaries.{link_given, link_nothing, link_skipping, link_none, link_cue}
-use Rattle.std.proofs.Common.{rules}
 use Rattle.load_step.proofs.asks_link.Goals as goal
 
 pub returns-then-not-anew : goal.returns-then-not-anew

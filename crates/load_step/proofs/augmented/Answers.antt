@@ -1,16 +1,12 @@
 -- `augmented` meets its contract: a LINK that is heard, and every other.
-use mathlib.Core.Bool.{Bool}
-use mathlib.Core.List.{List}
 use Prim.Native.Nat.{◌+◌, ◌<◌}
 use native.Mathlib.Omega.{arith}
-use Rattle.text_fields.specs.Words.{Word}
 use Rattle.text_fields.specs.Places.{words_from}
 use Rattle.load_held.specs.Parts.{keyword_in}
 use Rattle.load_held.proofs.Answers.{asked_did_all, rests-did_all}
 use Rattle.load_hear.specs.Book.{is_anew}
 use Rattle.load_step.proofs.Secondaries.{augment_heard, augment_obeyed}
 use Rattle.load_step.proofs.Booked.{asks_in_lem, link_asked, not_asked, ask_room}
-use Rattle.std.proofs.Common.{rules}
 use Rattle.load_step.proofs.augmented.Goals as goal
 
 pub overflow_add-borne_at : goal.overflow_add-borne_at

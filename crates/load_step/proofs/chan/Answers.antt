@@ -1,7 +1,6 @@
 -- `chan` meets its contract.
 use Rattle.load_held.proofs.Holding.{open_slot}
 use Rattle.load_step.proofs.Secondaries.{chan_did}
-use Rattle.std.proofs.Common.{rules}
 use Rattle.load_step.proofs.chan.Goals as goal
 
 pub take_pairs-faults-requires : goal.take_pairs-faults-requires

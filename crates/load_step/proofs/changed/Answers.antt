@@ -2,7 +2,6 @@
 use Rattle.load_held.proofs.Holding.{open_slot}
 use Rattle.load_held.proofs.Answers.{asked_did, rests_did}
 use Rattle.load_step.proofs.Secondaries.{change_fits, change_wrong, change_edits, edits_did}
-use Rattle.std.proofs.Common.{rules}
 use Rattle.load_step.proofs.changed.Goals as goal
 
 pub edit-requires : goal.edit-requires

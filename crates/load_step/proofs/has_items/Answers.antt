@@ -1,6 +1,5 @@
 -- `has_items` meets its contract, secondary by secondary.
 use Rattle.load_step.specs.Parts.{has_items}
-use Rattle.std.proofs.Common.{rules}
 use Rattle.load_step.proofs.has_items.Goals as goal
 
 pub returns-in-Chan : goal.returns-in-Chan

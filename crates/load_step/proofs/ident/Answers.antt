@@ -1,6 +1,5 @@
 -- `ident` meets its contract: no version, another one, and the one that is read.
 use Rattle.load_step.proofs.Basics.{ident_bad, ident_major, ident_minor, ident_three}
-use Rattle.std.proofs.Common.{rules}
 use Rattle.load_step.proofs.ident.Goals as goal
 
 pub returns-in_default : goal.returns-in_default

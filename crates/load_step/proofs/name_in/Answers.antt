@@ -1,7 +1,6 @@
 -- `name_in` meets its contract: in either load.
 use mathlib.Core.Path.{sym, ◌∙◌}
 use Rattle.load_step.proofs.Primaries.{name_given, name_anew, counters_fit}
-use Rattle.std.proofs.Common.{rules}
 use Rattle.load_step.proofs.name_in.Goals as goal
 
 pub numbers_in-requires : goal.numbers_in-requires

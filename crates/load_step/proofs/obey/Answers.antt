@@ -3,7 +3,6 @@ use mathlib.Core.Path.{◌∙◌}
 use Rattle.load_held.proofs.Answers.{asked_all}
 use Rattle.load_step.proofs.Basics.{family_primary, family_secondary, family_basic}
 use Rattle.load_step.proofs.Booked.{anew_in, primary_booked, secondary_booked, basic_booked}
-use Rattle.std.proofs.Common.{rules}
 use Rattle.load_step.proofs.obey.Goals as goal
 
 pub returns-in-Primary : goal.returns-in-Primary

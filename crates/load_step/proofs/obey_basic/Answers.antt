@@ -1,7 +1,5 @@
 -- `obey_basic` meets its contract, case by case.
 use mathlib.Core.Path.{◌∙◌, ap, refl}
-use mathlib.Core.List.{List}
-use Rattle.text_fields.specs.Words.{Word}
 use Rattle.text_fields.specs.Places.{words_from}
 use Rattle.load.specs.declared.Outcome.TheVariants.{Passed}
 use Rattle.load_held.specs.declared.Held.{Held}
@@ -10,7 +8,6 @@ use Rattle.load.specs.Ask.{basic_ask}
 use Rattle.load.specs.Anew.{is_clear}
 use Rattle.load_held.proofs.Answers.{asked_all, rests_all, skips_all}
 use Rattle.load_step.proofs.Basics.{basic_ident, basic_clear, basic_patch, basic_enddata, basic_unknown, basic_as}
-use Rattle.std.proofs.Common.{rules}
 use Rattle.load_step.proofs.obey_basic.Goals as goal
 
 pub returns-in-Ident : goal.returns-in-Ident

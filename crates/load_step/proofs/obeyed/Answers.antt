@@ -1,6 +1,5 @@
 -- `obeyed` meets its contract: items, or a change.
 use Rattle.load_step.proofs.Secondaries.{times_fit, obeyed_chan, obeyed_change}
-use Rattle.std.proofs.Common.{rules}
 use Rattle.load_step.proofs.obeyed.Goals as goal
 
 pub returns-then-has_items : goal.returns-then-has_items

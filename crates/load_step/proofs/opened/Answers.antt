@@ -1,6 +1,5 @@
 -- `opened` meets its contract: at a seat, and with no room.
 use Rattle.load_step.proofs.Primaries.{opened_at, opened_full}
-use Rattle.std.proofs.Common.{rules}
 use Rattle.load_step.proofs.opened.Goals as goal
 
 pub returns-in-At : goal.returns-in-At

@@ -2,7 +2,6 @@
 use Rattle.load_naming.proofs.Fields.{field_in, field_lent, start_low, line_next}
 use Rattle.load_held.proofs.Answers.{asked_did_all, rests-did_all}
 use Rattle.load_step.proofs.Basics.{patch_page, patch_bad, patch_items, patched_did}
-use Rattle.std.proofs.Common.{rules}
 use Rattle.load_step.proofs.patch.Goals as goal
 
 pub word-requires : goal.word-requires

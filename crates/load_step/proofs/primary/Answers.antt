@@ -1,14 +1,10 @@
 -- `primary` meets its contract: support, then the name.
 use mathlib.Core.Path.{sym, ◌∙◌}
-use mathlib.Core.List.{List}
-use Rattle.text_fields.specs.Words.{Word}
 use Rattle.text_fields.specs.Places.{words_from}
-use Rattle.load.specs.declared.Numbers.{Numbers}
 use Rattle.load_held.specs.Parts.{keyword_in}
 use Rattle.load_held.proofs.Answers.{asked_as, skips_as}
 use Rattle.load_hear.specs.Book.{numbers_in}
 use Rattle.load_step.proofs.Primaries.{primary_unsupported, primary_refused, primary_opened, primary_ok}
-use Rattle.std.proofs.Common.{rules}
 use Rattle.load_step.proofs.primary.Goals as goal
 
 pub name_in-requires : goal.name_in-requires

@@ -3,7 +3,6 @@ use mathlib.Core.Path.{◌∙◌, ap}
 use Rattle.load.specs.declared.Outcome.TheVariants.{Dropped}
 use Rattle.load_held.specs.declared.Held.{Held}
 use Rattle.load_held.specs.Parts.{ended_as}
-use Rattle.std.proofs.Common.{rules}
 use Rattle.load_step.proofs.refused.Goals as goal
 
 pub returns : goal.returns

@@ -1,7 +1,6 @@
 -- `secondary` meets its contract, by what is open.
 use Rattle.load_held.proofs.Answers.{asked_did_all, rests-did_all}
 use Rattle.load_step.proofs.Secondaries.{is_open, secondary_nothing, secondary_skipping, secondary_wrong, secondary_obeyed}
-use Rattle.std.proofs.Common.{rules}
 use Rattle.load_step.proofs.secondary.Goals as goal
 
 pub obeyed-requires : goal.obeyed-requires

@@ -1,6 +1,5 @@
 -- `column_of` meets its contract: where nothing is ignored, the place is the column.
 use Rattle.load_tell.proofs.Telling.{place_told}
-use Rattle.std.proofs.Common.{rules}
 use Rattle.load_tell.proofs.column_of.Goals as goal
 
 pub returns : goal.returns

@@ -1,7 +1,6 @@
 -- `counted` meets its contract: the definition, with its test known on each way.
 use Rattle.load_tell.specs.Count.{counted}
 use mathlib.Core.Path.{sym, ◌∙◌}
-use Rattle.std.proofs.Common.{rules}
 use Rattle.load_tell.proofs.counted.Goals as goal
 
 pub returns-then-is_error : goal.returns-then-is_error

@@ -1,6 +1,5 @@
 -- `report` meets its contract: the parts of its word fit their bits, and the word is stored at the count of reports.
 use Rattle.load_tell.proofs.Telling.{report_is}
-use Rattle.std.proofs.Common.{rules}
 use Rattle.load_tell.proofs.report.Goals as goal
 
 pub returns : goal.returns

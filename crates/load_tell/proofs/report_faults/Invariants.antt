@@ -1,11 +1,8 @@
 -- `report_faults` meets its contract: after i turns the first i faults are told.
-use Rattle.load_tell.proofs.Telling.{told_none, column_told, tellable_place, tellable_report, turn_room, turn_told, turn_end}
 use Rattle.load_tell.specs.Count.{told, told_all, faults_as}
-use native.Mathlib.Omega.{arith}
 use lib.ListN.{length, take}
 use Prim.Native.Nat.{◌≤◌, ◌-◌}
-use mathlib.Core.Path.{◌≡◌, refl, ◌∙◌}
-use Rattle.std.proofs.Common.{rules}
+use mathlib.Core.Path.{◌≡◌}
 use Rattle.load_tell.proofs.report_faults.Given as goal
 
 abbrev pub invariant-loop-i : goal.invariant-loop-i

@@ -1,7 +1,6 @@
 -- `report_if` meets its contract: one report or none.
 use Rattle.load_tell.proofs.Telling.{as_if, as_unless}
 use mathlib.Core.Path.{◌∙◌}
-use Rattle.std.proofs.Common.{rules}
 use Rattle.load_tell.proofs.report_if.Goals as goal
 
 pub report-requires : goal.report-requires

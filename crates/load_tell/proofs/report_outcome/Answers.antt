@@ -2,7 +2,6 @@
 use mathlib.Core.Path.{◌∙◌}
 use Rattle.load.specs.Step.{outcome_faults}
 use Rattle.load_tell.proofs.Telling.{tellable_of, tellable_stop, tellable_place, tellable_report, place_told, column_told, told_none, told_single, stop_told, stop_none}
-use Rattle.std.proofs.Common.{rules}
 use Rattle.load_tell.proofs.report_outcome.Goals as goal
 
 pub report-requires : goal.report-requires

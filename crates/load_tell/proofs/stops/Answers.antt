@@ -1,6 +1,5 @@
 -- `stops` meets its contract: the definition, arm by arm.
 use Rattle.load.specs.Run.{stops}
-use Rattle.std.proofs.Common.{rules}
 use Rattle.load_tell.proofs.stops.Goals as goal
 
 pub returns-in-Blank : goal.returns-in-Blank

@@ -1,7 +1,6 @@
 -- `store_word` meets its contract: past the end of a list nothing is set.
 use lib.Seq.{set_out}
 use mathlib.Core.Path.{sym}
-use Rattle.std.proofs.Common.{rules}
 use Rattle.load_tell.proofs.store_word.Goals as goal
 
 pub returns-else-at-reports : goal.returns-else-at-reports

@@ -2,7 +2,6 @@
 use Rattle.load_tell.specs.Count.{tallied}
 use Rattle.load.specs.Run.{class_of, eq_class}
 use borrow.Author.Tests.{eq-eqb, ne_eqb}
-use Rattle.std.proofs.Common.{rules}
 use Rattle.load_tell.proofs.tally.Goals as goal
 
 pub returns-then-f-eq0 : goal.returns-then-f-eq0

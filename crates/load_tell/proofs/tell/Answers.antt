@@ -3,7 +3,7 @@
 use Rattle.load_tell.proofs.Telling.{tellable_from, tellable_if, groups_length, groups_fit, room_a, room_b, room_c, room_d, told_groups, if_told, unless_told, all_from}
 use Rattle.cells.proofs.Split.{or_left, or_right}
 use Rattle.load_tell.specs.declared.Count.{Count}
-use Rattle.load_tell.specs.Count.{Told, tallied, told, told_all, faults_as, Fit, Tellable}
+use Rattle.load_tell.specs.Count.{Told, told, told_all, faults_as, Fit, Tellable}
 use Rattle.load.specs.declared.Fault.{Fault}
 use Rattle.load.specs.declared.Outcome.{Outcome}
 use Rattle.load.specs.Item.{blame_none}
@@ -15,7 +15,6 @@ use Prim.Native.Nat.{ℕ, ◌+◌}
 use mathlib.Core.List.{List, ◌++◌}
 use mathlib.Core.Bool.{Bool, false, ◌||◌}
 use mathlib.Core.Path.{◌≡◌, sym, ◌∙◌}
-use Rattle.std.proofs.Common.{rules}
 use Rattle.load_tell.proofs.tell.Goals as goal
 
 -- the first two groups of faults

@@ -1,6 +1,5 @@
 -- `tell_long` meets its contract: the one report of an over-long record has room.
 use Rattle.load_tell.proofs.Telling.{long_reportable, stopped_by, as_from}
-use Rattle.std.proofs.Common.{rules}
 use Rattle.load_tell.proofs.tell_long.Goals as goal
 
 pub report-requires : goal.report-requires

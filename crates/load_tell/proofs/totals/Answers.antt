@@ -1,6 +1,5 @@
 -- `totals` meets its contract: field by field.
 use Rattle.load_tell.specs.Count.{totals_by}
-use Rattle.std.proofs.Common.{rules}
 use Rattle.load_tell.proofs.totals.Goals as goal
 
 pub returns : goal.returns

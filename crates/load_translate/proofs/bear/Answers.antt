@@ -1,12 +1,8 @@
 -- `bear` meets its contract: what was met so far stands in front of what the records that are left bear.
 use Rattle.load_translate.proofs.Reading.{bearing_fits}
-use Rattle.load_translate.proofs.Walking.{SoFar, loop_start, loop_countable, loop_room, loop_turn, loop_end}
+use Rattle.load_translate.proofs.Walking.{loop_start, loop_countable, loop_room, loop_turn, loop_end}
 use Rattle.load_run.proofs.Taking.{spans_in, first_in, spans_at}
-use Rattle.load_run.specs.Take.{Spans}
 use native.Mathlib.Omega.{arith}
-use lib.Dec.{eqb}
-use lib.ListN.{length}
-use Prim.Native.Nat.{◌-◌, ◌≤◌}
 use Rattle.load_translate.proofs.bear.Goals as goal
 
 pub loop-n-init : goal.loop-n-init

@@ -1,6 +1,5 @@
 -- `bearer_now` meets its contract: the two answers of its test.
 use Rattle.load_translate.proofs.Bearers.{now_borne, still_borne}
-use Rattle.std.proofs.Common.{rules}
 use Rattle.load_translate.proofs.bearer_now.Goals as goal
 
 pub returns-then-asked-number : goal.returns-then-asked-number

@@ -1,13 +1,9 @@
 -- `bearing_at` meets its contract: an over-long record by its length, any other by its text, which is itself where all is plain.
-use Rattle.load_run.proofs.Taking.{Texted, spans_in, is_long, short_within, short_chars, plain_texted, cleaned_texted}
+use Rattle.load_run.proofs.Taking.{spans_in, is_long, short_within, short_chars, plain_texted, cleaned_texted}
 use Rattle.load_translate.proofs.Reading.{long_bears, text_bears, text_short}
 use Rattle.cells.proofs.Split.{not_of_true}
-use lib.ListN.{length, take, drop}
 use lib.Seq.{length-take-le}
-use Prim.Native.Nat.{◌-◌, ◌≤◌}
-use mathlib.Core.Bool.{false}
 use mathlib.Core.Path.{sym}
-use Rattle.std.proofs.Common.{rules}
 use Rattle.load_translate.proofs.bearing_at.Goals as goal
 
 pub receive-r-requires : goal.receive-r-requires

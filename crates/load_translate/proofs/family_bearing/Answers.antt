@@ -1,6 +1,5 @@
 -- `family_bearing` meets its contract: the definition, family by family.
 use Rattle.load_translate.proofs.Reading.{cue_bears, group_bears, sub_bears, augments_bears, basic_bears}
-use Rattle.std.proofs.Common.{rules}
 use Rattle.load_translate.proofs.family_bearing.Goals as goal
 
 pub returns-in-Cue : goal.returns-in-Cue

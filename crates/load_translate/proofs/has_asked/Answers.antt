@@ -3,7 +3,6 @@ use Rattle.store_code.proofs.Word.{unused_test}
 use Rattle.load_translate.proofs.Links.{not_asked, is_asked, used_test}
 use Rattle.store_head.specs.Fits.{used_word}
 use mathlib.Core.Path.{◌∙◌}
-use Rattle.std.proofs.Common.{rules}
 use Rattle.load_translate.proofs.has_asked.Goals as goal
 
 pub returns-then-asked-eq0 : goal.returns-then-asked-eq0

@@ -1,6 +1,5 @@
 -- `link` meets its contract: the links from the last bearers that were sought.
 use Rattle.load_translate.proofs.Links.{sought_linked}
-use Rattle.std.proofs.Common.{rules}
 use Rattle.load_translate.proofs.link.Goals as goal
 
 pub returns : goal.returns

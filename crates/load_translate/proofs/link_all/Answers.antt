@@ -1,11 +1,8 @@
 -- `link_all` meets its contract: the slots that are left are linked as they are from the start.
-use Rattle.load_translate.specs.Links.{linking}
-use Rattle.load_translate.proofs.Links.{SoFar, loop_start, loop_room, loop_turn, loop_end}
+use Rattle.load_translate.proofs.Links.{loop_start, loop_room, loop_turn, loop_end}
 use native.Mathlib.Omega.{arith}
-use lib.ListN.{length}
-use Prim.Native.Nat.{ℕ, ◌-◌, ◌≤◌, ◌<◌}
+use Prim.Native.Nat.{ℕ, ◌≤◌, ◌<◌}
 use mathlib.Core.Path.{◌≡◌, refl, ◌∙◌}
-use Rattle.std.proofs.Common.{rules}
 use Rattle.load_translate.proofs.link_all.Goals as goal
 
 -- the code's number of cues is the desk's

@@ -1,11 +1,9 @@
 -- `link_all` meets its contract: the slots that are left are linked as they are from the start.
 use Rattle.load_translate.specs.Links.{linking}
-use Rattle.load_translate.proofs.Links.{SoFar, loop_start, loop_room, loop_turn, loop_end}
-use native.Mathlib.Omega.{arith}
+use Rattle.load_translate.proofs.Links.{SoFar}
 use lib.ListN.{length}
-use Prim.Native.Nat.{ℕ, ◌-◌, ◌≤◌, ◌<◌}
-use mathlib.Core.Path.{◌≡◌, refl, ◌∙◌}
-use Rattle.std.proofs.Common.{rules}
+use Prim.Native.Nat.{◌-◌}
+use mathlib.Core.Path.{◌≡◌}
 use Rattle.load_translate.proofs.link_all.Given as goal
 
 abbrev pub invariant-loop-slot : goal.invariant-loop-slot

@@ -3,7 +3,6 @@ use mathlib.Core.Bool.{not}
 use mathlib.Core.Path.{ap}
 use Rattle.load_translate.proofs.Links.{slot_still, slot_lost, slot_linked, cue_slot, cue_supported, link_fits}
 use native.Mathlib.Omega.{arith}
-use Rattle.std.proofs.Common.{rules}
 use Rattle.load_translate.proofs.link_slot.Goals as goal
 
 pub has_asked-requires : goal.has_asked-requires

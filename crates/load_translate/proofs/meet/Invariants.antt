@@ -1,11 +1,8 @@
 -- `meet` meets its contract: the slots that are left are met as they are from the start.
 use Rattle.load_translate.specs.Bearing.{met_from}
-use Rattle.load_translate.proofs.Bearers.{meet_start, meet_more, meet_end}
-use native.Mathlib.Omega.{arith}
-use lib.ListN.{length, length-set}
+use lib.ListN.{length}
 use Prim.Native.Nat.{◌-◌}
-use mathlib.Core.Path.{◌≡◌, refl, sym, ◌∙◌}
-use Rattle.std.proofs.Common.{rules}
+use mathlib.Core.Path.{◌≡◌}
 use Rattle.load_translate.proofs.meet.Given as goal
 
 abbrev pub invariant-loop-i : goal.invariant-loop-i

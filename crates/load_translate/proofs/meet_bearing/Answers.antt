@@ -2,7 +2,6 @@
 use mathlib.Core.Bool.{not}
 use mathlib.Core.Path.{ap}
 use Rattle.load_translate.proofs.Walking.{none_met, refused_met, unnumbered_met, numbered_met, met_fits}
-use Rattle.std.proofs.Common.{rules}
 use Rattle.load_translate.proofs.meet_bearing.Goals as goal
 
 pub returns-then-not-is_mark : goal.returns-then-not-is_mark

@@ -2,7 +2,6 @@
 use Rattle.store_code.proofs.Laws.{fitting_kept}
 use Rattle.load_translate.proofs.Whole.{walk_losing, walk_records, close_room, translated_loaded}
 use Rattle.load_run.proofs.Closing.{none_accepted}
-use Rattle.std.proofs.Common.{rules}
 use Rattle.load_translate.proofs.run.Goals as goal
 
 pub walk-done-requires : goal.walk-done-requires

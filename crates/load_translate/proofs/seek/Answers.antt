@@ -1,6 +1,5 @@
 -- `seek` meets its contract: where something was asked for, and where nothing was.
 use Rattle.load_translate.proofs.Bearers.{sought_some, sought_none}
-use Rattle.std.proofs.Common.{rules}
 use Rattle.load_translate.proofs.seek.Goals as goal
 
 pub returns-then-any_asked : goal.returns-then-any_asked

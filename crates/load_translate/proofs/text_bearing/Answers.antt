@@ -1,7 +1,6 @@
 -- `text_bearing` meets its contract: with a keyword, and with none.
 use Rattle.load_translate.proofs.Reading.{blank_bears, family_bears}
 use Rattle.load_naming.proofs.Fields.{said_line}
-use Rattle.std.proofs.Common.{rules}
 use Rattle.load_translate.proofs.text_bearing.Goals as goal
 
 pub family_bearing-requires : goal.family_bearing-requires

@@ -2,7 +2,6 @@
 use native.Mathlib.Omega.{arith}
 use Rattle.value_written.proofs.Texts.{integer_ten, level_length}
 use Rattle.save_chans.proofs.Channels.{lit_level, channel-length_some, lead_long}
-use Rattle.std.proofs.Common.{rules}
 use Rattle.save_chans.proofs.channel_length.Goals as goal
 
 pub overflow_add-result : goal.overflow_add-result

@@ -1,10 +1,7 @@
 -- `channels_length` meets its contract. The loop's invariant: the total, with the length of what is left of the channels, is the length of the CHAN
 -- records. The measure is what is left.
 use native.Mathlib.Omega.{arith}
-use lib.ListN.{length}
-use Prim.Native.Nat.{◌-◌}
-use Rattle.save_chans.proofs.Loops.{Adding, adding_start, adding_small, adding_turn, adding_dark, adding_end, adding_end_small}
-use Rattle.std.proofs.Common.{rules}
+use Rattle.save_chans.proofs.Loops.{adding_start, adding_small, adding_turn, adding_dark, adding_end, adding_end_small}
 use Rattle.save_chans.proofs.channels_length.Goals as goal
 
 pub loop-i-init : goal.loop-i-init

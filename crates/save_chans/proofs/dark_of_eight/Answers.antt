@@ -1,7 +1,6 @@
 -- `dark_of_eight` meets its contract: by the law of a word's lowest zeros.
 use mathlib.Core.Path.{◌∙◌}
 use Rattle.save_chans.proofs.Dark.{eight_dark, eight_none}
-use Rattle.std.proofs.Common.{rules}
 use Rattle.save_chans.proofs.dark_of_eight.Goals as goal
 
 pub returns-then-eight-eq0 : goal.returns-then-eight-eq0

@@ -1,8 +1,5 @@
 -- `first_lit` meets its contract. The invariant: the dark channels from here on end where those from the start do. The measure is what is left.
-use mathlib.Core.Path.{◌≡◌, refl}
-use lib.ListN.{length, drop}
-use Prim.Native.Nat.{◌+◌, ◌-◌, ◌≤◌}
-use Rattle.cells.specs.Scan.{span}
+use mathlib.Core.Path.{refl}
 use Rattle.cells.proofs.Scan.{scan_turn, scan_stop, scan_end}
 use Rattle.save_chans.specs.Chan.{is_dark}
 use Rattle.save_chans.proofs.Dark.{dark_of, lit_of}

@@ -1,12 +1,9 @@
 -- `first_lit` meets its contract. The invariant: the dark channels from here on end where those from the start do. The measure is what is left.
-use mathlib.Core.Path.{◌≡◌, refl}
+use mathlib.Core.Path.{◌≡◌}
 use lib.ListN.{length, drop}
 use Prim.Native.Nat.{◌+◌, ◌-◌, ◌≤◌}
 use Rattle.cells.specs.Scan.{span}
-use Rattle.cells.proofs.Scan.{scan_turn, scan_stop, scan_end}
 use Rattle.save_chans.specs.Chan.{is_dark}
-use Rattle.save_chans.proofs.Dark.{dark_of, lit_of}
-use Rattle.std.proofs.Common.{rules}
 use Rattle.save_chans.proofs.first_lit.Given as goal
 
 abbrev pub invariant-loop-i : goal.invariant-loop-i

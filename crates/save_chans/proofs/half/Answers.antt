@@ -1,7 +1,6 @@
 -- `half` meets its contract: the law of four levels.
 use native.Mathlib.Omega.{arith}
 use Rattle.save_chans.proofs.Dark.{weighed_four}
-use Rattle.std.proofs.Common.{rules}
 use Rattle.save_chans.proofs.half.Goals as goal
 
 pub returns : goal.returns

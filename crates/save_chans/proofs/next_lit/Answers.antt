@@ -1,10 +1,6 @@
 -- `next_lit` meets its contract. The invariant: the dark channels from here on end where those from the start do. The measure is what is left.
-use mathlib.Core.Path.{◌≡◌, refl, ◌∙◌}
+use mathlib.Core.Path.{refl, ◌∙◌}
 use native.Mathlib.Omega.{arith}
-use lib.ListN.{length, drop}
-use Prim.Native.Nat.{◌+◌, ◌-◌, ◌≤◌}
-use Rattle.cells.specs.Scan.{span}
-use Rattle.save_chans.specs.Chan.{is_dark}
 use Rattle.save_chans.proofs.Dark.{eight_turn, eight_stop}
 use Rattle.std.proofs.Common.{rules}
 use Rattle.save_chans.proofs.next_lit.Goals as goal

@@ -1,7 +1,6 @@
 -- `octet` meets its contract: a level is a byte.
 use mathlib.Core.Path.{refl}
 use native.Mathlib.Omega.{arith}
-use Rattle.std.proofs.Common.{rules}
 use Rattle.save_chans.proofs.octet.Goals as goal
 
 pub overflow_cast-result : goal.overflow_cast-result

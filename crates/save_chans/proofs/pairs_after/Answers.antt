@@ -1,6 +1,5 @@
 -- `pairs_after` meets its contract, case by case.
 use Rattle.save_chans.proofs.Channels.{with_full, with_more}
-use Rattle.std.proofs.Common.{rules}
 use Rattle.save_chans.proofs.pairs_after.Goals as goal
 
 pub returns-then-pairs-eq-MOST_PAIRS : goal.returns-then-pairs-eq-MOST_PAIRS

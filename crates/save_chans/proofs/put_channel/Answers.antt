@@ -3,7 +3,6 @@ use Rattle.text_room.proofs.Writes.{wrote_as}
 use mathlib.Core.Path.{sym}
 use Rattle.save_chans.proofs.Channels.{lit_level, channel_some}
 use Rattle.text_room.proofs.Chain.{room_is, first_room, then_room, both}
-use Rattle.std.proofs.Common.{rules}
 use Rattle.save_chans.proofs.put_channel.Goals as goal
 
 pub put_lead-pair-requires : goal.put_lead-pair-requires

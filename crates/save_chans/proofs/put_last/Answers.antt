@@ -3,7 +3,6 @@ use Rattle.text_room.proofs.Writes.{wrote_as}
 use mathlib.Core.Path.{sym}
 use Rattle.save_chans.proofs.Channels.{end_none, end_some}
 use Rattle.text_room.proofs.Chain.{room_is, wrote_nothing}
-use Rattle.std.proofs.Common.{rules}
 use Rattle.save_chans.proofs.put_last.Goals as goal
 
 pub returns-then-pairs-eq0 : goal.returns-then-pairs-eq0

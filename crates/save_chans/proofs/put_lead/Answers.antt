@@ -3,7 +3,6 @@ use Rattle.text_room.proofs.Writes.{wrote_as}
 use mathlib.Core.Path.{sym}
 use Rattle.save_chans.proofs.Channels.{lead_first, lead_full, lead_within}
 use Rattle.text_room.proofs.Chain.{room_is, wrote_nothing}
-use Rattle.std.proofs.Common.{rules}
 use Rattle.save_chans.proofs.put_lead.Goals as goal
 
 pub put_text-requires : goal.put_text-requires

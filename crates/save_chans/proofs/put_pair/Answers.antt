@@ -3,7 +3,6 @@ use Rattle.text_room.proofs.Writes.{wrote_as}
 use mathlib.Core.Path.{sym}
 use Rattle.save_chans.proofs.Channels.{pair_parts}
 use Rattle.text_room.proofs.Chain.{room_is, first_room, then_room, both}
-use Rattle.std.proofs.Common.{rules}
 use Rattle.save_chans.proofs.put_pair.Goals as goal
 
 pub put_marked-mark-requires : goal.put_marked-mark-requires

@@ -1,6 +1,5 @@
 -- `word` meets its contract: the law of eight levels.
 use Rattle.save_chans.proofs.Dark.{weighed_eight}
-use Rattle.std.proofs.Common.{rules}
 use Rattle.save_chans.proofs.word.Goals as goal
 
 pub returns : goal.returns

@@ -2,7 +2,6 @@
 use native.Mathlib.Omega.{arith}
 use Rattle.value_written.proofs.Texts.{time_long}
 use Rattle.save_lines.proofs.Lengths.{delay-length_none, delay-length_some}
-use Rattle.std.proofs.Common.{rules}
 use Rattle.save_lines.proofs.delay_length.Goals as goal
 
 pub overflow_add-result : goal.overflow_add-result

@@ -2,7 +2,6 @@
 use native.Mathlib.Omega.{arith}
 use Rattle.cells.specs.Text.{bytes}
 use Rattle.save_lines.proofs.Lengths.{time_line_long, link_long, head_length_is}
-use Rattle.std.proofs.Common.{rules}
 use Rattle.save_lines.proofs.head_length.Goals as goal
 
 pub overflow_add-result : goal.overflow_add-result

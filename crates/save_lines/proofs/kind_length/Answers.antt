@@ -2,7 +2,6 @@
 use mathlib.Core.Path.{ap, sym}
 use Rattle.save_lines.specs.Line.{kind_text}
 use lib.ListN.{length}
-use Rattle.std.proofs.Common.{rules}
 use Rattle.save_lines.proofs.kind_length.Goals as goal
 
 pub returns-in-Cue : goal.returns-in-Cue

@@ -1,7 +1,6 @@
 -- `link_length` meets its contract: nothing where there is no link, else the parts' lengths.
 use native.Mathlib.Omega.{arith}
 use Rattle.save_lines.proofs.Lengths.{link-length_none, link-length_some, number_long}
-use Rattle.std.proofs.Common.{rules}
 use Rattle.save_lines.proofs.link_length.Goals as goal
 
 pub returns-then-h-eq0 : goal.returns-then-h-eq0

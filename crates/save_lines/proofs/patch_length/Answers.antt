@@ -2,7 +2,6 @@
 use native.Mathlib.Omega.{arith}
 use Rattle.value_written.proofs.Texts.{integer_ten}
 use Rattle.save_lines.proofs.Lengths.{patch_length_none, patch_length_some}
-use Rattle.std.proofs.Common.{rules}
 use Rattle.save_lines.proofs.patch_length.Goals as goal
 
 pub returns-then-p-eq0 : goal.returns-then-p-eq0

@@ -2,7 +2,6 @@
 use native.Mathlib.Omega.{arith}
 use Rattle.value_written.proofs.Texts.{integer_ten}
 use Rattle.save_lines.proofs.Lengths.{kind_long, number_long, primary_length_is}
-use Rattle.std.proofs.Common.{rules}
 use Rattle.save_lines.proofs.primary_length.Goals as goal
 
 pub overflow_add-result : goal.overflow_add-result

@@ -1,5 +1,4 @@
 -- `put_end` meets its contract: CR and LF are the text.
-use Rattle.std.proofs.Common.{rules}
 use Rattle.save_lines.proofs.put_end.Goals as goal
 
 pub put_text-requires : goal.put_text-requires

@@ -3,7 +3,6 @@ use Rattle.text_room.proofs.Writes.{wrote_as}
 use mathlib.Core.Path.{ap, sym}
 use Rattle.save_lines.specs.Line.{kind_text}
 use Rattle.text_room.proofs.Chain.{room_is}
-use Rattle.std.proofs.Common.{rules}
 use Rattle.save_lines.proofs.put_kind.Goals as goal
 
 pub put_text-requires : goal.put_text-requires

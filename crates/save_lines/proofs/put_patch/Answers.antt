@@ -4,7 +4,6 @@ use mathlib.Core.Path.{sym}
 use Rattle.text_room.proofs.Chain.{wrote_nothing}
 use Rattle.save_lines.proofs.Parts.{patch_none, patch_some}
 use Rattle.text_room.proofs.Chain.{room_is, first_room, then_room, both}
-use Rattle.std.proofs.Common.{rules}
 use Rattle.save_lines.proofs.put_patch.Goals as goal
 
 pub returns-then-p-eq0 : goal.returns-then-p-eq0

@@ -3,7 +3,6 @@ use Rattle.text_room.proofs.Writes.{wrote_as}
 use mathlib.Core.Path.{sym}
 use Rattle.save_lines.proofs.Parts.{patch_parts}
 use Rattle.text_room.proofs.Chain.{room_is, first_room, then_room, both}
-use Rattle.std.proofs.Common.{rules}
 use Rattle.save_lines.proofs.put_patch_text.Goals as goal
 
 pub put_marked-channel-requires : goal.put_marked-channel-requires

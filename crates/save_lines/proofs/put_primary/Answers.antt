@@ -4,7 +4,6 @@ use Rattle.text_room.proofs.Writes.{wrote_as}
 use mathlib.Core.Path.{sym}
 use Rattle.save_lines.proofs.Parts.{primary_parts}
 use Rattle.text_room.proofs.Chain.{room_is, first_room, then_room, both}
-use Rattle.std.proofs.Common.{rules}
 use Rattle.save_lines.proofs.put_primary.Goals as goal
 
 pub put_kind-digits-requires : goal.put_kind-digits-requires

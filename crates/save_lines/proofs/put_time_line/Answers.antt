@@ -5,7 +5,6 @@ use mathlib.Core.Path.{sym}
 use Rattle.text_room.proofs.Chain.{wrote_nothing}
 use Rattle.save_lines.proofs.Parts.{time_none, time_some}
 use Rattle.text_room.proofs.Chain.{room_is, first_room, then_room, both}
-use Rattle.std.proofs.Common.{rules}
 use Rattle.save_lines.proofs.put_time_line.Goals as goal
 
 pub returns-then-present-eq0 : goal.returns-then-present-eq0

@@ -2,7 +2,6 @@
 use native.Mathlib.Omega.{arith}
 use Rattle.value_written.proofs.Texts.{time_long}
 use Rattle.save_lines.proofs.Lengths.{time_length_none, time_length_some, delay_long}
-use Rattle.std.proofs.Common.{rules}
 use Rattle.save_lines.proofs.time_line_length.Goals as goal
 
 pub returns-then-present-eq0 : goal.returns-then-present-eq0

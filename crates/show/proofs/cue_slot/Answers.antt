@@ -1,7 +1,6 @@
 -- `cue_slot` meets its contract: a name that the desk can't have is kept in no store in good form.
 use Rattle.store_desk.proofs.Name.{ok_fits}
 use Rattle.show.proofs.Laws.{unnamed}
-use Rattle.std.proofs.Common.{rules}
 use mathlib.Core.Path.{sym, ◌∙◌}
 use Rattle.show.proofs.cue_slot.Goals as goal
 

@@ -3,7 +3,6 @@ use mathlib.Core.Path.{sym, ◌∙◌}
 use Rattle.show.proofs.Laws.{lent_fits, empty_by_lem, empty_done}
 use Rattle.show.specs.declared.Admission.TheVariants.{Away}
 use Rattle.show.specs.Calls.{empty_by}
-use Rattle.std.proofs.Common.{rules}
 use Rattle.show.proofs.empty.Goals as goal
 
 pub empty-requires : goal.empty-requires

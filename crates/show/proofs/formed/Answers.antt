@@ -3,7 +3,6 @@ use native.Mathlib.Omega.{arith}
 use Rattle.show.proofs.Laws.{formed, form_inside}
 use Rattle.show.specs.Calls.{form_admission}
 use Rattle.store.specs.declared.StoreForm.TheVariants.{Good, BadSlot, Repeated, BadEntry}
-use Rattle.std.proofs.Common.{rules}
 use Rattle.show.proofs.formed.Goals as goal
 
 pub overflow_add-result : goal.overflow_add-result

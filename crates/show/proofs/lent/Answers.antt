@@ -2,7 +2,6 @@
 use mathlib.Core.Path.{ap}
 use mathlib.Core.Bool.{not}
 use Rattle.show.proofs.Laws.{away_range, ranged, away_short, fitting, fits_lent}
-use Rattle.std.proofs.Common.{rules}
 use Rattle.show.proofs.lent.Goals as goal
 
 pub returns-then-not-in_range : goal.returns-then-not-in_range

@@ -2,7 +2,6 @@
 use Rattle.show.proofs.Laws.{looked_at, look_none, looked}
 use Rattle.show.specs.Calls.{not_kept_word}
 use Rattle.store_code.proofs.Found.{find_inside, place_at, place_nowhere}
-use Rattle.std.proofs.Common.{rules}
 use mathlib.Core.Path.{refl}
 use native.Mathlib.Omega.{arith}
 use Rattle.show.proofs.levels_of.Goals as goal

@@ -1,7 +1,6 @@
 -- `levels_place` meets its contract: the levels of the slot that is found stand behind its head.
 use Rattle.store_code.proofs.Found.{find_inside, place_at, place_nowhere}
 use Rattle.show.proofs.Laws.{placed_at_lem, placed_none}
-use Rattle.std.proofs.Common.{rules}
 use Rattle.show.proofs.levels_place.Goals as goal
 
 pub levels_start-requires : goal.levels_start-requires

@@ -2,7 +2,6 @@
 use Rattle.show.proofs.Laws.{taken, load_long, load_by_lem, load_done_lem}
 use Rattle.show.specs.Calls.{load_by}
 use Rattle.show.specs.declared.Admission.TheVariants.{Away}
-use Rattle.std.proofs.Common.{rules}
 use mathlib.Core.Path.{sym, ◌∙◌}
 use Rattle.show.proofs.load.Goals as goal
 

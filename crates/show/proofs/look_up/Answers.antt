@@ -3,7 +3,6 @@ use Rattle.show.proofs.Laws.{taken, look_by_lem, looked, looked_as}
 use Rattle.show.proofs.Refusals.{away_most}
 use Rattle.show.specs.Calls.{look_by}
 use Rattle.show.specs.declared.Admission.TheVariants.{Admitted, Away}
-use Rattle.std.proofs.Common.{rules}
 use mathlib.Core.Path.{refl, sym, ◌∙◌}
 use native.Mathlib.Omega.{arith}
 use Rattle.show.proofs.look_up.Goals as goal

@@ -1,6 +1,5 @@
 -- `put` meets its contract: the length that is found is the stream's, so that R5, R6 and the written stream are the cases of `put_call`.
 use Rattle.show.proofs.Laws.{put_long, put_short, put_done}
-use Rattle.std.proofs.Common.{rules}
 use Rattle.show.proofs.put.Goals as goal
 
 pub returns-then-n-gt-MOST_BYTES : goal.returns-then-n-gt-MOST_BYTES

@@ -2,7 +2,6 @@
 use Rattle.show.proofs.Laws.{translate_taken, translate_long, translate_by, translate_done}
 use Rattle.show.specs.Calls.{load_by}
 use Rattle.show.specs.declared.Admission.TheVariants.{Away}
-use Rattle.std.proofs.Common.{rules}
 use mathlib.Core.Path.{sym, ◌∙◌}
 use Rattle.show.proofs.translate.Goals as goal
 

@@ -1,7 +1,6 @@
 -- `turned_away` meets its contract: what turns away any store comes first, and then the store's form decides.
 use mathlib.Core.Path.{sym, ◌∙◌}
 use Rattle.show.proofs.Laws.{lent_fits, lent_away, lent_formed}
-use Rattle.std.proofs.Common.{rules}
 use Rattle.show.proofs.turned_away.Goals as goal
 
 pub formed-requires : goal.formed-requires

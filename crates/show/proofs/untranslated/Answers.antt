@@ -1,7 +1,6 @@
 -- `untranslated` meets its contract: as any call on a store is turned away, and then by the desk's groups and submasters.
 use Rattle.show.proofs.Laws.{seven_away, seven_groups, seven_subs, seven_none}
 use mathlib.Core.Path.{sym, ◌∙◌}
-use Rattle.std.proofs.Common.{rules}
 use Rattle.show.proofs.untranslated.Goals as goal
 
 pub returns-then-desk-eq0 : goal.returns-then-desk-eq0

@@ -2,7 +2,6 @@
 use Rattle.show.proofs.Laws.{taken, write_by_lem}
 use Rattle.show.specs.Calls.{write_by}
 use Rattle.show.specs.declared.Admission.TheVariants.{Admitted, Away}
-use Rattle.std.proofs.Common.{rules}
 use mathlib.Core.Path.{sym, ◌∙◌}
 use Rattle.show.proofs.write.Goals as goal
 

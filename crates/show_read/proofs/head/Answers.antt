@@ -4,7 +4,6 @@ use Rattle.show_read.proofs.Laws.{head_by_lem}
 use Rattle.show_read.specs.Calls.{head_by}
 use Rattle.show.proofs.Laws.{lent_fits}
 use Rattle.show.specs.declared.Admission.TheVariants.{Admitted, Away}
-use Rattle.std.proofs.Common.{rules}
 use Rattle.show_read.proofs.head.Goals as goal
 
 pub head_at-requires : goal.head_at-requires

@@ -1,7 +1,6 @@
 -- `head_at` meets its contract: the slot that is named is one of the desk's, and its head is decoded.
 use Rattle.show_read.proofs.Laws.{named_inside, head_at_lem, head_none}
 use Rattle.store_code.proofs.Found.{place_at, place_nowhere}
-use Rattle.std.proofs.Common.{rules}
 use Rattle.show_read.proofs.head_at.Goals as goal
 
 pub head_of-requires : goal.head_of-requires

@@ -4,7 +4,6 @@ use Rattle.show_read.proofs.Laws.{levels_by_lem}
 use Rattle.show_read.specs.Calls.{levels_by}
 use Rattle.show.proofs.Laws.{lent_fits}
 use Rattle.show.specs.declared.Admission.TheVariants.{Admitted, Away}
-use Rattle.std.proofs.Common.{rules}
 use Rattle.show_read.proofs.levels.Goals as goal
 
 pub levels_at-requires : goal.levels_at-requires

@@ -2,7 +2,6 @@
 use Rattle.show_read.proofs.Laws.{named_inside}
 use Rattle.show.proofs.Laws.{placed_at_lem, placed_none}
 use Rattle.store_code.proofs.Found.{place_at, place_nowhere}
-use Rattle.std.proofs.Common.{rules}
 use Rattle.show_read.proofs.levels_at.Goals as goal
 
 pub levels_start-requires : goal.levels_start-requires

@@ -1,6 +1,5 @@
 -- `list` meets its contract: the kind that the number names is listed.
 use Rattle.show_read.proofs.Laws.{list_cues, list_groups, list_subs, list_none}
-use Rattle.std.proofs.Common.{rules}
 use Rattle.show_read.proofs.list.Goals as goal
 
 pub returns-then-kind-eq-CUES : goal.returns-then-kind-eq-CUES

@@ -4,7 +4,6 @@ use Rattle.show_read.proofs.Laws.{memories_by_lem}
 use Rattle.show_read.specs.Calls.{memories_by}
 use Rattle.show.proofs.Laws.{let_in}
 use Rattle.show.specs.declared.Admission.TheVariants.{Admitted, Away}
-use Rattle.std.proofs.Common.{rules}
 use Rattle.show_read.proofs.memories.Goals as goal
 
 pub list-requires : goal.list-requires

@@ -4,7 +4,6 @@ use Rattle.show_read.proofs.Laws.{patch_by_lem}
 use Rattle.show_read.specs.Calls.{patch_by}
 use Rattle.show.proofs.Laws.{lent_fits}
 use Rattle.show.specs.declared.Admission.TheVariants.{Admitted, Away}
-use Rattle.std.proofs.Common.{rules}
 use Rattle.show_read.proofs.patch.Goals as goal
 
 pub patch_at-requires : goal.patch_at-requires

@@ -1,6 +1,5 @@
 -- `patch_at` meets its contract: a dimmer that the desk has has an entry.
 use Rattle.show_read.proofs.Laws.{on_patch, patch_at, patch_none}
-use Rattle.std.proofs.Common.{rules}
 use Rattle.show_read.proofs.patch_at.Goals as goal
 
 pub patch_of-requires : goal.patch_of-requires

@@ -1,7 +1,6 @@
 -- `slot_of` meets its contract: slots count from 1.
 use native.Mathlib.Omega.{arith}
 use Rattle.show_read.proofs.Laws.{named_at, named_none, named_some}
-use Rattle.std.proofs.Common.{rules}
 use Rattle.show_read.proofs.slot_of.Goals as goal
 
 pub overflow_sub-result : goal.overflow_sub-result

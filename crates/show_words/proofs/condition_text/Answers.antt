@@ -2,7 +2,6 @@
 use mathlib.Core.Path.{refl}
 use Rattle.show_words.proofs.Laws.{row_text, past_errors}
 use Rattle.show_words.specs.Words.{text_in, condition_rows, condition_text}
-use Rattle.std.proofs.Common.{rules}
 use Rattle.show_words.proofs.condition_text.Goals as goal
 
 pub returns-then-condition-eq0 : goal.returns-then-condition-eq0

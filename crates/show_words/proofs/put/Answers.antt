@@ -1,7 +1,6 @@
 -- `put` meets its contract: R6 or the text, as of a stream that is not too long.
 use mathlib.Core.Path.{refl}
 use Rattle.show.proofs.Laws.{put_short, put_done}
-use Rattle.std.proofs.Common.{rules}
 use Rattle.show_words.proofs.put.Goals as goal
 
 pub returns-then-out-text : goal.returns-then-out-text

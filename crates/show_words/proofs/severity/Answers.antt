@@ -1,6 +1,5 @@
 -- `severity` meets its contract: the tests are the range of the errors.
 use Rattle.show_words.proofs.Laws.{information, low_warning, high_warning, error}
-use Rattle.std.proofs.Common.{rules}
 use Rattle.show_words.proofs.severity.Goals as goal
 
 pub returns-then-condition-eq0 : goal.returns-then-condition-eq0

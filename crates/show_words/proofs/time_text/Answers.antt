@@ -2,7 +2,6 @@
 use native.Mathlib.Omega.{arith}
 use Rattle.show_words.proofs.Laws.{time_small}
 use Rattle.show.proofs.Laws.{put_short, put_done}
-use Rattle.std.proofs.Common.{rules}
 use Rattle.show_words.proofs.time_text.Goals as goal
 
 pub returns-then-out-n : goal.returns-then-out-n

@@ -2,7 +2,6 @@
 use mathlib.Core.Path.{refl}
 use Rattle.show_words.proofs.Laws.{row_text, no_text}
 use Rattle.show_words.specs.Words.{text_in, warning_rows}
-use Rattle.std.proofs.Common.{rules}
 use Rattle.show_words.proofs.warning_text.Goals as goal
 
 pub returns-then-condition-eq151 : goal.returns-then-condition-eq151

@@ -11,7 +11,6 @@ use Rattle.store_code.specs.Answer.{is_word}
 use Rattle.store_code.proofs.Laws.{slot_before}
 use Rattle.store_code.proofs.Found.{at_place, nowhere_place}
 use Rattle.store_code.proofs.Word.{word_hit, word_miss}
-use Rattle.std.proofs.Common.{rules}
 use Rattle.store_code.proofs.among_four.Goals as goal
 
 -- what the search of n slots from k on finds

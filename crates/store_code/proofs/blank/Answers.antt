@@ -4,7 +4,6 @@ use mathlib.Core.Path.{sym, subst}
 use Rattle.store_code.proofs.Laws.{slot_long, slot_ends, lent_length, slot_back, blank_is}
 use Rattle.store.proofs.Start.{blank_fits, blank_length}
 use Rattle.store_head.specs.Fits.{HeadFits}
-use Rattle.std.proofs.Common.{rules}
 use Rattle.store_code.proofs.blank.Goals as goal
 
 pub slice_bounds-write_afresh-end : goal.slice_bounds-write_afresh-end

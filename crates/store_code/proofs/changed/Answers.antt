@@ -2,7 +2,6 @@
 use mathlib.Core.Path.{refl}
 use Rattle.cells.specs.Put.{put}
 use Rattle.store.specs.Change.{edit_head}
-use Rattle.std.proofs.Common.{rules}
 use Rattle.store_code.proofs.changed.Goals as goal
 
 pub returns-in-Up : goal.returns-in-Up

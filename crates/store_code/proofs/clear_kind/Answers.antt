@@ -1,11 +1,7 @@
 -- `clear_kind` meets its contract. The loop's invariant: clearing what is left from here on is the whole clearing. The measure is what is left.
 use native.Mathlib.Omega.{arith}
-use mathlib.Core.Path.{◌≡◌, refl, ◌∙◌}
-use Prim.Native.Nat.{◌-◌}
-use lib.ListN.{length}
+use mathlib.Core.Path.{refl, ◌∙◌}
 use Rattle.store_code.proofs.Laws.{kind_small, kind_slot, clear_turn, clear_done, clear_all}
-use Rattle.store.specs.Change.{clear_from}
-use Rattle.std.proofs.Common.{rules}
 use Rattle.store_code.proofs.clear_kind.Goals as goal
 
 pub overflow_add-end : goal.overflow_add-end

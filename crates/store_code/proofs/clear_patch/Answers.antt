@@ -2,7 +2,6 @@
 use native.Mathlib.Omega.{arith}
 use Rattle.store_desk.proofs.Size.{entries_le}
 use Rattle.store_code.proofs.Laws.{patch_room, patch_cleared, page_room, page_small, page_cleared}
-use Rattle.std.proofs.Common.{rules}
 use Rattle.store_code.proofs.clear_patch.Goals as goal
 
 pub overflow_mul-entries : goal.overflow_mul-entries

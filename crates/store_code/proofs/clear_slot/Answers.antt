@@ -1,7 +1,6 @@
 -- `clear_slot` meets its contract, by the test.
 use mathlib.Core.Path.{sym, ◌∙◌}
 use Rattle.cells.proofs.Split.{cond-true, cond-false}
-use Rattle.std.proofs.Common.{rules}
 use Rattle.store_code.proofs.clear_slot.Goals as goal
 
 pub returns-then-hits : goal.returns-then-hits

@@ -1,7 +1,6 @@
 -- `edit` meets its contract: the lent part is the slot, it comes back changed and as long as it was.
 use native.Mathlib.Omega.{arith}
 use Rattle.store_code.proofs.Laws.{slot_ends, lent_length, edit_back}
-use Rattle.std.proofs.Common.{rules}
 use Rattle.store_code.proofs.edit.Goals as goal
 
 pub slice_bounds-edit_slot-end : goal.slice_bounds-edit_slot-end

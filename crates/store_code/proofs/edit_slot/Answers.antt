@@ -3,7 +3,6 @@ use mathlib.Core.Path.{refl, subst}
 use Rattle.store_code.proofs.Laws.{change_fits, edit_by, edit_level}
 use Rattle.store_code.specs.Fits.{OnDesk}
 use Rattle.store.specs.Change.{edit_slot}
-use Rattle.std.proofs.Common.{rules}
 use Rattle.store_code.proofs.edit_slot.Goals as goal
 
 pub change_head-requires : goal.change_head-requires

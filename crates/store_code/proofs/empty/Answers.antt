@@ -1,6 +1,5 @@
 -- `empty` meets its contract: zeros from the start, as many as the store needs.
 use Rattle.store.specs.Change.{emptied}
-use Rattle.std.proofs.Common.{rules}
 use Rattle.store_code.proofs.empty.Goals as goal
 
 pub returns : goal.returns

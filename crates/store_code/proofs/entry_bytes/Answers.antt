@@ -1,7 +1,6 @@
 -- `entry_bytes` meets its contract: the entry lies within the store, and the part is the entry.
 use native.Mathlib.Omega.{arith}
 use Rattle.store_code.proofs.Laws.{entry_small, entry_room, entry_is}
-use Rattle.std.proofs.Common.{rules}
 use Rattle.store_code.proofs.entry_bytes.Goals as goal
 
 pub overflow_add-end : goal.overflow_add-end

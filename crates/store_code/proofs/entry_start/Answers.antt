@@ -1,7 +1,6 @@
 -- `entry_start` meets its contract: the entry ends among the bytes that the store needs, so the sum fits.
 use native.Mathlib.Omega.{arith}
 use Rattle.store_code.proofs.Laws.{entry_small}
-use Rattle.std.proofs.Common.{rules}
 use Rattle.store_code.proofs.entry_start.Goals as goal
 
 pub overflow_mul-result : goal.overflow_mul-result

@@ -16,12 +16,11 @@ use Rattle.store.proofs.Places.{slots_end_lem}
 use Rattle.store_code.proofs.Laws.{kind_small, kind_slot, kind_from, slot_room}
 use Rattle.store_code.proofs.Found.{at_place, nowhere_place}
 use Rattle.store_code.proofs.Word.{word_hit, word_miss, four_hit, four_miss, find_words, part_room}
-use Rattle.std.proofs.Common.{rules}
 use Rattle.store_code.proofs.find.Goals as goal
 
 -- low is the kind's first slot, low + count the end of its slots, low * len where they begin, and the part is what lies from there on
 module _ (d : Desk) (s : List ℕ) (kind : Kind) {low count len : ℕ}
-  (first : low ≡ first_slot d kind) (many : count ≡ slot_count d kind) (long : len ≡ slot_length d) (g : Fitting d s) where
+    (first : low ≡ first_slot d kind) (many : count ≡ slot_count d kind) (long : len ≡ slot_length d) (g : Fitting d s) where
   -- the slots of the kind begin in the store
   fits : low * len ≤ length s
   fits =

@@ -1,7 +1,6 @@
 -- `has_link` meets its contract, kind by kind.
 use Rattle.store.specs.Form.{has_link}
 use mathlib.Core.Path.{refl}
-use Rattle.std.proofs.Common.{rules}
 use Rattle.store_code.proofs.has_link.Goals as goal
 
 pub returns-in-Cue : goal.returns-in-Cue

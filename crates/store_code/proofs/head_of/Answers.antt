@@ -3,7 +3,6 @@ use mathlib.Core.Path.{◌∙◌, ap}
 use Rattle.store_code.proofs.Laws.{slot_head}
 use Rattle.store_head.specs.Layout.{decode_head}
 use Rattle.store.specs.Slots.{head_at}
-use Rattle.std.proofs.Common.{rules}
 use Rattle.store_code.proofs.head_of.Goals as goal
 
 pub decode-requires : goal.decode-requires

@@ -2,7 +2,6 @@
 use Rattle.store_head.proofs.Laws.{word_sum}
 use Rattle.store_code.proofs.Word.{hits_every, hits_below, hits_above}
 use native.Mathlib.Omega.{arith}
-use Rattle.std.proofs.Common.{rules}
 use Rattle.store_code.proofs.hits.Goals as goal
 
 pub returns-then-page-eq0 : goal.returns-then-page-eq0

@@ -1,7 +1,6 @@
 -- `levels_start` meets its contract: the slot lies among the slots' bytes, so the sum fits.
 use native.Mathlib.Omega.{arith}
 use Rattle.store_code.proofs.Laws.{slot_small, slot_long}
-use Rattle.std.proofs.Common.{rules}
 use Rattle.store_code.proofs.levels_start.Goals as goal
 
 pub overflow_add-result : goal.overflow_add-result

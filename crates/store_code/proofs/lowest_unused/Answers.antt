@@ -1,15 +1,11 @@
 -- `lowest_unused` meets its contract. The loop's invariant: the search from here on answers as the whole search. The measure is what is left.
 -- Below the least number of a used slot are the unused.
 use native.Mathlib.Omega.{arith}
-use mathlib.Core.Path.{◌≡◌, refl, ◌∙◌}
-use Prim.Native.Nat.{◌-◌}
-use Rattle.cells.specs.Search.{first_from}
+use mathlib.Core.Path.{refl, ◌∙◌}
 use Rattle.cells.proofs.Search.{search_end}
-use Rattle.store_head.specs.Fits.{used_word}
 use Rattle.store_code.proofs.Laws.{kind_small, kind_slot}
 use Rattle.store_code.proofs.Found.{at_place, nowhere_place}
-use Rattle.store_code.proofs.Word.{is_below, below_hit, below_miss, unused_words}
-use Rattle.std.proofs.Common.{rules}
+use Rattle.store_code.proofs.Word.{below_hit, below_miss, unused_words}
 use Rattle.store_code.proofs.lowest_unused.Goals as goal
 
 pub overflow_add-end : goal.overflow_add-end

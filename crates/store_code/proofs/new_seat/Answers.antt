@@ -1,7 +1,6 @@
 -- `new_seat` meets its contract, kind by kind.
 use mathlib.Core.Logic.{inl, inr}
 use Rattle.store_code.proofs.Found.{sub_range, new_lowest, new_sub}
-use Rattle.std.proofs.Common.{rules}
 use Rattle.store_code.proofs.new_seat.Goals as goal
 
 pub sub_slot-requires : goal.sub_slot-requires

@@ -1,7 +1,6 @@
 -- `patch_dimmer` meets its contract: the entry's bytes are put where the entry lies.
 use native.Mathlib.Omega.{arith}
 use Rattle.store_code.proofs.Laws.{entry_small, entry_room, entry_there, patch_back}
-use Rattle.std.proofs.Common.{rules}
 use Rattle.store_code.proofs.patch_dimmer.Goals as goal
 
 pub entry_start-at-requires : goal.entry_start-at-requires

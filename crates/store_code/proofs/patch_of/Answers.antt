@@ -1,6 +1,5 @@
 -- `patch_of` meets its contract: decoding the entry is the definition.
 use Rattle.store_code.proofs.Laws.{entry_there, entry_whole, patched_is}
-use Rattle.std.proofs.Common.{rules}
 use Rattle.store_code.proofs.patch_of.Goals as goal
 
 pub entry_bytes-requires : goal.entry_bytes-requires

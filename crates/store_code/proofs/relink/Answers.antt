@@ -4,7 +4,6 @@ use Rattle.cells.specs.Put.{put}
 use Rattle.store_head.specs.Layout.{encode_head}
 use Rattle.store_head.specs.Fits.{HeadFits}
 use Rattle.store.specs.Change.{edit_head, with_head}
-use Rattle.std.proofs.Common.{rules}
 use Rattle.store_code.proofs.relink.Goals as goal
 
 pub encode-bytes-requires : goal.encode-bytes-requires

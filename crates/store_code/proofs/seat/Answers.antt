@@ -1,7 +1,6 @@
 -- `seat` meets its contract: where the memory is found, else a new seat.
 use Rattle.store_desk.proofs.Name.{ok_fits}
 use Rattle.store_code.proofs.Found.{seat_kept, seat_new}
-use Rattle.std.proofs.Common.{rules}
 use Rattle.store_code.proofs.seat.Goals as goal
 
 pub find-kept-requires : goal.find-kept-requires

@@ -2,7 +2,6 @@
 use mathlib.Core.Path.{refl}
 use Rattle.store_code.proofs.Laws.{level_room, level_small, level_set}
 use native.Mathlib.Omega.{arith}
-use Rattle.std.proofs.Common.{rules}
 use Rattle.store_code.proofs.set_level.Goals as goal
 
 pub overflow_mul-at : goal.overflow_mul-at

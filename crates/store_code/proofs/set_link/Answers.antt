@@ -1,7 +1,6 @@
 -- `set_link` meets its contract: the lent part is the slot, it comes back changed and as long as it was.
 use native.Mathlib.Omega.{arith}
 use Rattle.store_code.proofs.Laws.{slot_ends, lent_length, change_fits, edit_link, edit_back}
-use Rattle.std.proofs.Common.{rules}
 use Rattle.store_code.proofs.set_link.Goals as goal
 
 pub slice_bounds-relink-end : goal.slice_bounds-relink-end

@@ -1,6 +1,5 @@
 -- `slot_bytes` meets its contract: the part between a slot's start and end lies in the store and is the slot.
 use Rattle.store_code.proofs.Laws.{slot_ends, slot_is}
-use Rattle.std.proofs.Common.{rules}
 use Rattle.store_code.proofs.slot_bytes.Goals as goal
 
 pub slice_bounds-result-end : goal.slice_bounds-result-end

@@ -1,7 +1,6 @@
 -- `slot_end` meets its contract: the slot ends among the slots' bytes, so the sum fits.
 use native.Mathlib.Omega.{arith}
 use Rattle.store_code.proofs.Laws.{slot_small}
-use Rattle.std.proofs.Common.{rules}
 use Rattle.store_code.proofs.slot_end.Goals as goal
 
 pub overflow_add-result : goal.overflow_add-result

@@ -2,7 +2,6 @@
 use native.Mathlib.Omega.{arith}
 use mathlib.Core.Path.{refl}
 use Rattle.store_code.proofs.Laws.{slot_small}
-use Rattle.std.proofs.Common.{rules}
 use Rattle.store_code.proofs.slot_start.Goals as goal
 
 pub overflow_mul-result : goal.overflow_mul-result

@@ -1,7 +1,6 @@
 -- `start` meets its contract: the seat is one of the desk's slots, and is written afresh; where there is none nothing is written.
 use Rattle.store_desk.proofs.Name.{ok_fits}
 use Rattle.store_code.proofs.Found.{seat_inside, start_at_lem, start_full}
-use Rattle.std.proofs.Common.{rules}
 use Rattle.store_code.proofs.start.Goals as goal
 
 pub blank-requires : goal.blank-requires

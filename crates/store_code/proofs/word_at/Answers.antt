@@ -4,7 +4,6 @@ use mathlib.Core.Path.{◌∙◌, ap}
 use Rattle.store_code.proofs.Laws.{slot_head}
 use Rattle.store_head.specs.Fits.{quick_of}
 use Rattle.store.specs.Order.{slot_word}
-use Rattle.std.proofs.Common.{rules}
 use Rattle.store_code.proofs.word_at.Goals as goal
 
 pub quick-requires : goal.quick-requires

@@ -1,6 +1,5 @@
 -- `write_afresh` meets its contract: the head's bytes are put at the front, and zeros over the rest.
 use Rattle.store_code.proofs.Laws.{afresh}
-use Rattle.std.proofs.Common.{rules}
 use Rattle.store_code.proofs.write_afresh.Goals as goal
 
 pub returns : goal.returns

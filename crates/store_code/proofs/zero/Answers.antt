@@ -1,6 +1,5 @@
 -- `zero` meets its contract: the part is filled.
 use Rattle.store_code.proofs.Laws.{zero_back}
-use Rattle.std.proofs.Common.{rules}
 use Rattle.store_code.proofs.zero.Goals as goal
 
 pub returns : goal.returns

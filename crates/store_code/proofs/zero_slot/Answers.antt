@@ -2,7 +2,6 @@
 use native.Mathlib.Omega.{arith}
 use Rattle.store_code.proofs.Laws.{slot_room}
 use Rattle.store.specs.Slots.{put_slot}
-use Rattle.std.proofs.Common.{rules}
 use Rattle.store_code.proofs.zero_slot.Goals as goal
 
 pub zero-requires : goal.zero-requires

@@ -4,7 +4,6 @@ use Rattle.store_desk.proofs.Name.{entry_inside}
 use Rattle.store_desk.specs.Name.{entry_of}
 use native.Mathlib.Omega.{arith}
 use mathlib.Core.Path.{refl}
-use Rattle.std.proofs.Common.{rules}
 use Rattle.store_desk.proofs.entry_of.Goals as goal
 
 pub overflow_mul-result : goal.overflow_mul-result

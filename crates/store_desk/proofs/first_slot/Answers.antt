@@ -2,7 +2,6 @@
 use Rattle.store_desk.specs.Name.{first_slot}
 use mathlib.Core.Path.{refl}
 use mathlib.Core.Path.{refl}
-use Rattle.std.proofs.Common.{rules}
 use Rattle.store_desk.proofs.first_slot.Goals as goal
 
 pub returns-in-Cue : goal.returns-in-Cue

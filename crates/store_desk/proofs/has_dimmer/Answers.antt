@@ -1,7 +1,6 @@
 -- `has_dimmer` meets its contract: the joined tests are the list of tests.
 use Rattle.store_desk.proofs.Size.{all_join, all_last}
 use Rattle.store_desk.specs.Name.{has_dimmer}
-use Rattle.std.proofs.Common.{rules}
 use Rattle.store_desk.proofs.has_dimmer.Goals as goal
 
 pub returns : goal.returns

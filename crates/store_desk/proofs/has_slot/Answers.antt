@@ -1,6 +1,5 @@
 -- `has_slot` meets its contract: the joined tests are the range of the slots' numbers.
 use Rattle.store_desk.proofs.Name.{slot_tested}
-use Rattle.std.proofs.Common.{rules}
 use Rattle.store_desk.proofs.has_slot.Goals as goal
 
 pub returns : goal.returns

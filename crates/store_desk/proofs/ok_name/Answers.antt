@@ -1,7 +1,6 @@
 -- `ok_name` meets its contract: the joined tests are the list of tests.
 use Rattle.store_desk.proofs.Size.{all_join, all_last}
 use Rattle.store_desk.specs.Name.{ok_name}
-use Rattle.std.proofs.Common.{rules}
 use Rattle.store_desk.proofs.ok_name.Goals as goal
 
 pub returns : goal.returns

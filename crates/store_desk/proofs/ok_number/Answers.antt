@@ -4,7 +4,6 @@ use Rattle.store_desk.proofs.Size.{all_fails}
 use Rattle.store_desk.specs.Name.{ok_number}
 use borrow.Author.Tests.{lt-leb}
 use mathlib.Core.Path.{sym}
-use Rattle.std.proofs.Common.{rules}
 use Rattle.store_desk.proofs.ok_number.Goals as goal
 
 pub returns-then-whole-gt-WHOLE_MAX : goal.returns-then-whole-gt-WHOLE_MAX

@@ -1,6 +1,5 @@
 -- `ok_page` meets its contract.
 use Rattle.store_desk.specs.Name.{ok_page}
-use Rattle.std.proofs.Common.{rules}
 use Rattle.store_desk.proofs.ok_page.Goals as goal
 
 pub returns : goal.returns

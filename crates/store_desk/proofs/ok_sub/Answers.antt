@@ -2,7 +2,6 @@
 use Rattle.store_desk.proofs.Size.{all_join, all_last}
 use Rattle.store_desk.specs.Name.{ok_sub}
 use mathlib.Core.Path.{refl}
-use Rattle.std.proofs.Common.{rules}
 use Rattle.store_desk.proofs.ok_sub.Goals as goal
 
 pub returns : goal.returns

@@ -1,6 +1,5 @@
 -- `ok_within` meets its contract, kind by kind.
 use Rattle.store_desk.specs.Name.{ok_within}
-use Rattle.std.proofs.Common.{rules}
 use Rattle.store_desk.proofs.ok_within.Goals as goal
 
 pub returns-in-Cue : goal.returns-in-Cue

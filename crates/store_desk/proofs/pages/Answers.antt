@@ -1,7 +1,6 @@
 -- `pages` meets its contract, kind by kind.
 use Rattle.store_desk.specs.Name.{pages_of}
 use mathlib.Core.Path.{refl}
-use Rattle.std.proofs.Common.{rules}
 use Rattle.store_desk.proofs.pages.Goals as goal
 
 pub returns-in-Cue : goal.returns-in-Cue

@@ -1,7 +1,6 @@
 -- `slot_count` meets its contract, kind by kind.
 use Rattle.store_desk.specs.Name.{slot_count}
 use mathlib.Core.Path.{refl}
-use Rattle.std.proofs.Common.{rules}
 use Rattle.store_desk.proofs.slot_count.Goals as goal
 
 pub returns-in-Cue : goal.returns-in-Cue

@@ -5,7 +5,6 @@ use Rattle.store_desk.proofs.Name.{sub_inside, kind_end}
 use Rattle.store_desk.specs.Name.{sub_slot}
 use native.Mathlib.Omega.{arith}
 use mathlib.Core.Path.{refl}
-use Rattle.std.proofs.Common.{rules}
 use Rattle.store_desk.proofs.sub_slot.Goals as goal
 
 pub overflow_mul-result : goal.overflow_mul-result

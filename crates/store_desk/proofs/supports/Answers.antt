@@ -1,7 +1,6 @@
 -- `supports` meets its contract.
 use Rattle.store_desk.specs.Name.{supported}
 use mathlib.Core.Path.{refl}
-use Rattle.std.proofs.Common.{rules}
 use Rattle.store_desk.proofs.supports.Goals as goal
 
 pub returns : goal.returns

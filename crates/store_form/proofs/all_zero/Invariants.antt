@@ -1,12 +1,10 @@
 -- `all_zero` meets its contract. The invariant: the bytes are all zero where the bits joined so far are none and the bytes left are all zero.
-use Rattle.store_form.proofs.Laws.{zero_turn, zero_end}
 use Rattle.store.specs.Form.{is_zero}
 use lib.Dec.{eqb}
 use lib.ListN.{length, drop}
 use Prim.Native.Nat.{◌-◌, ◌≤◌}
 use mathlib.Core.Bool.{◌&&◌}
-use mathlib.Core.Path.{◌≡◌, refl}
-use Rattle.std.proofs.Common.{rules}
+use mathlib.Core.Path.{◌≡◌}
 use Rattle.store_form.proofs.all_zero.Given as goal
 
 abbrev pub invariant-loop-i : goal.invariant-loop-i

@@ -1,12 +1,8 @@
 -- `count_word` meets its contract. The invariant: what is counted and what is left to count is the whole.
-use Rattle.store_form.proofs.Keys.{word_hit, word_miss, count_start}
-use mathlib.Core.Logic.{⊎_elim}
 use Rattle.store_form.specs.Keys.{is_key_word, count_word}
-use Rattle.cells.proofs.Search.{count_end}
 use Rattle.cells.specs.Search.{count_from}
 use Prim.Native.Nat.{◌+◌, ◌-◌, ◌≤◌}
 use mathlib.Core.Path.{◌≡◌}
-use Rattle.std.proofs.Common.{rules}
 use Rattle.store_form.proofs.count_word.Given as goal
 
 abbrev pub invariant-loop-i : goal.invariant-loop-i

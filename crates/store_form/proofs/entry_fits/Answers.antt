@@ -1,7 +1,6 @@
 -- `entry_fits` meets its contract: the part is the entry.
 use Rattle.store_code.proofs.Laws.{entry_whole}
 use Rattle.store_form.proofs.Laws.{entry_fits_lem}
-use Rattle.std.proofs.Common.{rules}
 use Rattle.store_form.proofs.entry_fits.Goals as goal
 
 pub decode_patch-requires : goal.decode_patch-requires

@@ -1,14 +1,9 @@
 -- `first_seen` meets its contract. The invariant: the first such slot from here on is the first of all, and no word of the kind so far is above
 -- the top.
 use Rattle.store_form.specs.Keys.{seen_before, Topped}
-use Rattle.store_form.proofs.Keys.{topped_start, topped_turn}
-use Rattle.store_code.proofs.Found.{at_place, nowhere_place}
-use Rattle.store_form.proofs.Laws.{sub_none}
-use Rattle.cells.proofs.Search.{search_hit, search_miss, search_end}
 use Rattle.cells.specs.Search.{first_from}
 use Prim.Native.Nat.{◌-◌, ◌≤◌}
 use mathlib.Core.Path.{◌≡◌}
-use Rattle.std.proofs.Common.{rules}
 use Rattle.store_form.proofs.first_seen.Given as goal
 
 abbrev pub invariant-loop-i : goal.invariant-loop-i

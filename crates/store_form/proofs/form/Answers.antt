@@ -1,7 +1,6 @@
 -- `form` meets its contract: the first search that finds a place tells the form.
 use Rattle.store_code.proofs.Found.{place_at, place_nowhere}
 use Rattle.store_form.proofs.Laws.{bad_first, repeated_first, entry_first, none_first}
-use Rattle.std.proofs.Common.{rules}
 use Rattle.store_form.proofs.form.Goals as goal
 
 pub returns-in-At : goal.returns-in-At

@@ -1,12 +1,6 @@
 -- `key_words` meets its contract. The invariant: the words of the slots so far stand in front, zeros after them.
 use Rattle.store_form.proofs.Keys.{keys_inside, words_none, words_turn, words_end, most_keys_lem}
 use native.Mathlib.Omega.{arith}
-use Rattle.store.specs.Order.{slot_word}
-use Rattle.store_form.specs.Keys.{most_keys}
-use Rattle.cells.specs.Table.{tab}
-use Rattle.cells.specs.Pad.{padded}
-use Prim.Native.Nat.{◌-◌, ◌≤◌}
-use mathlib.Core.Path.{◌≡◌}
 use Rattle.std.proofs.Common.{rules}
 use Rattle.store_form.proofs.key_words.Goals as goal
 

@@ -1,6 +1,5 @@
 -- `kind_at` meets its contract: by the first slots of the kinds.
 use Rattle.store_form.proofs.Laws.{kind_cue, kind_group, kind_sub}
-use Rattle.std.proofs.Common.{rules}
 use Rattle.store_form.proofs.kind_at.Goals as goal
 
 pub returns-then-slot-first_slot : goal.returns-then-slot-first_slot

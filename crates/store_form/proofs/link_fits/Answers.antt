@@ -4,7 +4,6 @@ use Rattle.store.specs.Form.{link_fits}
 use Rattle.cells.proofs.Split.{cond-true, cond-false}
 use borrow.Author.Tests.{eq-eqb, ne_eqb}
 use mathlib.Core.Path.{sym, ap, ◌∙◌}
-use Rattle.std.proofs.Common.{rules}
 use Rattle.store_form.proofs.link_fits.Goals as goal
 
 pub returns-then-h-eq0 : goal.returns-then-h-eq0

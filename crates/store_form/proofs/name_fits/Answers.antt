@@ -1,7 +1,6 @@
 -- `name_fits` meets its contract: the place is looked at where the name can be.
 use Rattle.store_form.proofs.Laws.{and_join, and_stop}
 use mathlib.Core.Path.{sym, ◌∙◌}
-use Rattle.std.proofs.Common.{rules}
 use Rattle.store_form.proofs.name_fits.Goals as goal
 
 pub place_fits-requires : goal.place_fits-requires

@@ -1,6 +1,5 @@
 -- `patch_fits` meets its contract: unpatched, or patched.
 use Rattle.store_form.proofs.Laws.{patch_none, patch_some}
-use Rattle.std.proofs.Common.{rules}
 use Rattle.store_form.proofs.patch_fits.Goals as goal
 
 pub returns-then-p-eq0 : goal.returns-then-p-eq0

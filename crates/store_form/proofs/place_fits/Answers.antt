@@ -4,7 +4,6 @@ use Prim.Native.Nat.{ℕ}
 use Rattle.store.specs.Form.{place_fits}
 use mathlib.Core.Path.{refl, ap}
 use Rattle.store_code.proofs.Found.{sub_range}
-use Rattle.std.proofs.Common.{rules}
 use Rattle.store_form.proofs.place_fits.Goals as goal
 
 pub sub_slot-requires : goal.sub_slot-requires

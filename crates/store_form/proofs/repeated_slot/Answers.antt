@@ -3,7 +3,6 @@ use Rattle.store.specs.Slots.{place_of}
 use mathlib.Core.Path.{refl, ap, ◌∙◌}
 use Rattle.store_form.proofs.Keys.{most_keys_lem, repeated_is}
 use native.Mathlib.Omega.{arith}
-use Rattle.std.proofs.Common.{rules}
 use Rattle.store_form.proofs.repeated_slot.Goals as goal
 
 pub first_seen-requires : goal.first_seen-requires

@@ -1,6 +1,5 @@
 -- `seen_before` meets its contract: the slot is unused, its word is above all those before it, or it is counted among them.
 use Rattle.store_form.proofs.Keys.{seen_unused, seen_above, seen_used}
-use Rattle.std.proofs.Common.{rules}
 use Rattle.store_form.proofs.seen_before.Goals as goal
 
 pub returns-then-word-lt-USED_WORD : goal.returns-then-word-lt-USED_WORD

@@ -1,7 +1,6 @@
 -- `slot_fits` meets its contract: the part is the slot, which is used or not.
 use Rattle.store_code.proofs.Laws.{slot_head}
 use Rattle.store_form.proofs.Laws.{used_fits_lem, unused_fits}
-use Rattle.std.proofs.Common.{rules}
 use Rattle.store_form.proofs.slot_fits.Goals as goal
 
 pub decode-h-requires : goal.decode-h-requires

@@ -2,7 +2,6 @@
 use Rattle.cells.proofs.Split.{cond-true, cond-false}
 use borrow.Author.Tests.{eq-eqb, ne_eqb}
 use mathlib.Core.Path.{sym, ◌∙◌}
-use Rattle.std.proofs.Common.{rules}
 use Rattle.store_form.proofs.time_fits.Goals as goal
 
 pub returns-then-present-eq0 : goal.returns-then-present-eq0

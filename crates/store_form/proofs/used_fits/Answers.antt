@@ -1,6 +1,5 @@
 -- `used_fits` meets its contract: the tests joined are the definition's, at the slot's kind.
 use Rattle.store_form.proofs.Laws.{used_joins}
-use Rattle.std.proofs.Common.{rules}
 use Rattle.store_form.proofs.used_fits.Goals as goal
 
 pub returns : goal.returns

@@ -1,6 +1,5 @@
 -- `values_fit` meets its contract: the tests joined one by one are the definition's.
 use Rattle.store_form.proofs.Laws.{values_join}
-use Rattle.std.proofs.Common.{rules}
 use Rattle.store_form.proofs.values_fit.Goals as goal
 
 pub returns : goal.returns

@@ -3,7 +3,6 @@ use native.Mathlib.Omega.{arith}
 use Prim.Native.Nat.{◌^◌, ◌<◌}
 use Rattle.store_head.proofs.Laws.{words_decode, words_of}
 use mathlib.Core.Path.{sym, ◌∙◌}
-use Rattle.std.proofs.Common.{rules}
 use Rattle.store_head.proofs.decode.Goals as goal
 
 pub returns : goal.returns

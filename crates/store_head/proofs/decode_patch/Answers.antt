@@ -1,6 +1,5 @@
 -- `decode_patch` meets its contract: the fields of the table.
 use Rattle.store_head.proofs.Laws.{patch_fields}
-use Rattle.std.proofs.Common.{rules}
 use Rattle.store_head.proofs.decode_patch.Goals as goal
 
 pub returns : goal.returns

@@ -1,6 +1,5 @@
 -- `encode` meets its contract: the bytes of the three words are the bytes of the table.
 use Rattle.store_head.proofs.Laws.{bytes_encode}
-use Rattle.std.proofs.Common.{rules}
 use Rattle.store_head.proofs.encode.Goals as goal
 
 pub returns : goal.returns

@@ -1,7 +1,6 @@
 -- `encode_patch` meets its contract: the bytes of the packed row.
 use Rattle.store_head.proofs.Laws.{patch_octets}
 use mathlib.Core.Path.{refl}
-use Rattle.std.proofs.Common.{rules}
 use Rattle.store_head.proofs.encode_patch.Goals as goal
 
 pub returns : goal.returns

@@ -1,7 +1,6 @@
 -- `half` meets its contract: the law of four bytes.
 use Rattle.store_head.proofs.Laws.{packed_four}
 use native.Mathlib.Omega.{arith}
-use Rattle.std.proofs.Common.{rules}
 use Rattle.store_head.proofs.half.Goals as goal
 
 pub returns : goal.returns

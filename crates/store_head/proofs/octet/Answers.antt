@@ -1,7 +1,6 @@
 -- `octet` meets its contract: an element of the slice is a byte.
 use native.Mathlib.Omega.{arith}
 use mathlib.Core.Path.{refl}
-use Rattle.std.proofs.Common.{rules}
 use Rattle.store_head.proofs.octet.Goals as goal
 
 pub overflow_cast-result : goal.overflow_cast-result

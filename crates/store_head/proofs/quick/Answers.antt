@@ -1,7 +1,6 @@
 -- `quick` meets its contract.
 use Rattle.store_head.specs.Fits.{quick_of}
 use mathlib.Core.Path.{refl}
-use Rattle.std.proofs.Common.{rules}
 use Rattle.store_head.proofs.quick.Goals as goal
 
 pub returns : goal.returns

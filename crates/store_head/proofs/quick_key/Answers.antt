@@ -2,7 +2,6 @@
 use Rattle.store_head.specs.Fits.{word_of}
 use Rattle.store_head.specs.Pack.{packed, total}
 use native.Mathlib.Omega.{arith}
-use Rattle.std.proofs.Common.{rules}
 use Rattle.store_head.proofs.quick_key.Goals as goal
 
 pub returns : goal.returns

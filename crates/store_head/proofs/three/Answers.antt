@@ -1,7 +1,6 @@
 -- `three` meets its contract: the law of three bytes.
 use Rattle.store_head.proofs.Laws.{packed_three}
 use native.Mathlib.Omega.{arith}
-use Rattle.std.proofs.Common.{rules}
 use Rattle.store_head.proofs.three.Goals as goal
 
 pub returns : goal.returns

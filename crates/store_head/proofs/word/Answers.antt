@@ -1,6 +1,5 @@
 -- `word` meets its contract: the law of eight bytes.
 use Rattle.store_head.proofs.Laws.{packed_eight}
-use Rattle.std.proofs.Common.{rules}
 use Rattle.store_head.proofs.word.Goals as goal
 
 pub returns : goal.returns

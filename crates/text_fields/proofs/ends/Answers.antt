@@ -1,6 +1,5 @@
 -- `fields::ends` meets its contract: a place within the text is looked at; past it there is nothing more.
 use Rattle.text_fields.proofs.Runs.{ends_within, ends_past}
-use Rattle.std.proofs.Common.{rules}
 use Rattle.text_fields.proofs.ends.Goals as goal
 
 pub returns-then-at-text : goal.returns-then-at-text

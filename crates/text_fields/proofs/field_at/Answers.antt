@@ -3,7 +3,6 @@ use mathlib.Core.Path.{subst, sym}
 use Prim.Native.Nat.{ℕ, ◌≤◌}
 use lib.ListN.{length}
 use Rattle.text_fields.proofs.Words.{start_within, field_is}
-use Rattle.std.proofs.Common.{rules}
 use Rattle.text_fields.proofs.field_at.Goals as goal
 
 pub field_end-end-requires : goal.field_end-end-requires

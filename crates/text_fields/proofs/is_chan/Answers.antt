@@ -1,6 +1,5 @@
 -- `fields::is_chan` meets its contract: its four characters are looked at one by one, and then where they end.
 use Rattle.text_fields.proofs.Runs.{chan_short, chan_first, chan_second, chan_third, chan_fourth, chan_ends}
-use Rattle.std.proofs.Common.{rules}
 use Rattle.text_fields.proofs.is_chan.Goals as goal
 
 pub returns-then-text-at-lt4 : goal.returns-then-text-at-lt4

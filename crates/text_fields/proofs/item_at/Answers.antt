@@ -1,6 +1,5 @@
 -- `fields::item_at` meets its contract: the number made in the scan decides.
 use Rattle.text_fields.proofs.Runs.{said_item_by}
-use Rattle.std.proofs.Common.{rules}
 use Rattle.text_fields.proofs.item_at.Goals as goal
 
 pub returns : goal.returns

@@ -1,6 +1,5 @@
 -- `fields::item_of` meets its contract: a `$` decides before any name.
 use Rattle.text_fields.proofs.Keys.{by_local_item, by_item}
-use Rattle.std.proofs.Common.{rules}
 use Rattle.text_fields.proofs.item_of.Goals as goal
 
 pub returns-then-first-eq-DOLLAR : goal.returns-then-first-eq-DOLLAR

@@ -1,6 +1,5 @@
 -- `fields::keyword_again` meets its contract: every keyword by its number.
 use Rattle.text_fields.proofs.Runs.{said_by_lem}
-use Rattle.std.proofs.Common.{rules}
 use Rattle.text_fields.proofs.keyword_again.Goals as goal
 
 pub returns : goal.returns

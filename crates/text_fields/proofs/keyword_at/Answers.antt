@@ -1,7 +1,6 @@
 -- `fields::keyword_at` meets its contract: CHAN by the quick test, every other keyword by its number.
 use mathlib.Core.Path.{sym, ◌∙◌}
 use Rattle.text_fields.proofs.Runs.{said_chan, said_by_lem}
-use Rattle.std.proofs.Common.{rules}
 use Rattle.text_fields.proofs.keyword_at.Goals as goal
 
 pub returns-then-is_chan : goal.returns-then-is_chan

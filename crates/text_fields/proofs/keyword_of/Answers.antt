@@ -1,6 +1,5 @@
 -- `fields::keyword_of` meets its contract: a `$` decides before any name.
 use Rattle.text_fields.proofs.Keys.{by_comment, by_local, by_keyword}
-use Rattle.std.proofs.Common.{rules}
 use Rattle.text_fields.proofs.keyword_of.Goals as goal
 
 pub returns-then-second-eq-DOLLAR : goal.returns-then-second-eq-DOLLAR

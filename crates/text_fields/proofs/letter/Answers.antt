@@ -5,7 +5,6 @@ use native.Mathlib.Omega.{arith}
 use borrow.Author.Tests.{le-leb, lt-leb}
 use Rattle.text_fields.specs.Keywords.{upper}
 use Rattle.text_fields.specs.Tables.{letter_of}
-use Rattle.std.proofs.Common.{rules}
 use Rattle.text_fields.proofs.letter.Goals as goal
 
 pub returns-then-c-lt65 : goal.returns-then-c-lt65

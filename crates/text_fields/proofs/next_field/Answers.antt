@@ -1,11 +1,7 @@
 -- `next_field` meets its contract: up to `i`, where a field may end, there are only delimiters (`Behind`).
 use mathlib.Core.Path.{refl}
-use Prim.Native.Nat.{◌-◌}
 use native.Mathlib.Omega.{arith}
-use lib.ListN.{length}
-use borrow.Author.Tests.{not-true, not-false}
-use Rattle.text_fields.proofs.Runs.{Behind, behind_turn, behind_stop, behind_end}
-use Rattle.std.proofs.Common.{rules}
+use Rattle.text_fields.proofs.Runs.{behind_turn, behind_stop, behind_end}
 use Rattle.text_fields.proofs.next_field.Goals as goal
 
 pub loop-i-init : goal.loop-i-init

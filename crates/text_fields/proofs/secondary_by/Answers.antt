@@ -2,7 +2,6 @@
 use Rattle.text_fields.specs.Keywords.{upper, keyword_rows}
 use Rattle.text_fields.specs.Tables.{letter_of, field_key}
 use Rattle.text_fields.proofs.Keys.{row_hit, row_miss}
-use Rattle.std.proofs.Common.{rules}
 use Rattle.text_fields.proofs.secondary_by.Goals as goal
 
 pub returns-then-k-eq-CHAN : goal.returns-then-k-eq-CHAN

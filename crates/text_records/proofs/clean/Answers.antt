@@ -1,6 +1,5 @@
 -- `records::clean` meets its contract: the kept characters stand in front, whether they had to move or not.
 use Rattle.text_records.proofs.Cleaning.{mark_within, front_length, front_unmarked, cleaned_squeezed, cleaned_same}
-use Rattle.std.proofs.Common.{rules}
 use Rattle.text_records.proofs.clean.Goals as goal
 
 pub slice_bounds-squeeze-end : goal.slice_bounds-squeeze-end

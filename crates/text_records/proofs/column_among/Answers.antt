@@ -1,10 +1,6 @@
 -- `column_among` meets its contract: behind i characters the column is i, and what is left of it among the others.
-use mathlib.Core.Path.{◌≡◌}
-use Prim.Native.Nat.{◌≤◌, ◌+◌, ◌-◌}
 use native.Mathlib.Nat.{zero-add}
 use native.Mathlib.Omega.{arith}
-use lib.ListN.{length, drop}
-use Rattle.text_records.specs.Cleaning.{column_of}
 use Rattle.text_records.proofs.Columns.{column_stop, column_turn, column_end}
 use Rattle.std.proofs.Common.{rules}
 use Rattle.text_records.proofs.column_among.Goals as goal

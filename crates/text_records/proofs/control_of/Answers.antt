@@ -1,7 +1,6 @@
 -- `control_of` meets its contract.
 use mathlib.Core.Path.{sym, ◌∙◌}
 use Rattle.text_records.proofs.Cleaning.{control_is, control_not}
-use Rattle.std.proofs.Common.{rules}
 use Rattle.text_records.proofs.control_of.Goals as goal
 
 pub returns-then-is_control : goal.returns-then-is_control

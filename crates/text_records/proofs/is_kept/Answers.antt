@@ -1,5 +1,4 @@
 -- `records::is_kept` meets its contract: the test that led to each answer is the law's.
-use Rattle.std.proofs.Common.{rules}
 use borrow.Author.Tests.{le-leb, lt-leb}
 use Rattle.text_records.proofs.Cleaning.{kept_is}
 use Rattle.text_records.proofs.is_kept.Goals as goal

@@ -1,15 +1,11 @@
 -- `records::is_plain` meets its contract: `other` tells whether a character before place `i` is not plain.
-use mathlib.Core.Path.{◌≡◌, refl}
-use mathlib.Core.Bool.{◌||◌}
-use mathlib.Core.Logic.{⊎_elim}
-use Prim.Native.Nat.{◌≤◌, ◌<◌, ◌-◌}
+use mathlib.Core.Path.{refl}
+use Prim.Native.Nat.{◌≤◌, ◌<◌}
 use native.Mathlib.Omega.{arith}
-use lib.ListN.{length, drop}
-use Rattle.text_records.specs.Cleaning.{has}
-use Rattle.text_records.specs.Window.{is_special, block}
+use lib.ListN.{length}
+use Rattle.text_records.specs.Window.{is_special}
 use Rattle.text_records.proofs.Cleaning.{looked_this, looked_past, looked_all}
 use Rattle.text_records.proofs.Plain.{plain_all}
-use Rattle.std.proofs.Common.{rules}
 use Rattle.text_records.proofs.is_plain.Goals as goal
 use Rattle.text_records.proofs.is_plain.Goals.{then-is_other, else-is_other}
 

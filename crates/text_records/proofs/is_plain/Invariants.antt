@@ -1,15 +1,10 @@
 -- `records::is_plain` meets its contract: `other` tells whether a character before place `i` is not plain.
-use mathlib.Core.Path.{◌≡◌, refl}
+use mathlib.Core.Path.{◌≡◌}
 use mathlib.Core.Bool.{◌||◌}
-use mathlib.Core.Logic.{⊎_elim}
-use Prim.Native.Nat.{◌≤◌, ◌<◌, ◌-◌}
-use native.Mathlib.Omega.{arith}
-use lib.ListN.{length, drop}
+use Prim.Native.Nat.{◌≤◌, ◌-◌}
+use lib.ListN.{drop}
 use Rattle.text_records.specs.Cleaning.{has}
 use Rattle.text_records.specs.Window.{is_special, block}
-use Rattle.text_records.proofs.Cleaning.{looked_this, looked_past, looked_all}
-use Rattle.text_records.proofs.Plain.{plain_all}
-use Rattle.std.proofs.Common.{rules}
 use Rattle.text_records.proofs.is_plain.Given as goal
 
 abbrev pub invariant-loop-i : goal.invariant-loop-i

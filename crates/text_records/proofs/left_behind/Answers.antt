@@ -1,6 +1,5 @@
 -- `left_behind` meets its contract: the test of a kept character, on each way.
 use Rattle.text_records.proofs.Columns.{left_as}
-use Rattle.std.proofs.Common.{rules}
 use Rattle.text_records.proofs.left_behind.Goals as goal
 
 pub returns-then-is_kept : goal.returns-then-is_kept

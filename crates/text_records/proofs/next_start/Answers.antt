@@ -1,7 +1,6 @@
 -- `next_start` meets its contract: the two bytes read are the terminator's, and each way is its length.
 use mathlib.Core.Path.{sym, ◌∙◌}
 use Rattle.text_records.proofs.Stream.{start_two, start_one, start_none}
-use Rattle.std.proofs.Common.{rules}
 use Rattle.text_records.proofs.next_start.Goals as goal
 
 pub is_pair-requires : goal.is_pair-requires

@@ -1,14 +1,10 @@
 -- `plain_again` meets its contract: the place where the scan from `i` ends is the place where the scan from `at` ends.
-use mathlib.Core.Path.{◌≡◌, refl, sym, ap}
+use mathlib.Core.Path.{refl, sym, ap}
 use mathlib.Core.Bool.{true, false, not}
-use mathlib.Core.Logic.{⊎_elim}
-use Prim.Native.Nat.{◌≤◌, ◌-◌}
 use native.Mathlib.Omega.{arith}
-use lib.ListN.{length}
 use Rattle.cells.proofs.Scan.{scan_turn, scan_stop, scan_end}
-use Rattle.text_records.specs.Window.{is_plain, plain_end}
+use Rattle.text_records.specs.Window.{is_plain}
 use Rattle.text_records.proofs.Plain.{graphic_plain, neither_special, space_plain}
-use Rattle.std.proofs.Common.{rules}
 use Rattle.text_records.proofs.plain_again.Goals as goal
 use Rattle.text_records.proofs.plain_again.Goals.{then-not-is_graphic+else-c-ne-SPACE, else-not-is_graphic}
 

@@ -1,12 +1,11 @@
 -- `records::plain_blocks` meets its contract: a block that is plain does not move the end.
-use mathlib.Core.Path.{◌≡◌, refl, ap}
+use mathlib.Core.Path.{refl, ap}
 use mathlib.Core.Bool.{not}
-use Prim.Native.Nat.{◌≤◌, ◌+◌, ◌-◌}
+use Prim.Native.Nat.{◌≤◌, ◌+◌}
 use native.Mathlib.Omega.{arith}
 use lib.ListN.{length}
-use Rattle.text_records.specs.Window.{block, plain_end}
+use Rattle.text_records.specs.Window.{block}
 use Rattle.text_records.proofs.Plain.{block_past}
-use Rattle.std.proofs.Common.{rules}
 use Rattle.text_records.proofs.plain_blocks.Goals as goal
 
 pub loop-i-init : goal.loop-i-init

@@ -1,11 +1,8 @@
 -- `records::plain_blocks` meets its contract: a block that is plain does not move the end.
-use mathlib.Core.Path.{◌≡◌, refl}
-use Prim.Native.Nat.{◌≤◌, ◌+◌, ◌-◌}
-use native.Mathlib.Omega.{arith}
+use mathlib.Core.Path.{◌≡◌}
+use Prim.Native.Nat.{◌≤◌, ◌-◌}
 use lib.ListN.{length}
-use Rattle.text_records.specs.Window.{block, plain_end}
-use Rattle.text_records.proofs.Plain.{block_past}
-use Rattle.std.proofs.Common.{rules}
+use Rattle.text_records.specs.Window.{plain_end}
 use Rattle.text_records.proofs.plain_blocks.Given as goal
 
 abbrev pub invariant-loop-i : goal.invariant-loop-i

@@ -1,14 +1,8 @@
 -- `records::plain_end` meets its contract: the place where the scan from `i` ends is the place where the scan from `at` ends.
-use mathlib.Core.Path.{◌≡◌, refl, sym}
-use mathlib.Core.Bool.{true, false}
-use mathlib.Core.Logic.{⊎_elim}
+use mathlib.Core.Path.{◌≡◌}
 use Prim.Native.Nat.{◌≤◌, ◌-◌}
-use native.Mathlib.Omega.{arith}
 use lib.ListN.{length}
-use Rattle.cells.proofs.Scan.{scan_turn, scan_stop, scan_end}
-use Rattle.text_records.specs.Window.{is_plain, plain_end}
-use Rattle.text_records.proofs.Plain.{graphic_plain, neither_special, space_plain}
-use Rattle.std.proofs.Common.{rules}
+use Rattle.text_records.specs.Window.{plain_end}
 use Rattle.text_records.proofs.plain_end.Given as goal
 
 abbrev pub invariant-loop-i : goal.invariant-loop-i

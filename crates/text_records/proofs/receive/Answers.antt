@@ -1,7 +1,6 @@
 -- `records::receive` meets its contract: 80 bytes from `at` on are all that the record by value has of the stream.
 use mathlib.Core.Path.{refl}
 use Rattle.text_records.proofs.Received.{window_front, window_rest}
-use Rattle.std.proofs.Common.{rules}
 use Rattle.text_records.proofs.receive.Goals as goal
 
 pub returns-then-stream-at-ge-LONGEST : goal.returns-then-stream-at-ge-LONGEST

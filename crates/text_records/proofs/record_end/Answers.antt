@@ -1,14 +1,13 @@
 -- `record_end` meets its contract: the place where the record ends from `i` on is the place where it ends from `at` on, and plain
 -- characters do not move it.
-use mathlib.Core.Path.{◌≡◌, refl, ap, subst, sym}
+use mathlib.Core.Path.{refl, ap, subst, sym}
 use mathlib.Core.Bool.{not}
-use Prim.Native.Nat.{ℕ, ◌≤◌, ◌<◌, ◌+◌, ◌-◌}
+use Prim.Native.Nat.{ℕ, ◌≤◌, ◌<◌, ◌+◌}
 use native.Mathlib.Omega.{arith}
 use lib.ListN.{length}
 use Rattle.cells.proofs.Scan.{scan_turn, scan_stop, scan_end}
-use Rattle.text_records.specs.Stream.{is_text, record_end}
+use Rattle.text_records.specs.Stream.{is_text}
 use Rattle.text_records.proofs.Plain.{plain_from, plain_within, plain_turn}
-use Rattle.std.proofs.Common.{rules}
 use Rattle.text_records.proofs.record_end.Goals as goal
 
 pub loop-i-init : goal.loop-i-init

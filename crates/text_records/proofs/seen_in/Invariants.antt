@@ -1,13 +1,10 @@
 -- `seen_in` meets its contract: the largest so far, and the control characters so far, tell what stands before place `i`.
-use mathlib.Core.Path.{◌≡◌, refl}
+use mathlib.Core.Path.{◌≡◌}
 use mathlib.Core.Bool.{◌||◌}
 use Prim.Native.Nat.{◌≤◌, ◌-◌}
-use native.Mathlib.Omega.{arith}
 use lib.Dec.{ltb}
 use lib.ListN.{length, drop}
 use Rattle.text_records.specs.Cleaning.{is_high, is_control, has}
-use Rattle.text_records.proofs.Cleaning.{high_grown, control_grown, looked_on, looked_all, seen_all}
-use Rattle.std.proofs.Common.{rules}
 use Rattle.text_records.proofs.seen_in.Given as goal
 
 abbrev pub invariant-loop-i : goal.invariant-loop-i

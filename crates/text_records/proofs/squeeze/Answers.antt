@@ -1,10 +1,6 @@
 -- `records::squeeze` meets its contract: the loop's invariant is the law's `Squeezed`.
-use mathlib.Core.Logic.{⊎_elim}
-use Prim.Native.Nat.{◌-◌}
 use native.Mathlib.Omega.{arith}
-use lib.ListN.{length}
-use Rattle.text_records.proofs.Cleaning.{Squeezed, squeezed_none, squeezed_kept, squeezed_past, squeezed_count, squeezed_all}
-use Rattle.std.proofs.Common.{rules}
+use Rattle.text_records.proofs.Cleaning.{squeezed_none, squeezed_kept, squeezed_past, squeezed_count, squeezed_all}
 use Rattle.text_records.proofs.squeeze.Goals as goal
 use Rattle.text_records.proofs.squeeze.Goals.{then-is_kept, else-is_kept}
 

@@ -1,10 +1,7 @@
 -- `records::squeeze` meets its contract: the loop's invariant is the law's `Squeezed`.
-use mathlib.Core.Logic.{⊎_elim}
 use Prim.Native.Nat.{◌-◌}
-use native.Mathlib.Omega.{arith}
 use lib.ListN.{length}
-use Rattle.text_records.proofs.Cleaning.{Squeezed, squeezed_none, squeezed_kept, squeezed_past, squeezed_count, squeezed_all}
-use Rattle.std.proofs.Common.{rules}
+use Rattle.text_records.proofs.Cleaning.{Squeezed}
 use Rattle.text_records.proofs.squeeze.Given as goal
 
 abbrev pub invariant-loop-i : goal.invariant-loop-i

@@ -1,12 +1,9 @@
 -- `records::whole_window` meets its contract: the array holds the first `i` bytes.
 use mathlib.Core.Path.{◌≡◌}
 use Prim.Native.Nat.{◌≤◌, ◌-◌}
-use native.Mathlib.Omega.{arith}
 use lib.ListN.{take}
 use Rattle.cells.specs.Pad.{padded}
 use Rattle.text_records.specs.Received.{longest}
-use Rattle.text_records.proofs.Received.{filled_none, filled_more, filled_all}
-use Rattle.std.proofs.Common.{rules}
 use Rattle.text_records.proofs.whole_window.Given as goal
 
 abbrev pub invariant-loop-i : goal.invariant-loop-i

@@ -1,6 +1,5 @@
 -- `put_text` meets its contract: the part that is copied to is the text's place.
 use Rattle.text_room.proofs.Chain.{text_back}
-use Rattle.std.proofs.Common.{rules}
 use Rattle.text_room.proofs.put_text.Goals as goal
 
 pub returns : goal.returns

@@ -3,7 +3,6 @@ use mathlib.Core.Path.{sym}
 use Rattle.text_room.proofs.Writes.{wrote_as}
 use Rattle.text_room.proofs.Chain.{room_is, first_room, then_room, both}
 use Rattle.tidy_printed.proofs.Parts.{end_parts}
-use Rattle.std.proofs.Common.{rules}
 use Rattle.tidy_printed.proofs.put_end_line.Goals as goal
 
 pub put_fixed-tallies-requires : goal.put_fixed-tallies-requires

@@ -5,7 +5,6 @@ use Rattle.text_room.proofs.Writes.{wrote_as}
 use Rattle.text_room.proofs.Chain.{room_is, first_room, then_room, both}
 use Rattle.tidy_printed.proofs.Parts.{fixed_is}
 use Rattle.tidy_printed.proofs.Lengths.{digits_room}
-use Rattle.std.proofs.Common.{rules}
 use Rattle.tidy_printed.proofs.put_fixed.Goals as goal
 
 pub put_text-digits-requires : goal.put_text-digits-requires

@@ -1,11 +1,7 @@
 -- `put_reports` meets its contract. The loop's invariant: what is written, with the lines of the reports that are left, is all their lines.
 -- The measure is what is left.
 use native.Mathlib.Omega.{arith}
-use lib.ListN.{length}
-use Prim.Native.Nat.{◌-◌}
-use Rattle.text_room.proofs.Chain.{writing_length}
-use Rattle.tidy_printed.proofs.Loops.{Printing, printing_start, printing_room, printing_turn, printing_end}
-use Rattle.std.proofs.Common.{rules}
+use Rattle.tidy_printed.proofs.Loops.{printing_start, printing_room, printing_turn, printing_end}
 use Rattle.tidy_printed.proofs.put_reports.Goals as goal
 
 pub loop-i-init : goal.loop-i-init

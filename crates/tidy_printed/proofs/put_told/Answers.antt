@@ -3,7 +3,6 @@ use mathlib.Core.Path.{sym}
 use Rattle.text_room.proofs.Writes.{wrote_as}
 use Rattle.text_room.proofs.Chain.{room_is, first_room, then_room, both}
 use Rattle.tidy_printed.proofs.Parts.{stored_parts, length_least}
-use Rattle.std.proofs.Common.{rules}
 use Rattle.tidy_printed.proofs.put_told.Goals as goal
 
 pub slice_bounds-put_reports-end : goal.slice_bounds-put_reports-end

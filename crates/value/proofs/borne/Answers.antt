@@ -3,7 +3,6 @@ use mathlib.Core.Path.{sym, subst}
 use native.Mathlib.Omega.{arith}
 use Rattle.value.specs.Integer.{cap, AtMost}
 use Rattle.value.proofs.Numbers.{borne_whole, borne_fraction, borne_large, borne_good}
-use Rattle.std.proofs.Common.{rules}
 use Rattle.value.proofs.borne.Goals as goal
 
 pub returns-in_default : goal.returns-in_default

@@ -4,7 +4,6 @@ use Rattle.value.proofs.Cuts.{cut_count}
 use native.Mathlib.Omega.{arith}
 use Rattle.value.specs.Time.{part_max}
 use Rattle.value.proofs.Times.{part_at_most, clock_one_is, clock_more_is}
-use Rattle.std.proofs.Common.{rules}
 use Rattle.value.proofs.clock.Goals as goal
 
 pub slice_bounds-part-end : goal.slice_bounds-part-end

@@ -1,11 +1,8 @@
 -- `cut` meets its contract. The invariant: the cut from here on is the cut from the start.
 use mathlib.Core.Path.{◌≡◌}
 use Prim.Native.Nat.{◌≤◌, ◌+◌, ◌-◌}
-use native.Mathlib.Omega.{arith}
 use lib.ListN.{length, drop}
 use Rattle.value.specs.Parts.{cut_at}
-use Rattle.value.proofs.Cuts.{cut_start, cut_turn, cut_found, cut_end}
-use Rattle.std.proofs.Common.{rules}
 use Rattle.value.proofs.cut.Given as goal
 
 abbrev pub invariant-loop-i : goal.invariant-loop-i

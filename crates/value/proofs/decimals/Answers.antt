@@ -1,7 +1,6 @@
 -- `decimals` meets its contract, case by case.
 use mathlib.Core.Path.{sym}
 use Rattle.value.proofs.Cuts.{decimals_none, decimals_many_is, decimals_few_is}
-use Rattle.std.proofs.Common.{rules}
 use Rattle.value.proofs.decimals.Goals as goal
 
 pub returns-then-s-at : goal.returns-then-s-at

@@ -1,7 +1,6 @@
 -- `digit` meets its contract: each return is one range of characters.
 use mathlib.Core.Path.{sym}
 use Rattle.value.proofs.Digits.{digit_low, digit_decimal, digit_signs, digit_capital, digit_letters, digit_small, digit_high}
-use Rattle.std.proofs.Common.{rules}
 use Rattle.value.proofs.digit.Goals as goal
 
 pub returns-then-c-lt48 : goal.returns-then-c-lt48

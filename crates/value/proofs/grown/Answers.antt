@@ -1,7 +1,6 @@
 -- `grown` meets its contract: the product stays far below 32 bits.
 use native.Mathlib.Omega.{arith}
 use Rattle.value.proofs.Digits.{grown_fits}
-use Rattle.std.proofs.Common.{rules}
 use Rattle.value.proofs.grown.Goals as goal
 
 pub overflow_mul-next : goal.overflow_mul-next

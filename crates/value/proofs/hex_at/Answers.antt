@@ -1,13 +1,7 @@
 -- `hex_at` meets its contract. The invariant: the digits from here on, behind the value so far, are those from `at` on.
-use mathlib.Core.Path.{◌≡◌, sym, ◌∙◌}
-use Prim.Native.Nat.{◌≤◌, ◌-◌}
+use mathlib.Core.Path.{sym, ◌∙◌}
 use native.Mathlib.Omega.{arith}
-use lib.ListN.{length}
-use borrow.Author.Tests.{not-true, not-false}
-use Rattle.value.specs.Integer.{cap}
-use Rattle.value.specs.Digits.{digits_at}
-use Rattle.value.proofs.Runs.{run_from, walk_start, walk_turn, walk_stop, walk_end, counts_below}
-use Rattle.std.proofs.Common.{rules}
+use Rattle.value.proofs.Runs.{walk_start, walk_turn, walk_stop, walk_end, counts_below}
 use Rattle.value.proofs.hex_at.Goals as goal
 
 pub loop-i-init : goal.loop-i-init
@@ -23,8 +17,7 @@ pub grown-value-requires : goal.grown-value-requires
 grown-value-requires c = omega (arith, counts_below _ _ (sym c.is_hex.ensures ∙ c.if-not-is_hex.false) c.hex_digit.ensures)
 
 pub loop-i-preserved : goal.loop-i-preserved
-loop-i-preserved c =
-    (
+loop-i-preserved c = (
   omega arith,
   omega arith,
   walk_turn 16 _ _ _ _ _ (omega arith) c.loop-i-test.true (sym c.is_hex.ensures ∙ c.if-not-is_hex.false) c.hex_digit.ensures c.grown-value.ensures c.loop-i.invariant.2,

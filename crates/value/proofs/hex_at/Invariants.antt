@@ -1,13 +1,10 @@
 -- `hex_at` meets its contract. The invariant: the digits from here on, behind the value so far, are those from `at` on.
-use mathlib.Core.Path.{◌≡◌, sym, ◌∙◌}
+use mathlib.Core.Path.{◌≡◌}
 use Prim.Native.Nat.{◌≤◌, ◌-◌}
-use native.Mathlib.Omega.{arith}
 use lib.ListN.{length}
-use borrow.Author.Tests.{not-true, not-false}
 use Rattle.value.specs.Integer.{cap}
 use Rattle.value.specs.Digits.{digits_at}
-use Rattle.value.proofs.Runs.{run_from, walk_start, walk_turn, walk_stop, walk_end, counts_below}
-use Rattle.std.proofs.Common.{rules}
+use Rattle.value.proofs.Runs.{run_from}
 use Rattle.value.proofs.hex_at.Given as goal
 
 abbrev pub invariant-loop-i : goal.invariant-loop-i

@@ -1,5 +1,4 @@
 -- `hex_digit` meets its contract in each of the three ranges of digits.
-use Rattle.std.proofs.Common.{rules}
 use Rattle.value.proofs.Runs.{hex_counts}
 use Rattle.value.proofs.hex_digit.Goals as goal
 

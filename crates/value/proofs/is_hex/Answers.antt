@@ -1,5 +1,4 @@
 -- `is_hex` meets its contract: the tests that led to each answer, by the laws of digits.
-use Rattle.std.proofs.Common.{rules}
 use Rattle.value.proofs.Runs.{hex_below, hex_past, hex_test}
 use Rattle.value.proofs.is_hex.Goals as goal
 

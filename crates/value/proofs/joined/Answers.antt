@@ -3,7 +3,6 @@ use mathlib.Core.Path.{sym, subst}
 use native.Mathlib.Omega.{arith}
 use Rattle.value.specs.Integer.{cap, AtMost}
 use Rattle.value.proofs.Times.{join_high, join_low, join_good, joined_fits}
-use Rattle.std.proofs.Common.{rules}
 use Rattle.value.proofs.joined.Goals as goal
 
 pub returns-in_default : goal.returns-in_default

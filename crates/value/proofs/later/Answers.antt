@@ -5,7 +5,6 @@ use lib.Seq.{length-take-le}
 use Rattle.value.specs.Integer.{cap}
 use Rattle.value.specs.Time.{part_max}
 use Rattle.value.proofs.Times.{at_most_up, part_at_most, middle_at_most, later_one_is, later_two_is}
-use Rattle.std.proofs.Common.{rules}
 use Rattle.value.proofs.later.Goals as goal
 
 pub joined-requires : goal.joined-requires

@@ -1,7 +1,6 @@
 -- `part` meets its contract, case by case.
 use mathlib.Core.Path.{sym, ◌∙◌}
 use Rattle.value.proofs.Times.{part_malformed, part_large, part_good, part_is}
-use Rattle.std.proofs.Common.{rules}
 use Rattle.value.proofs.part.Goals as goal
 
 pub returns-in_default : goal.returns-in_default

@@ -4,7 +4,6 @@ use Rattle.value.proofs.Cuts.{cut_count, decimals_capped}
 use mathlib.Core.Path.{sym, ◌∙◌, subst}
 use Rattle.value.specs.Integer.{cap, AtMost}
 use Rattle.value.proofs.Numbers.{borne_is}
-use Rattle.std.proofs.Common.{rules}
 use Rattle.value.proofs.read_borne.Goals as goal
 
 pub slice_bounds-read_integer-end : goal.slice_bounds-read_integer-end

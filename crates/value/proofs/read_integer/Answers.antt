@@ -1,6 +1,5 @@
 -- `read_integer` meets its contract: the run in radix ten.
 use Rattle.value.specs.Integer.{integer_of}
-use Rattle.std.proofs.Common.{rules}
 use Rattle.value.proofs.read_integer.Goals as goal
 
 pub returns : goal.returns

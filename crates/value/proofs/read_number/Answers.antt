@@ -4,7 +4,6 @@ use Rattle.value.specs.Integer.{cap, AtMost}
 use Rattle.value.proofs.Digits.{integer_capped}
 use Rattle.value.proofs.Cuts.{decimals_capped}
 use Rattle.value.proofs.Wholes.{number_by}
-use Rattle.std.proofs.Common.{rules}
 use Rattle.value.proofs.read_number.Goals as goal
 
 pub sized-requires : goal.sized-requires

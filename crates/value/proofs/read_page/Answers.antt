@@ -1,7 +1,6 @@
 -- `read_page` meets its contract, case by case.
 use mathlib.Core.Path.{sym, ◌∙◌}
 use Rattle.value.proofs.Numbers.{page_malformed, page_zero, page_high, page_good, page_is}
-use Rattle.std.proofs.Common.{rules}
 use Rattle.value.proofs.read_page.Goals as goal
 
 pub returns-in_default : goal.returns-in_default

@@ -5,7 +5,6 @@ use mathlib.Core.Path.{sym, ◌∙◌, subst}
 use native.Mathlib.Omega.{arith}
 use Rattle.value.specs.Integer.{cap, AtMost}
 use Rattle.value.proofs.Times.{clock_at_most, time_malformed, time_good, time_is}
-use Rattle.std.proofs.Common.{rules}
 use Rattle.value.proofs.read_time.Goals as goal
 
 pub slice_bounds-clock-end : goal.slice_bounds-clock-end

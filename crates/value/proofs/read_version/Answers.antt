@@ -3,7 +3,6 @@ use mathlib.Core.Path.{sym, ◌∙◌}
 use lib.Seq.{length-take-le}
 use native.Mathlib.Omega.{arith}
 use Rattle.value.proofs.Numbers.{version_none, version_is}
-use Rattle.std.proofs.Common.{rules}
 use Rattle.value.proofs.read_version.Goals as goal
 
 pub returns-then-s-colon : goal.returns-then-s-colon

@@ -1,11 +1,7 @@
 -- `run` meets its contract. The invariant: the digits from here on, behind the value so far, are the whole run.
-use mathlib.Core.Path.{◌≡◌, sym, ◌∙◌}
-use Prim.Native.Nat.{◌≤◌, ◌-◌}
+use mathlib.Core.Path.{sym, ◌∙◌}
 use native.Mathlib.Omega.{arith}
-use lib.ListN.{length, drop}
-use Rattle.value.specs.Integer.{cap, run_of, digits_from}
 use Rattle.value.proofs.Digits.{run_empty, run_start, run_turn, run_stop, run_end}
-use Rattle.std.proofs.Common.{rules}
 use Rattle.value.proofs.run.Goals as goal
 
 pub returns-then-s-eq0 : goal.returns-then-s-eq0
@@ -20,8 +16,7 @@ returns-then-radix-d c =
     (c.loop-i.invariant.2 ∙ run_stop _ _ _ _ _ c.loop-i-test.true c.digit-d.ensures c.if-radix-d.true)
 
 pub loop-i-preserved : goal.loop-i-preserved
-loop-i-preserved c =
-    (
+loop-i-preserved c = (
   omega arith,
   omega arith,
   c.loop-i.invariant.2 ∙ run_turn _ _ _ _ _ _ c.requires.radix_nonzero c.loop-i-test.true c.digit-d.ensures c.if-radix-d.false c.grown-value.ensures,

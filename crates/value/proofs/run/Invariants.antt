@@ -1,11 +1,8 @@
 -- `run` meets its contract. The invariant: the digits from here on, behind the value so far, are the whole run.
-use mathlib.Core.Path.{◌≡◌, sym, ◌∙◌}
+use mathlib.Core.Path.{◌≡◌}
 use Prim.Native.Nat.{◌≤◌, ◌-◌}
-use native.Mathlib.Omega.{arith}
 use lib.ListN.{length, drop}
 use Rattle.value.specs.Integer.{cap, run_of, digits_from}
-use Rattle.value.proofs.Digits.{run_empty, run_start, run_turn, run_stop, run_end}
-use Rattle.std.proofs.Common.{rules}
 use Rattle.value.proofs.run.Given as goal
 
 abbrev pub invariant-loop-i : goal.invariant-loop-i

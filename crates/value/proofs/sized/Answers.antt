@@ -3,7 +3,6 @@ use mathlib.Core.Path.{sym, subst}
 use native.Mathlib.Omega.{arith}
 use Rattle.value.specs.Integer.{cap, AtMost}
 use Rattle.value.proofs.Numbers.{whole_malformed, fraction_malformed, whole_large, number_zero, number_good}
-use Rattle.std.proofs.Common.{rules}
 use Rattle.value.proofs.sized.Goals as goal
 
 pub returns-in_default : goal.returns-in_default

@@ -1,7 +1,6 @@
 -- `versioned` meets its contract, case by case.
 use mathlib.Core.Path.{sym}
 use Rattle.value.proofs.Numbers.{major_malformed, minor_malformed, version_good}
-use Rattle.std.proofs.Common.{rules}
 use Rattle.value.proofs.versioned.Goals as goal
 
 pub returns-in_default : goal.returns-in_default

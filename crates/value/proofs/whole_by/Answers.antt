@@ -1,6 +1,5 @@
 -- `whole_by` meets its contract: no digits, another character behind them, the point, or the end.
 use Rattle.value.proofs.Wholes.{whole_none, whole_other, whole_points, whole_ends, whole_good}
-use Rattle.std.proofs.Common.{rules}
 use Rattle.value.proofs.whole_by.Goals as goal
 
 pub returns-then-end-eq0 : goal.returns-then-end-eq0

@@ -1,6 +1,5 @@
 -- `hex_at` meets its contract: the digits as they were read.
 use Rattle.value_level.proofs.Spans.{hex_after, hex_fits, hex_leveling_lem}
-use Rattle.std.proofs.Common.{rules}
 use Rattle.value_level.proofs.hex_at.Goals as goal
 
 pub overflow_sub-end : goal.overflow_sub-end

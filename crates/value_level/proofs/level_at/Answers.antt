@@ -3,7 +3,6 @@ use mathlib.Core.Path.{sym, ap, ◌∙◌}
 use native.Mathlib.Omega.{arith}
 use Rattle.value_level.specs.Level.{is_hex_mark}
 use Rattle.value_level.proofs.Spans.{mark_within, level_hex_at, level_percent_at}
-use Rattle.std.proofs.Common.{rules}
 use Rattle.value_level.proofs.level_at.Goals as goal
 
 pub hex_at-requires : goal.hex_at-requires

@@ -3,7 +3,6 @@ use mathlib.Core.Path.{ap, ◌∙◌}
 use Prim.Native.Nat.{ℕ, min}
 use Rattle.value_level.specs.Level.{percent_byte}
 use Rattle.value_level.proofs.Spans.{percent_none, percent_over, percent_taken}
-use Rattle.std.proofs.Common.{rules}
 use Rattle.value_level.proofs.percent.Goals as goal
 
 pub returns-then-end-at : goal.returns-then-end-at

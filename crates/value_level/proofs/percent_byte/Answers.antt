@@ -3,7 +3,6 @@ use native.Mathlib.Omega.{arith}
 use Rattle.cells.specs.Table.{tab}
 use Rattle.cells.proofs.Table.{tab_at}
 use Rattle.value_level.specs.Level.{percent_byte}
-use Rattle.std.proofs.Common.{rules}
 use Rattle.value_level.proofs.percent_byte.Goals as goal
 
 pub returns : goal.returns

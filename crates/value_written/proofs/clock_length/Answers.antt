@@ -3,7 +3,6 @@ use mathlib.Core.Path.{sym, ap, ◌∙◌}
 use native.Mathlib.Omega.{arith}
 use lib.ListN.{length}
 use Rattle.value_written.proofs.Texts.{clock_seconds, minutes_length, hours_length, integer_few, part_few}
-use Rattle.std.proofs.Common.{rules}
 use Rattle.value_written.proofs.clock_length.Goals as goal
 
 pub returns-then-seconds-lt-MINUTE : goal.returns-then-seconds-lt-MINUTE

@@ -1,7 +1,6 @@
 -- `digit_char` meets its contract: digits below ten, capitals from ten on.
 use mathlib.Core.Path.{sym}
 use Rattle.value_written.proofs.Texts.{char_decimal, char_capital}
-use Rattle.std.proofs.Common.{rules}
 use Rattle.value_written.proofs.digit_char.Goals as goal
 
 pub returns-then-d-lt10 : goal.returns-then-d-lt10

@@ -1,8 +1,7 @@
 -- `integer_length` meets its contract. The invariant: the digits counted and those still to count are all of them.
 use mathlib.Core.Path.{sym, ◌∙◌}
 use native.Mathlib.Omega.{arith}
-use Rattle.value_written.proofs.Texts.{Counting, counting_start, counting_turn, counting_end, integer_length}
-use Rattle.std.proofs.Common.{rules}
+use Rattle.value_written.proofs.Texts.{counting_start, counting_turn, counting_end, integer_length}
 use Rattle.value_written.proofs.integer_length.Goals as goal
 
 pub loop-rest-init : goal.loop-rest-init

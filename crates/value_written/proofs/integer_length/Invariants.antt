@@ -1,8 +1,5 @@
 -- `integer_length` meets its contract. The invariant: the digits counted and those still to count are all of them.
-use mathlib.Core.Path.{sym, ◌∙◌}
-use native.Mathlib.Omega.{arith}
-use Rattle.value_written.proofs.Texts.{Counting, counting_start, counting_turn, counting_end, integer_length}
-use Rattle.std.proofs.Common.{rules}
+use Rattle.value_written.proofs.Texts.{Counting}
 use Rattle.value_written.proofs.integer_length.Given as goal
 
 abbrev pub invariant-loop-rest : goal.invariant-loop-rest

@@ -3,7 +3,6 @@ use mathlib.Core.Path.{ap, ◌∙◌}
 use Prim.Native.Nat.{ℕ, ◌-◌, ◌*◌}
 use native.Mathlib.Omega.{arith}
 use Rattle.value_written.proofs.Texts.{counted_le, left_is}
-use Rattle.std.proofs.Common.{rules}
 use Rattle.value_written.proofs.left_by.Goals as goal
 
 pub overflow_mul-result : goal.overflow_mul-result

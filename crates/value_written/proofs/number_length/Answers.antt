@@ -2,7 +2,6 @@
 use native.Mathlib.Omega.{arith}
 use Rattle.value.specs.Number.{fraction_digits}
 use Rattle.value_written.proofs.Texts.{integer_ten, fraction_short, number_length}
-use Rattle.std.proofs.Common.{rules}
 use Rattle.value_written.proofs.number_length.Goals as goal
 
 pub overflow_add-result : goal.overflow_add-result

@@ -3,7 +3,6 @@ use mathlib.Core.Path.{sym, ap, ◌∙◌}
 use Prim.Native.Nat.{ℕ, ◌+◌}
 use native.Mathlib.Omega.{arith}
 use Rattle.value_written.proofs.Texts.{integer_few, part_length_two, part_length_own}
-use Rattle.std.proofs.Common.{rules}
 use Rattle.value_written.proofs.part_length.Goals as goal
 
 pub returns-then-v-lt-LONG_PART : goal.returns-then-v-lt-LONG_PART

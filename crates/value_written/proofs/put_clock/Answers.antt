@@ -3,7 +3,6 @@ use mathlib.Core.Path.{refl, sym}
 use Rattle.text_room.proofs.Chain.{room_is, first_room, then_room, both}
 use Rattle.text_room.proofs.Writes.{wrote_as}
 use Rattle.value_written.proofs.Texts.{clock_seconds, clock_minutes, clock_hours_is}
-use Rattle.std.proofs.Common.{rules}
 use Rattle.value_written.proofs.put_clock.Goals as goal
 
 pub put_integer-requires : goal.put_integer-requires

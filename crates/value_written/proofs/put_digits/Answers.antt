@@ -1,14 +1,10 @@
 -- `put_digits` meets its contract. The invariant: to put what digits are left is to put all of them into the output as it came.
 use Rattle.text_room.proofs.Writes.{wrote_count}
-use mathlib.Core.Path.{◌≡◌, refl, sym, ◌∙◌}
-use Prim.Native.Nat.{◌≤◌}
+use mathlib.Core.Path.{refl, sym, ◌∙◌}
 use native.Mathlib.Nat.{mod-lt}
 use native.Mathlib.Omega.{arith}
-use lib.ListN.{length, length-set}
-use Rattle.cells.specs.Put.{put}
-use Rattle.value_written.specs.Text.{digits_text}
+use lib.ListN.{length-set}
 use Rattle.value_written.proofs.Texts.{text_length, digits_turn, digits_done}
-use Rattle.std.proofs.Common.{rules}
 use Rattle.value_written.proofs.put_digits.Goals as goal
 
 pub loop-left-init : goal.loop-left-init
@@ -18,8 +14,7 @@ pub digit_char-requires : goal.digit_char-requires
 digit_char-requires c = omega (arith, mod-lt c.loop-left.rest c.requires.radix_nonzero)
 
 pub loop-left-preserved : goal.loop-left-preserved
-loop-left-preserved c =
-    (
+loop-left-preserved c = (
   omega arith,
   simp length-set (omega arith),
   c.loop-left.invariant.2 ∙ digits_turn _ _ _ _ _ _ _ c.loop-left-test.true refl (omega arith) c.digit_char.ensures,

@@ -1,14 +1,9 @@
 -- `put_digits` meets its contract. The invariant: to put what digits are left is to put all of them into the output as it came.
-use Rattle.text_room.proofs.Writes.{wrote_count}
-use mathlib.Core.Path.{◌≡◌, refl, sym, ◌∙◌}
+use mathlib.Core.Path.{◌≡◌}
 use Prim.Native.Nat.{◌≤◌}
-use native.Mathlib.Nat.{mod-lt}
-use native.Mathlib.Omega.{arith}
-use lib.ListN.{length, length-set}
+use lib.ListN.{length}
 use Rattle.cells.specs.Put.{put}
 use Rattle.value_written.specs.Text.{digits_text}
-use Rattle.value_written.proofs.Texts.{text_length, digits_turn, digits_done}
-use Rattle.std.proofs.Common.{rules}
 use Rattle.value_written.proofs.put_digits.Given as goal
 
 abbrev pub invariant-loop-left : goal.invariant-loop-left

@@ -1,10 +1,9 @@
 -- `put_fraction` meets its contract: nothing for zero, else a point and the digits.
-use mathlib.Core.Path.{sym, ◌∙◌}
+use mathlib.Core.Path.{sym}
 use native.Mathlib.Omega.{arith}
 use lib.ListN.{length-set}
 use Rattle.value_written.proofs.Texts.{fraction_none, fraction_some, fraction_length_some}
 use Rattle.text_room.proofs.Writes.{wrote_none, wrote_lead, wrote_as}
-use Rattle.std.proofs.Common.{rules}
 use Rattle.value_written.proofs.put_fraction.Goals as goal
 
 pub returns-then-f-eq0 : goal.returns-then-f-eq0

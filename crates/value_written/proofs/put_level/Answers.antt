@@ -1,11 +1,9 @@
 -- `put_level` meets its contract: H and two digits.
-use mathlib.Core.Path.{◌∙◌}
 use native.Mathlib.Omega.{arith}
 use lib.ListN.{length-set}
 use Rattle.value_written.specs.Text.{level_text}
 use Rattle.value_written.proofs.Texts.{level_length}
 use Rattle.text_room.proofs.Writes.{wrote_lead}
-use Rattle.std.proofs.Common.{rules}
 use Rattle.value_written.proofs.put_level.Goals as goal
 
 pub bounds-out-at : goal.bounds-out-at

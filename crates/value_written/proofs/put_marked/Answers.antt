@@ -3,7 +3,6 @@ use Rattle.text_room.proofs.Writes.{wrote_as}
 use mathlib.Core.Path.{sym}
 use Rattle.value_written.proofs.Texts.{marked_pieces}
 use Rattle.text_room.proofs.Chain.{room_is, first_room, then_room, both}
-use Rattle.std.proofs.Common.{rules}
 use Rattle.value_written.proofs.put_marked.Goals as goal
 
 pub put_text-digits-requires : goal.put_text-digits-requires

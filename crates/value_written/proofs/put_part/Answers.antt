@@ -1,10 +1,9 @@
 -- `put_part` meets its contract: a colon and two digits, or the colon and its own.
-use mathlib.Core.Path.{sym, ◌∙◌}
+use mathlib.Core.Path.{sym}
 use native.Mathlib.Omega.{arith}
 use lib.ListN.{length-set}
 use Rattle.value_written.proofs.Texts.{part_length, part_two, part_own, part_length_two, part_length_own}
 use Rattle.text_room.proofs.Writes.{wrote_lead, wrote_as}
-use Rattle.std.proofs.Common.{rules}
 use Rattle.value_written.proofs.put_part.Goals as goal
 
 pub bounds-out-at : goal.bounds-out-at

@@ -2,7 +2,6 @@
 use Rattle.text_room.proofs.Chain.{room_is, first_room, then_room, both}
 use Rattle.text_room.proofs.Writes.{wrote_as}
 use Rattle.value_written.proofs.Texts.{time_pieces}
-use Rattle.std.proofs.Common.{rules}
 use mathlib.Core.Path.{sym}
 use Rattle.value_written.proofs.put_time.Goals as goal
 

@@ -1,7 +1,6 @@
 -- `time_length` meets its contract: the two parts' lengths.
 use native.Mathlib.Omega.{arith}
 use Rattle.value_written.proofs.Texts.{time_length, time_long}
-use Rattle.std.proofs.Common.{rules}
 use Rattle.value_written.proofs.time_length.Goals as goal
 
 pub overflow_add-result : goal.overflow_add-result

@@ -1,6 +1,5 @@
 -- `whole_in` meets its contract: what fits, or 999.
 use Rattle.value_written.proofs.Texts.{whole_few, whole_most}
-use Rattle.std.proofs.Common.{rules}
 use Rattle.value_written.proofs.whole_in.Goals as goal
 
 pub returns-then-whole-lt-PART_MAX : goal.returns-then-whole-lt-PART_MAX

@@ -4,7 +4,6 @@ use native.Mathlib.Omega.{arith}
 use mathlib.Core.Path.{refl}
 use Rattle.store_desk.specs.Size.{entries_of}
 use mathlib.Core.Path.{refl}
-use Rattle.std.proofs.Common.{rules}
 use Rattle.store_desk.proofs.Desk.entries.Goals as goal
 
 pub overflow_mul-result : goal.overflow_mul-result

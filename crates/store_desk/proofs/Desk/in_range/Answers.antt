@@ -1,7 +1,6 @@
 -- `in_range` meets its contract: the tests joined one by one are the list of tests.
 use Rattle.store_desk.proofs.Size.{all_join, all_last}
 use Rattle.store_desk.specs.Size.{in_range_of}
-use Rattle.std.proofs.Common.{rules}
 use Rattle.store_desk.proofs.Desk.in_range.Goals as goal
 
 pub returns : goal.returns

@@ -2,7 +2,6 @@
 use Rattle.store_desk.proofs.Size.{in_range}
 use Rattle.store_desk.specs.Refusal.{needed_call}
 use mathlib.Core.Path.{refl, sym, ◌∙◌}
-use Rattle.std.proofs.Common.{rules}
 use Rattle.store_desk.proofs.Desk.needed.Goals as goal
 
 pub store_length-requires : goal.store_length-requires

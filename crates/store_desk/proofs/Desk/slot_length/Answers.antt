@@ -3,7 +3,6 @@ use Rattle.store_desk.proofs.Size.{levels_le}
 use Rattle.store_desk.specs.Size.{slot_length}
 use native.Mathlib.Omega.{arith}
 use mathlib.Core.Path.{refl}
-use Rattle.std.proofs.Common.{rules}
 use Rattle.store_desk.proofs.Desk.slot_length.Goals as goal
 
 pub overflow_add-result : goal.overflow_add-result

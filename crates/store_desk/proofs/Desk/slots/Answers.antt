@@ -3,7 +3,6 @@ use Rattle.store_desk.proofs.Size.{subs_le}
 use Rattle.store_desk.specs.Size.{slots_of}
 use native.Mathlib.Omega.{arith}
 use mathlib.Core.Path.{refl}
-use Rattle.std.proofs.Common.{rules}
 use Rattle.store_desk.proofs.Desk.slots.Goals as goal
 
 pub overflow_add-result-2 : goal.overflow_add-result-2

@@ -3,7 +3,6 @@ use Rattle.store_desk.proofs.Size.{entries_le, patch_le}
 use Rattle.store_desk.specs.Size.{store_length}
 use native.Mathlib.Omega.{arith}
 use mathlib.Core.Path.{refl}
-use Rattle.std.proofs.Common.{rules}
 use Rattle.store_desk.proofs.Desk.store_length.Goals as goal
 
 pub overflow_mul-result : goal.overflow_mul-result

@@ -4,7 +4,6 @@ use native.Mathlib.Omega.{arith}
 use mathlib.Core.Path.{refl}
 use Rattle.store_desk.specs.Size.{sub_slots}
 use mathlib.Core.Path.{refl}
-use Rattle.std.proofs.Common.{rules}
 use Rattle.store_desk.proofs.Desk.sub_slots.Goals as goal
 
 pub overflow_mul-result : goal.overflow_mul-result
