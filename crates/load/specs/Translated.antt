@@ -6,7 +6,7 @@ use Rattle.store_desk.specs.declared.Desk.{Desk}
 use Rattle.store_desk.specs.declared.Kind.TheVariants.{Cue, Group, Sub}
 use Rattle.text_records.specs.Stream.{records_of}
 use Rattle.text_fields.specs.Words.{fields_of, head_of, tail_of}
-use Rattle.value.specs.Number.{borne_of, no_number_of}
+use Rattle.value.specs.Number.{borne_of, no_number}
 use Rattle.store.specs.declared.Edit.TheVariants.{Link as SetLink}
 use Rattle.store.specs.Slots.{head_at, is_used}
 use Rattle.store.specs.Change.{edit_at}
@@ -97,7 +97,7 @@ bornes (r ∷ rs) (n ∷ ns) = let rest = bornes rs ns in cond (is_accepted_cue 
 -- the last of them that bore the number m, counted from 1; 0 where none did. No number is borne by none
 unfoldable pub last_bearer : ℕ → ℕ → ℕ → List ℕ → ℕ
 last_bearer m k last [] = last
-last_bearer m k last (b ∷ bs) = last_bearer m (k + 1) (cond (eqb m b && not (eqb b no_number_of)) k last) bs
+last_bearer m k last (b ∷ bs) = last_bearer m (k + 1) (cond (eqb m b && not (eqb b no_number)) k last) bs
 
 abbrev pub bearer_of : ℕ → List ℕ → ℕ
 bearer_of asked bs = last_bearer (asked - 1) 1 0 bs

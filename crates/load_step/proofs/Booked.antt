@@ -20,7 +20,7 @@ use Rattle.text_fields.specs.Keywords.{keyword_of}
 use Rattle.text_fields.specs.Tables.{said_at}
 use Rattle.text_fields.proofs.Words.{words_none, words_some, words_head, said_head}
 use Rattle.value.specs.Integer.{cap}
-use Rattle.value.specs.Number.{no_number_of, borne_of}
+use Rattle.value.specs.Number.{no_number, borne_of}
 use Rattle.value.proofs.Numbers.{borne_most}
 use Rattle.store.specs.Form.{has_link}
 use Rattle.load.specs.declared.Basic.{Basic}
@@ -114,7 +114,7 @@ module _ (l qs : List ℕ) (slot : ℕ) (o : Open) (e : Secondary) (ws : List Wo
 
 -- its number, and 1, does not wrap
 pub ask_room : (s : List ℕ) {n : ℕ} → n ≡ borne_of s → n + 1 < 4294967296
-ask_room s e = let h : borne_of s ≤ no_number_of + cap = borne_most s in omega arith
+ask_room s e = let h : borne_of s ≤ no_number + cap = borne_most s in omega arith
 
 -- ---- by what the keyword begins
 

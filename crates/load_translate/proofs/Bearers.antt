@@ -12,7 +12,7 @@ use lib.ListN.{length, get_or, set, drop, replicate, length-set, length-replicat
 use lib.Seq.{drop-cons, get_or-set_same, get_or-set_other}
 use borrow.Author.Tests.{eqb-true, eq-eqb, ne_eqb}
 use Rattle.cells.proofs.Split.{by_test, by_bool, by_eq, cond-true, cond-false, cond_ap, same_test}
-use Rattle.value.specs.Number.{no_number_of}
+use Rattle.value.specs.Number.{no_number}
 use Rattle.load.specs.Translated.{last_bearer, bearer_of}
 use Rattle.load_translate.specs.Bearing.{bearer_now, met_from, met, found_by, sought_by}
 use Rattle.load_translate.specs.Links.{any_asked}
@@ -106,7 +106,7 @@ module _ (asked : List ℕ) (m k : ℕ) where
   met-length : (found : List ℕ) → length (met asked m k found) ≡ length found
   unfolding met
   met-length found =
-      by_test (λ (z : List ℕ). length z ≡ length found) (eqb m no_number_of) _ _ (λ e. refl) (λ e. from_length (length found) 0 found)
+      by_test (λ (z : List ℕ). length z ≡ length found) (eqb m no_number) _ _ (λ e. refl) (λ e. from_length (length found) 0 found)
 
 -- ---- the test of the definition is the test of the code
 either_way : (p q : Bool) (k f : ℕ) → cond q f (cond p k f) ≡ cond (p && not q) k f
@@ -122,18 +122,18 @@ module _ (a b : ℕ) (n : a ≡ 0 → ⊥) where
       (λ t. let e : a ≡ b + 1 = eqb-true a (b + 1) t in eq-eqb (a - 1) b (omega arith))
       (λ t. let e : a - 1 ≡ b = eqb-true (a - 1) b t in eq-eqb a (b + 1) (omega arith))
 
-  now_same : (k f : ℕ) → cond (eqb b no_number_of) f (bearer_now a b k f) ≡ cond (eqb (a - 1) b && not (eqb b no_number_of)) k f
+  now_same : (k f : ℕ) → cond (eqb b no_number) f (bearer_now a b k f) ≡ cond (eqb (a - 1) b && not (eqb b no_number)) k f
   unfolding bearer_now
   now_same k f =
-      ap (λ (t : Bool). cond (eqb b no_number_of) f (cond t k f)) asks_same ∙ either_way (eqb (a - 1) b) (eqb b no_number_of) k f
+      ap (λ (t : Bool). cond (eqb b no_number) f (cond t k f)) asks_same ∙ either_way (eqb (a - 1) b) (eqb b no_number) k f
 
 module _ (asked : List ℕ) (i : ℕ) (n : get_or asked i 0 ≡ 0 → ⊥) where
   met_at : (b k : ℕ) (found : List ℕ) → i < length found
-      → get_or (met asked b k found) i 0 ≡ cond (eqb (get_or asked i 0 - 1) b && not (eqb b no_number_of)) k (get_or found i 0)
+      → get_or (met asked b k found) i 0 ≡ cond (eqb (get_or asked i 0 - 1) b && not (eqb b no_number)) k (get_or found i 0)
   unfolding met
   met_at b k found h =
-      cond_ap (λ (z : List ℕ). get_or z i 0) (eqb b no_number_of) found (met_from asked b k (length found) 0 found)
-      ∙ ap (cond (eqb b no_number_of) (get_or found i 0)) (from_at asked b k (length found) 0 found i (omega arith) (omega arith) h)
+      cond_ap (λ (z : List ℕ). get_or z i 0) (eqb b no_number) found (met_from asked b k (length found) 0 found)
+      ∙ ap (cond (eqb b no_number) (get_or found i 0)) (from_at asked b k (length found) 0 found i (omega arith) (omega arith) h)
       ∙ now_same (get_or asked i 0) b n k (get_or found i 0)
 
   found_at : (bs : List ℕ) (k : ℕ) (found : List ℕ) → i < length found

@@ -20,7 +20,7 @@ use Rattle.text_fields.specs.Places.{words_from, start_at, end_at, is_more, word
 use Rattle.text_fields.specs.Keywords.{keyword_of}
 use Rattle.text_fields.specs.Tables.{said_at}
 use Rattle.text_fields.proofs.Words.{words_none, words_some, words_head}
-use Rattle.value.specs.Number.{borne_of, no_number_of}
+use Rattle.value.specs.Number.{borne_of, no_number}
 use Rattle.value.specs.Integer.{cap}
 use Rattle.value.proofs.Numbers.{borne_most}
 use Rattle.load.specs.declared.Basic.{Basic}
@@ -98,7 +98,7 @@ module _ {xs bytes : List ℕ} {n : ℕ} {high control : Bool} (w : Texted xs by
 
 -- ---- a number that a field writes is far below what wraps
 bears_fit : (s : List ℕ) → Bearable (Bears (borne_of s))
-bears_fit s = let h : borne_of s ≤ no_number_of + cap = borne_most s in let g : borne_of s < 4294967295 = omega arith in g
+bears_fit s = let h : borne_of s ≤ no_number + cap = borne_most s in let g : borne_of s < 4294967295 = omega arith in g
 
 family_fits : (f : Family) (ws : List Word) → Bearable (family_bearing f ws)
 unfolding family_bearing

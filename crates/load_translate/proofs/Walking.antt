@@ -12,7 +12,7 @@ use borrow.Author.Tests.{not-true, not-false, eq-eqb, ne_eqb}
 use Rattle.cells.proofs.Split.{by_bool, by_lt, by_test, cond-true, cond-false}
 use Rattle.text_records.specs.Stream.{records_of, record_end, next_start}
 use Rattle.text_records.proofs.Stream.{records_at, records_end, start_forward, start_within, end_within}
-use Rattle.value.specs.Number.{no_number_of}
+use Rattle.value.specs.Number.{no_number}
 use Rattle.load.specs.Fits.{most_records}
 use Rattle.load_hear.specs.Marks.{is_marked}
 use Rattle.load_translate.specs.declared.Bearing.{Bearing}
@@ -39,22 +39,22 @@ module _ (ms asked : List ℕ) (s : Seen) (found : List ℕ) {b : Bearing} where
     accepted_met t =
         ap (λ (x : Bearing). met_by ms asked x (meeting s found)) e ∙ cond-true (is_marked ms s.tried) _ _ (sym f ∙ not-false a t)
 
-    pub unnumbered_met : not a ≡ false → m ≡ no_number_of
+    pub unnumbered_met : not a ≡ false → m ≡ no_number
         → meeting (seen_as (s.tried + 1) (s.cues + 1)) found ≡ met_by ms asked b (meeting s found)
     unfolding met
     unnumbered_met t z =
         sym
         (accepted_met t
-        ∙ ap (meeting (seen_as (s.tried + 1) (s.cues + 1))) (cond-true (eqb m no_number_of) found _ (eq-eqb m no_number_of z)))
+        ∙ ap (meeting (seen_as (s.tried + 1) (s.cues + 1))) (cond-true (eqb m no_number) found _ (eq-eqb m no_number z)))
 
-    pub numbered_met : not a ≡ false → (m ≡ no_number_of → ⊥) → {now : List ℕ} → now ≡ met_from asked m (s.cues + 1) (length found) 0 found
+    pub numbered_met : not a ≡ false → (m ≡ no_number → ⊥) → {now : List ℕ} → now ≡ met_from asked m (s.cues + 1) (length found) 0 found
         → meeting (seen_as (s.tried + 1) (s.cues + 1)) now ≡ met_by ms asked b (meeting s found)
     unfolding met
     numbered_met t n q =
         ap (meeting (seen_as (s.tried + 1) (s.cues + 1))) q
         ∙ sym
         (accepted_met t
-        ∙ ap (meeting (seen_as (s.tried + 1) (s.cues + 1))) (cond-false (eqb m no_number_of) found _ (ne_eqb m no_number_of n)))
+        ∙ ap (meeting (seen_as (s.tried + 1) (s.cues + 1))) (cond-false (eqb m no_number) found _ (ne_eqb m no_number n)))
 
 pub met_fits : {b : Bearing} {m : ℕ} → b ≡ Bears m → Bearable b → m < 4294967295
 met_fits e h = subst (λ (x : Bearing). Bearable x) e h

@@ -5,7 +5,7 @@ use Rattle.std.specs.Prelude.{cond, List, [], ◌∷◌, ℕ, zero, suc, ◌+◌
 use Rattle.store_desk.specs.declared.Kind.TheVariants.{Cue, Group, Sub}
 use Rattle.text_fields.specs.Words.{Word, fields_of, head_of}
 use Rattle.text_fields.specs.Keywords.{keyword_of}
-use Rattle.value.specs.Number.{borne_of, no_number_of}
+use Rattle.value.specs.Number.{borne_of, no_number}
 use Rattle.load.specs.declared.Family.{Family}
 use Rattle.load.specs.declared.Family.TheVariants.{Primary, Augments, Basic}
 use Rattle.load.specs.Ask.{family_of, is_over_long}
@@ -57,7 +57,7 @@ met_from asked m k zero i found = found
 met_from asked m k (suc n) i found = met_from asked m k n (suc i) (set found i (bearer_now (get_or asked i 0) m k (get_or found i 0)))
 
 unfoldable pub met : List ℕ → ℕ → ℕ → List ℕ → List ℕ
-met asked m k found = cond (eqb m no_number_of) found (met_from asked m k (length found) 0 found)
+met asked m k found = cond (eqb m no_number) found (met_from asked m k (length found) 0 found)
 
 unfoldable pub found_by : List ℕ → ℕ → List ℕ → List ℕ → List ℕ
 found_by asked k found [] = found

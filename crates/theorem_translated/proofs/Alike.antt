@@ -30,7 +30,7 @@ use Rattle.value.specs.declared.Numbered.{Numbered}
 use Rattle.value.specs.declared.Numbered.TheVariants.{Malformed as BadNumber, TooLarge, Value as IsNumber}
 use Rattle.value.specs.declared.Paged.{Paged}
 use Rattle.value.specs.declared.Paged.TheVariants.{Bad, Value as IsPage}
-use Rattle.value.specs.Number.{whole_max, fraction_span, no_number_of, number_of, borne_of}
+use Rattle.value.specs.Number.{whole_max, fraction_span, no_number, number_of, borne_of}
 use Rattle.store.specs.declared.Edit.{Edit}
 use Rattle.store.specs.declared.Edit.TheVariants.{Link as SetLink}
 use Rattle.store.specs.Slots.{slot_at, head_at, is_used}
@@ -315,11 +315,11 @@ bearer_borne : (m c last : ℕ) (bs : List ℕ) → Bornes c bs → Bears m last
 unfolding last_bearer
 bearer_borne m c last [] f h = h
 bearer_borne m c last (x ∷ bs) f h =
-    bearer_borne m (c + 1) (cond (eqb m x && not (eqb x no_number_of)) (c + 1) last) bs
+    bearer_borne m (c + 1) (cond (eqb m x && not (eqb x no_number)) (c + 1) last) bs
     (λ l g. let z = f (suc l) (suc-le-suc g) in (omega arith, omega arith))
-    (by_test (Bears m) (eqb m x && not (eqb x no_number_of)) (c + 1) last
+    (by_test (Bears m) (eqb m x && not (eqb x no_number)) (c + 1) last
     (λ t ne.
-    let q : m ≡ x = eqb-true m x (and_left (eqb m x) (not (eqb x no_number_of)) t) in
+    let q : m ≡ x = eqb-true m x (and_left (eqb m x) (not (eqb x no_number)) t) in
     let z = f 0 (suc-le-suc zero-le) in
     let e : x ≡ (c + 0 + 1) * fraction_span = z.0 in
     (omega arith, omega arith))

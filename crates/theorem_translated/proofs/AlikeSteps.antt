@@ -91,7 +91,7 @@ parts_borne Malformed j n e = absurd (let z : ◌≡◌ {A = ℕ} 0 1 = cc in om
 parts_borne (Value w) Malformed n e = absurd (let z : ◌≡◌ {A = ℕ} 0 1 = cc in omega arith)
 parts_borne (Value w) (Value g) n e =
     by_bool (ltb whole_max w)
-    (λ t. no_number (sym (cond-true (ltb whole_max w) TooLarge _ t) ∙ e))
+    (λ t. no_number_lem (sym (cond-true (ltb whole_max w) TooLarge _ t) ∙ e))
     (λ t.
     by_bool (eqb (w + g) 0)
     (λ z. no_format (sym (cond-false (ltb whole_max w) TooLarge _ t ∙ cond-true (eqb (w + g) 0) BadNumber _ z) ∙ e))
@@ -102,8 +102,8 @@ parts_borne (Value w) (Value g) n e =
     borne_good {w = w} {f = g} refl refl (omega arith)
     ∙ ap (λ (x : Number). x.whole * fraction_span + x.fraction) (number_inj q)))
   where
-    no_number : {X : Type 0} → TooLarge ≡ IsNumber n → X
-    no_number q = absurd (let z : ◌≡◌ {A = ℕ} 0 1 = cc in omega arith)
+    no_number_lem : {X : Type 0} → TooLarge ≡ IsNumber n → X
+    no_number_lem q = absurd (let z : ◌≡◌ {A = ℕ} 0 1 = cc in omega arith)
 
     no_format : {X : Type 0} → BadNumber ≡ IsNumber n → X
     no_format q = absurd (let z : ◌≡◌ {A = ℕ} 0 1 = cc in omega arith)

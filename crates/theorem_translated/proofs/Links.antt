@@ -20,7 +20,7 @@ use Rattle.store_desk.specs.Name.{eq_kind, ok_number}
 use Rattle.store_desk.proofs.Name.{number_low}
 use Rattle.store_head.specs.Layout.{decode_head}
 use Rattle.text_records.specs.Stream.{records_of}
-use Rattle.value.specs.Number.{whole_max, no_number_of}
+use Rattle.value.specs.Number.{whole_max, no_number}
 use Rattle.store.specs.declared.Edit.{Edit}
 use Rattle.store.specs.declared.Edit.TheVariants.{Link as SetLink}
 use Rattle.store.specs.Slots.{slot_at, entry_at, head_at, levels_at, is_used}
@@ -47,21 +47,21 @@ use Rattle.theorem_translated.specs.Links.{read_of, asked_of, bornes_of, borne_a
 -- ---- the last that bore a number
 module _ (m : ℕ) where
   abbrev bears : ℕ → Bool
-  bears b = eqb m b && not (eqb b no_number_of)
+  bears b = eqb m b && not (eqb b no_number)
 
-  not_bears : (b : ℕ) → (b ≡ m → m ≡ no_number_of) → bears b ≡ false
+  not_bears : (b : ℕ) → (b ≡ m → m ≡ no_number) → bears b ≡ false
   not_bears b h =
       by_bool (eqb m b)
       (λ e.
       let q : m ≡ b = eqb-true m b e in
-      let n : m ≡ no_number_of = h (sym q) in
-      and_false_right (eqb m b) (not (eqb b no_number_of)) (not_of_true (eqb b no_number_of) (eq-eqb b no_number_of (sym q ∙ n))))
-      (λ e. and_false_left (eqb m b) (not (eqb b no_number_of)) e)
+      let n : m ≡ no_number = h (sym q) in
+      and_false_right (eqb m b) (not (eqb b no_number)) (not_of_true (eqb b no_number) (eq-eqb b no_number (sym q ∙ n))))
+      (λ e. and_false_left (eqb m b) (not (eqb b no_number)) e)
 
-  bears-true : (b : ℕ) → b ≡ m → (m ≡ no_number_of → ⊥) → bears b ≡ true
+  bears-true : (b : ℕ) → b ≡ m → (m ≡ no_number → ⊥) → bears b ≡ true
   bears-true b e n =
-      and_true (eqb m b) (not (eqb b no_number_of)) (eq-eqb m b (sym e))
-      (not_of_false (eqb b no_number_of) (ne_eqb b no_number_of (λ q. n (sym e ∙ q))))
+      and_true (eqb m b) (not (eqb b no_number)) (eq-eqb m b (sym e))
+      (not_of_false (eqb b no_number) (ne_eqb b no_number (λ q. n (sym e ∙ q))))
 
   none_bears : (k last : ℕ) (bs : List ℕ) → Unborne bs m → last_bearer m k last bs ≡ last
   unfolding last_bearer
@@ -98,7 +98,7 @@ module _ (m : ℕ) where
   unfolding last_bearer
   no_bearer k last [] h e l g q = absurd (not-suc-le-zero g)
   no_bearer k last (b ∷ bs) h e zero g q =
-      by_eq m no_number_of
+      by_eq m no_number
       (λ n. n)
       (λ n.
       let f : last_bearer m (k + 1) k bs ≡ 0 = sym (ap (λ (z : ℕ). last_bearer m (k + 1) z bs) (cond-true (bears b) k last (bears-true b q n))) ∙ e in

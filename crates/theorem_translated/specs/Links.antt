@@ -5,7 +5,7 @@ use Rattle.cells.specs.Search.{count_from}
 use Rattle.store_desk.specs.declared.Desk.{Desk}
 use Rattle.store_desk.specs.declared.Kind.TheVariants.{Cue}
 use Rattle.text_records.specs.Stream.{records_of}
-use Rattle.value.specs.Number.{no_number_of}
+use Rattle.value.specs.Number.{no_number}
 use Rattle.store.specs.declared.Edit.TheVariants.{Link as SetLink}
 use Rattle.store.specs.Slots.{slot_at, entry_at, head_at, levels_at, is_used}
 use Rattle.store.specs.Change.{edit_head}
@@ -39,11 +39,11 @@ borne_among (r ∷ rs) (o ∷ os) = let bs = borne_among rs os in cond (is_accep
 pub record LastBearer (bs : List ℕ) (m j : ℕ) : Type 0 where
   pub given : j < length bs
   pub bore : get_or bs j 0 ≡ m
-  pub number : m ≡ no_number_of → ⊥
+  pub number : m ≡ no_number → ⊥
   pub later : (l : ℕ) → j < l → l < length bs → get_or bs l 0 ≡ m → ⊥
 
 abbrev pub Unborne : List ℕ → ℕ → Type 0
-Unborne bs m = (l : ℕ) → l < length bs → get_or bs l 0 ≡ m → m ≡ no_number_of
+Unborne bs m = (l : ℕ) → l < length bs → get_or bs l 0 ≡ m → m ≡ no_number
 
 -- cue slot i: where it is unused, its cue asked for nothing, or none bore the number m that it asked for, its bytes are as the records left them,
 -- which set no link: a cue that asked has none; else it has the link to the number that the last that bore it was given. Levels stay in any case

@@ -17,7 +17,7 @@ use Rattle.value.specs.declared.Paged.TheVariants.{Bad, Value as IsPage}
 use Rattle.value.specs.Integer.{cap, integer_of, AtMost}
 use Rattle.value.specs.Parts.{point, colon, cut_at, before, after, decimals_of}
 use Rattle.value.specs.Number.{whole_max, fraction_digits, number, numbered_of, number_of}
-use Rattle.value.specs.Number.{borne_max, fraction_span, no_number_of, borne_by, borne_of}
+use Rattle.value.specs.Number.{borne_max, fraction_span, no_number, borne_by, borne_of}
 use Rattle.value.specs.Field.{versioned_of, version_of, paged_of, page_of}
 use Rattle.value.proofs.Cuts.{decimals_capped}
 
@@ -47,11 +47,11 @@ module _ {i j : Integer} {w f : ℕ} (e : i ≡ Value w) (g : j ≡ Value f) whe
   number_good h z = parts ∙ rw (le-ltb whole_max w h, ne_eqb (w + f) 0 z)
 
 -- ---- what two parts write, whatever the desk could keep
-pub borne_whole : {i : Integer} (j : Integer) → i ≡ Malformed → borne_by i j ≡ no_number_of
+pub borne_whole : {i : Integer} (j : Integer) → i ≡ Malformed → borne_by i j ≡ no_number
 unfolding borne_by
 borne_whole j e = ap (λ (x : Integer). borne_by x j) e
 
-pub borne_fraction : {i j : Integer} {w : ℕ} → i ≡ Value w → j ≡ Malformed → borne_by i j ≡ no_number_of
+pub borne_fraction : {i j : Integer} {w : ℕ} → i ≡ Value w → j ≡ Malformed → borne_by i j ≡ no_number
 unfolding borne_by
 borne_fraction {i} {j} {w} e f = ap (λ (x : Integer). borne_by x j) e ∙ ap (λ (y : Integer). borne_by (Value w) y) f
 
@@ -59,7 +59,7 @@ module _ {i j : Integer} {w f : ℕ} (e : i ≡ Value w) (g : j ≡ Value f) whe
   borne_parts : borne_by i j ≡ borne_by (Value w) (Value f)
   borne_parts = ap (λ (x : Integer). borne_by x j) e ∙ ap (λ (y : Integer). borne_by (Value w) y) g
 
-  pub borne_large : borne_max < w → borne_by i j ≡ no_number_of
+  pub borne_large : borne_max < w → borne_by i j ≡ no_number
   unfolding borne_by
   borne_large h = borne_parts ∙ rw (lt-ltb borne_max w h)
 
@@ -68,16 +68,16 @@ module _ {i j : Integer} {w f : ℕ} (e : i ≡ Value w) (g : j ≡ Value f) whe
   borne_good h = borne_parts ∙ rw (le-ltb borne_max w h)
 
 -- far below what wraps
-borne_fits : (i j : Integer) → AtMost cap j → borne_by i j ≤ no_number_of + cap
+borne_fits : (i j : Integer) → AtMost cap j → borne_by i j ≤ no_number + cap
 unfolding borne_by
 borne_fits Malformed j h = omega arith
 borne_fits (Value w) Malformed h = omega arith
 borne_fits (Value w) (Value f) h =
     by_le w borne_max
-    (λ l. rw (le-ltb borne_max w l) (let z : w * fraction_span + f ≤ no_number_of + cap = omega arith in z))
-    (λ l. rw (lt-ltb borne_max w l) (let z : no_number_of ≤ no_number_of + cap = omega arith in z))
+    (λ l. rw (le-ltb borne_max w l) (let z : w * fraction_span + f ≤ no_number + cap = omega arith in z))
+    (λ l. rw (lt-ltb borne_max w l) (let z : no_number ≤ no_number + cap = omega arith in z))
 
-pub borne_most : (s : List ℕ) → borne_of s ≤ no_number_of + cap
+pub borne_most : (s : List ℕ) → borne_of s ≤ no_number + cap
 unfolding borne_of
 borne_most s = borne_fits (integer_of (before (cut_at point s) s)) (decimals_of fraction_digits s (cut_at point s)) (decimals_capped _ _ _)
 

@@ -41,13 +41,13 @@ abbrev pub fraction_span : ℕ
 fraction_span = fraction_max + 1
 
 -- any other text is no number
-abbrev pub no_number_of : ℕ
-no_number_of = (borne_max + 1) * fraction_span
+abbrev pub no_number : ℕ
+no_number = (borne_max + 1) * fraction_span
 
 unfoldable pub borne_by : Integer → Integer → ℕ
-borne_by Malformed f = no_number_of
-borne_by (Value w) Malformed = no_number_of
-borne_by (Value w) (Value f) = cond (ltb borne_max w) no_number_of (w * fraction_span + f)
+borne_by Malformed f = no_number
+borne_by (Value w) Malformed = no_number
+borne_by (Value w) (Value f) = cond (ltb borne_max w) no_number (w * fraction_span + f)
 
 unfoldable pub borne_of : List ℕ → ℕ
 borne_of s = borne_by (integer_of (before (cut_at point s) s)) (decimals_of fraction_digits s (cut_at point s))

@@ -1,6 +1,5 @@
 -- `desk_of` meets its contract: each limit is the number at its place.
 use Rattle.sphairune.proofs.Laws.{desk_is}
-use Rattle.std.proofs.Common.{rules}
 use Rattle.sphairune.proofs.desk_of.Goals as goal
 
 pub returns : goal.returns

@@ -1,6 +1,5 @@
 -- `note_length` meets its contract: the first number is set where there is one.
 use Rattle.sphairune.proofs.Laws.{length_some, length_none}
-use Rattle.std.proofs.Common.{rules}
 use Rattle.sphairune.proofs.note_length.Goals as goal
 
 pub returns-then-list-gt0 : goal.returns-then-list-gt0

@@ -1,6 +1,5 @@
 -- `note_placed` meets its contract: a place goes into the list, and every other answer leaves it.
 use Rattle.sphairune.proofs.Laws.{place_most, place_away, place_none, place_at}
-use Rattle.std.proofs.Common.{rules}
 use Rattle.sphairune.proofs.note_placed.Goals as goal
 
 pub word-requires : goal.word-requires

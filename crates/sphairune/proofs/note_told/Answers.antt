@@ -1,7 +1,6 @@
 -- `note_told` meets its contract: R6 tells the length needed, and every other refusal leaves the list.
 use Rattle.sphairune.proofs.Laws.{told_length, told_none}
 use Rattle.store_desk.specs.declared.Refusal.TheVariants.{R1, R2, R3, R4a, R4b, R4c, R5, R7}
-use Rattle.std.proofs.Common.{rules}
 use mathlib.Core.Path.{refl}
 use Rattle.sphairune.proofs.note_told.Goals as goal
 

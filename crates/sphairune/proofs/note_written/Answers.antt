@@ -1,6 +1,5 @@
 -- `note_written` meets its contract: a length, or what a refusal tells, goes into the list.
 use Rattle.sphairune.proofs.Laws.{note_most, note_away, note_done}
-use Rattle.std.proofs.Common.{rules}
 use Rattle.sphairune.proofs.note_written.Goals as goal
 
 pub word-requires : goal.word-requires

@@ -1,5 +1,4 @@
 -- `number_at` meets its contract: past the end the number is 0.
-use Rattle.std.proofs.Common.{rules}
 use lib.ListN.{get_or-eq_default}
 use mathlib.Core.Path.{sym}
 use Rattle.sphairune.proofs.number_at.Goals as goal

@@ -1,6 +1,5 @@
 -- `sphairune_condition_text` meets its contract: what the call answers is noted.
 use Rattle.sphairune.proofs.Laws.{text_most, written_by}
-use Rattle.std.proofs.Common.{rules}
 use Rattle.sphairune.proofs.sphairune_condition_text.Goals as goal
 
 pub note_written-requires : goal.note_written-requires

@@ -1,7 +1,6 @@
 -- `sphairune_empty` meets its contract: a refusal gives its word, and done is 0.
 use Rattle.show.specs.declared.Emptied.TheVariants.{Away, Done}
 use Rattle.sphairune.proofs.Laws.{answered, empty_within, empty_by_lem}
-use Rattle.std.proofs.Common.{rules}
 use Rattle.sphairune.proofs.sphairune_empty.Goals as goal
 
 pub word-requires : goal.word-requires

@@ -1,6 +1,5 @@
 -- `sphairune_find` meets its contract: what the call answers is noted.
 use Rattle.sphairune.proofs.Laws.{find_telling, find_by_lem}
-use Rattle.std.proofs.Common.{rules}
 use Rattle.sphairune.proofs.sphairune_find.Goals as goal
 
 pub note_placed-requires : goal.note_placed-requires

@@ -2,7 +2,6 @@
 use mathlib.Core.Path.{refl}
 use Rattle.sphairune.proofs.Laws.{answered, head_within, mute_list, told_values, head_by_lem, head_away}
 use Rattle.show_read.specs.declared.Headed.TheVariants.{NotKept, Has}
-use Rattle.std.proofs.Common.{rules}
 use Rattle.sphairune.proofs.sphairune_head.Goals as goal
 
 pub word-requires : goal.word-requires

@@ -1,6 +1,5 @@
 -- `sphairune_levels` meets its contract: what the call answers is noted.
 use Rattle.sphairune.proofs.Laws.{levels_telling, levels_by_lem}
-use Rattle.std.proofs.Common.{rules}
 use Rattle.sphairune.proofs.sphairune_levels.Goals as goal
 
 pub note_placed-requires : goal.note_placed-requires

@@ -1,7 +1,6 @@
 -- `sphairune_load` meets its contract: a refusal gives its word, and the totals go into the lent list.
 use Rattle.sphairune.proofs.Laws.{answered, load_within, told_values, load_by_lem, load_away}
 use Rattle.show.specs.declared.Loaded.TheVariants.{Done}
-use Rattle.std.proofs.Common.{rules}
 use Rattle.sphairune.proofs.sphairune_load.Goals as goal
 
 pub word-requires : goal.word-requires

@@ -2,7 +2,6 @@
 use mathlib.Core.Path.{refl}
 use Rattle.sphairune.proofs.Laws.{answered, memories_within, mute_list, memories_by_lem, memories_away}
 use Rattle.show_read.specs.declared.Listed.TheVariants.{NotKept, Done}
-use Rattle.std.proofs.Common.{rules}
 use Rattle.sphairune.proofs.sphairune_memories.Goals as goal
 
 pub word-requires : goal.word-requires

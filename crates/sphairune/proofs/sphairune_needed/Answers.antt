@@ -1,7 +1,6 @@
 -- `sphairune_needed` meets its contract: a refusal gives its word, and the length goes into the lent list.
 use Rattle.sphairune.proofs.Laws.{answered, needed_within, needed_by, needed_away}
 use Rattle.store_desk.specs.declared.Needed.TheVariants.{Length}
-use Rattle.std.proofs.Common.{rules}
 use Rattle.sphairune.proofs.sphairune_needed.Goals as goal
 
 pub word-requires : goal.word-requires

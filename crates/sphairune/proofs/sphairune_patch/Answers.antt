@@ -2,7 +2,6 @@
 use mathlib.Core.Path.{refl}
 use Rattle.sphairune.proofs.Laws.{answered, patch_within, mute_list, told_values, patch_by_lem, patch_away}
 use Rattle.show_read.specs.declared.Patched.TheVariants.{NotKept, Has}
-use Rattle.std.proofs.Common.{rules}
 use Rattle.sphairune.proofs.sphairune_patch.Goals as goal
 
 pub word-requires : goal.word-requires

@@ -1,7 +1,6 @@
 -- `sphairune_translate` meets its contract: a refusal gives its word, and the totals go into the lent list.
 use Rattle.sphairune.proofs.Laws.{answered, translate_within, told_values, translate_by, translate_away}
 use Rattle.show.specs.declared.Loaded.TheVariants.{Done}
-use Rattle.std.proofs.Common.{rules}
 use Rattle.sphairune.proofs.sphairune_translate.Goals as goal
 
 pub word-requires : goal.word-requires

@@ -1,6 +1,5 @@
 -- `sphairune_write` meets its contract: what the call answers is noted.
 use Rattle.sphairune.proofs.Laws.{write_most, write_by_lem}
-use Rattle.std.proofs.Common.{rules}
 use Rattle.sphairune.proofs.sphairune_write.Goals as goal
 
 pub note_written-requires : goal.note_written-requires

@@ -1,7 +1,6 @@
 -- `put_answer` meets its contract: what is told, and the show behind it; there is room for both.
 use native.Mathlib.Omega.{arith}
 use Rattle.tidy_session.proofs.Told.{tallies, told_room, shown_room, told_then}
-use Rattle.std.proofs.Common.{rules}
 use Rattle.tidy_session.proofs.put_answer.Goals as goal
 
 pub put_told-at-requires : goal.put_told-at-requires

@@ -1,6 +1,5 @@
 -- `put_shown` meets its contract: the written stream, or the line with the length needed; `write` gives no other answer.
 use Rattle.tidy_session.proofs.Shown.{never_other, done_most, done_shown, needed_most, needed_room, needed_shown}
-use Rattle.std.proofs.Common.{rules}
 use native.Mathlib.Omega.{arith}
 use Rattle.tidy_session.proofs.put_shown.Goals as goal
 

@@ -1,6 +1,5 @@
 -- `tidy` meets its contract, by the cases of the text: too much input, or what is read.
 use Rattle.tidy_session.proofs.Told.{too_long, read}
-use Rattle.std.proofs.Common.{rules}
 use Rattle.tidy_session.proofs.tidy.Goals as goal
 
 pub returns-then-input-gt-MOST_INPUT : goal.returns-then-input-gt-MOST_INPUT
