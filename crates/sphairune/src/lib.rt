@@ -109,8 +109,7 @@ fn totals_told(t: Totals) -> [u32; 6]
 }
 
 // The bytes that a store of this desk needs, in `length`; or 2.
-#[unsafe(no_mangle)]
-pub extern "C" fn sphairune_needed(limits: &[u32], length: &mut [usize]) -> u32
+pub fn sphairune_needed(limits: &[u32], length: &mut [usize]) -> u32
     ensures { NeededExport limits.now length.old result length.new }
 {
     match desk_of(limits).needed() {
@@ -123,8 +122,7 @@ pub extern "C" fn sphairune_needed(limits: &[u32], length: &mut [usize]) -> u32
 }
 
 // Makes a store's needed bytes zero; or 2, 3.
-#[unsafe(no_mangle)]
-pub extern "C" fn sphairune_empty(limits: &[u32], store: &mut [u8]) -> u32
+pub fn sphairune_empty(limits: &[u32], store: &mut [u8]) -> u32
     ensures { EmptyExport limits.now store.old result store.new }
 {
     match show::empty(desk_of(limits), store) {
@@ -135,8 +133,7 @@ pub extern "C" fn sphairune_empty(limits: &[u32], store: &mut [u8]) -> u32
 
 // Reads a stream into a store. In `totals`: the count of reports, then records blank, obeyed, passed, dropped, and the closing number;
 // or 1, 2, 3, 4A to 4C.
-#[unsafe(no_mangle)]
-pub extern "C" fn sphairune_load(
+pub fn sphairune_load(
     limits: &[u32],
     store: &mut [u8],
     stream: &[u8],
@@ -157,8 +154,7 @@ pub extern "C" fn sphairune_load(
 
 // Reads a stream into a store as `sphairune_load` does, with its cues, groups and submasters numbered anew; or 1, 2, 3, 4A to 4C, and 7 for a desk
 // without groups or without submasters.
-#[unsafe(no_mangle)]
-pub extern "C" fn sphairune_translate(
+pub fn sphairune_translate(
     limits: &[u32],
     store: &mut [u8],
     stream: &[u8],
@@ -178,13 +174,7 @@ pub extern "C" fn sphairune_translate(
 }
 
 // Puts a store's show into `out` as one fixed stream; in `length` the length written, or with 6 the length needed; or 2, 3, 4A to 4C, 5.
-#[unsafe(no_mangle)]
-pub extern "C" fn sphairune_write(
-    limits: &[u32],
-    store: &[u8],
-    out: &mut [u8],
-    length: &mut [usize],
-) -> u32
+pub fn sphairune_write(limits: &[u32], store: &[u8], out: &mut [u8], length: &mut [usize]) -> u32
     ensures { WriteExport limits.now store.now out.old length.old
         result out.new length.new }
 {
@@ -193,8 +183,7 @@ pub extern "C" fn sphairune_write(
 }
 
 // Where in the store the levels of a kept cue begin, in `place`; or 255 where it is not kept; or 2, 3, 4A to 4C.
-#[unsafe(no_mangle)]
-pub extern "C" fn sphairune_find(
+pub fn sphairune_find(
     limits: &[u32],
     store: &[u8],
     page: u32,
@@ -212,8 +201,7 @@ pub extern "C" fn sphairune_find(
 
 // The slots of the kept memories of a kind (0 cues, 1 groups, 2 submasters), by page and number, in `slots`, as many as it has room for, and in
 // `count` how many are kept; or 255 for any other kind; or 2, 3, 4A to 4C. Slots count from 1 through the whole store.
-#[unsafe(no_mangle)]
-pub extern "C" fn sphairune_memories(
+pub fn sphairune_memories(
     limits: &[u32],
     store: &[u8],
     kind: u32,
@@ -234,8 +222,7 @@ pub extern "C" fn sphairune_memories(
 }
 
 // The values of a slot's head in `values`; or 255 where the desk has no such slot; or 2, 3.
-#[unsafe(no_mangle)]
-pub extern "C" fn sphairune_head(limits: &[u32], store: &[u8], slot: u32, values: &mut [u32]) -> u32
+pub fn sphairune_head(limits: &[u32], store: &[u8], slot: u32, values: &mut [u32]) -> u32
     ensures { HeadExport limits.now store.now slot values.old result values.new }
 {
     match show_read::head(desk_of(limits), store, slot) {
@@ -249,13 +236,7 @@ pub extern "C" fn sphairune_head(limits: &[u32], store: &[u8], slot: u32, values
 }
 
 // Where in the store a slot's levels begin, in `place`; or 255 where the desk has no such slot; or 2, 3.
-#[unsafe(no_mangle)]
-pub extern "C" fn sphairune_levels(
-    limits: &[u32],
-    store: &[u8],
-    slot: u32,
-    place: &mut [usize],
-) -> u32
+pub fn sphairune_levels(limits: &[u32], store: &[u8], slot: u32, place: &mut [usize]) -> u32
     ensures { LevelsExport limits.now store.now slot place.old result place.new }
 {
     let placed = show_read::levels(desk_of(limits), store, slot);
@@ -263,8 +244,7 @@ pub extern "C" fn sphairune_levels(
 }
 
 // What a dimmer is patched to, in `values`: channel, level, zero bits; or 255 where the desk has no such dimmer; or 2, 3.
-#[unsafe(no_mangle)]
-pub extern "C" fn sphairune_patch(
+pub fn sphairune_patch(
     limits: &[u32],
     store: &[u8],
     page: u32,
@@ -286,24 +266,21 @@ pub extern "C" fn sphairune_patch(
 // ---- what people read
 
 // A level in percent.
-#[unsafe(no_mangle)]
-pub extern "C" fn sphairune_percent(level: u8) -> u32
+pub fn sphairune_percent(level: u8) -> u32
     ensures { result ≡ byte_percent level }
 {
     value_level::byte_percent(level)
 }
 
 // The letter of a condition's severity.
-#[unsafe(no_mangle)]
-pub extern "C" fn sphairune_severity(condition: u32) -> u8
+pub fn sphairune_severity(condition: u32) -> u8
     ensures { result ≡ severity_of condition }
 {
     show_words::severity(condition)
 }
 
 // A time in tenths of a second as the written stream has it, in `out`, and its length in `length`; or 6 with the length needed.
-#[unsafe(no_mangle)]
-pub extern "C" fn sphairune_time_text(tenths: u32, out: &mut [u8], length: &mut [usize]) -> u32
+pub fn sphairune_time_text(tenths: u32, out: &mut [u8], length: &mut [usize]) -> u32
     ensures { TextExport (time_text tenths) out.old length.old result out.new length.new }
 {
     let written = show_words::time_text(tenths, out);
@@ -311,12 +288,7 @@ pub extern "C" fn sphairune_time_text(tenths: u32, out: &mut [u8], length: &mut 
 }
 
 // The standard's text for a condition in `out`, and its length in `length`; or 6 with the length needed.
-#[unsafe(no_mangle)]
-pub extern "C" fn sphairune_condition_text(
-    condition: u32,
-    out: &mut [u8],
-    length: &mut [usize],
-) -> u32
+pub fn sphairune_condition_text(condition: u32, out: &mut [u8], length: &mut [usize]) -> u32
     ensures { TextExport (condition_text condition) out.old length.old result out.new length.new }
 {
     let written = show_words::condition_text(condition, out);
