@@ -2,7 +2,7 @@
 -- by induction on the list.
 -- Assumes nothing.
 use mathlib.Core.Path.{◌≡◌, refl, sym, ap, ◌∙◌}
-use mathlib.Core.Bool.{Bool, true, false}
+use mathlib.Core.Bool.{Bool, true, false, cond, not}
 use mathlib.Core.List.{List, [], ◌∷◌, ◌++◌}
 use Prim.Native.Nat.{ℕ, zero, suc, ◌+◌, ◌-◌, ◌<◌, ◌≤◌, suc-le-suc}
 use native.Mathlib.Nat.{le_refl, zero-add, suc-add}
@@ -10,6 +10,10 @@ use native.Mathlib.Numerals.{add-one}
 use native.Mathlib.Omega.{arith}
 use lib.ListN.{length, get_or, take, drop, length-drop, length-append, drop_of_length-le}
 use lib.Seq.{drop-cons, get_or-drop}
+use borrow.Author.Tests.{lt-ltb, le-ltb}
+use Rattle.std.specs.List.{position, position_or_len}
+use Rattle.std.specs.Option.{unwrap_or}
+use Rattle.std.proofs.lemmas.List.Recursion.{is_position_or_len}
 use Rattle.cells.specs.Scan.{span}
 use Rattle.cells.proofs.Split.{cond-true, cond-false, by_bool, by_eq, by_lt, clash}
 
@@ -160,3 +164,20 @@ span_past p (c ∷ s) (suc n) h f =
     span_hit p c s (f 0 (omega arith))
     ∙ ap suc (span_past p s n (omega arith) (λ k l. f (suc k) (omega arith)))
     ∙ sym (suc-add n (span p (drop n s)))
+
+-- ---- as the library's `position` has it: the first place that passes p, or the end
+position_span : (p : ℕ → Bool) (s : List ℕ) → span (λ (c : ℕ). not (p c)) s ≡ position_or_len p s
+unfolding span
+position_span p s =
+    is_position_or_len (span (λ (c : ℕ). not (p c))) p refl
+    (λ c cs. by_bool (p c) (λ t. rw t refl) (λ t. rw t (let e : suc (span (λ (c : ℕ). not (p c)) cs) ≡ 1 + span (λ (c : ℕ). not (p c)) cs = omega arith in e)))
+    s
+
+pub span_position : (p : ℕ → Bool) (s : List ℕ) → unwrap_or (position p s) (length s) ≡ span (λ (c : ℕ). not (p c)) s
+span_position p s =
+    let n : ℕ = position_or_len p s in
+    let e : span (λ (c : ℕ). not (p c)) s ≡ n = position_span p s in
+    let h : span (λ (c : ℕ). not (p c)) s ≤ length s = span_le (λ (c : ℕ). not (p c)) s in
+    by_lt n (length s)
+    (λ l. rw (lt-ltb n (length s) l) (sym e))
+    (λ l. rw (le-ltb n (length s) l) (let f : length s ≡ span (λ (c : ℕ). not (p c)) s = omega arith in f))

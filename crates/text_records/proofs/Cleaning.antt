@@ -4,21 +4,24 @@
 use mathlib.Core.Path.{◌≡◌, refl, sym, ap, ◌∙◌, subst}
 use mathlib.Core.Bool.{Bool, true, false, cond, not, ◌||◌}
 use mathlib.Core.List.{List, [], ◌∷◌, ◌++◌, append-nil}
-use Prim.Native.Nat.{ℕ, zero, suc, ◌+◌, ◌≤◌, ◌<◌, max, zero-le, suc-le-suc}
+use Prim.Native.Nat.{ℕ, zero, suc, ◌+◌, ◌≤◌, ◌<◌, zero-le, suc-le-suc}
 use native.Mathlib.Numerals.{add-one}
 use native.Mathlib.Omega.{arith}
 use lib.Dec.{eqb, ltb, leb}
 use lib.ListN.{length, get_or, set, take, drop, length-append, drop_of_length-le, length-set}
 use lib.Seq.{drop-cons, append_snoc, length-take-le, take_at, take-append-le}
-use borrow.Author.Tests.{lt-ltb, le-ltb, ltb-true, ltb-false, lt-leb, le-leb, ne_eqb, eq-eqb, eqb-true, leb-true, leb-false, not-true}
+use borrow.Author.Tests.{le-ltb, lt-leb, le-leb, ne_eqb, eq-eqb, eqb-true, leb-true, leb-false, not-true}
+use Rattle.std.specs.List.{fold, position}
+use Rattle.std.specs.Option.{unwrap_or}
+use Rattle.std.proofs.Math.Bool.{or_assoc}
 use Rattle.cells.specs.Put.{put}
 use Rattle.cells.proofs.Put.{put_nil, put_zero, put_push, put_front, put_part, length-put, get_d_after}
-use Rattle.cells.proofs.Scan.{span_hit, span_miss, span_nil, span_le, span-take, all_below}
+use Rattle.cells.proofs.Scan.{span_hit, span_miss, span_nil, span_le, span-take, all_below, span_position}
 use Rattle.cells.proofs.Split.{by_test, by_bool, by_eq, cond-true, cond-false, or_false, or_left, or_right, or_true_left, or_true_right, or_none, not_of_true, not_of_false, not-not}
 use Rattle.text_records.specs.declared.Cleaned.{Cleaned}
 use Rattle.text_records.specs.declared.Seen.{Seen}
 use Rattle.text_records.specs.Cleaning.{is_high, is_control, is_mark, kept_of, has}
-use Rattle.text_records.specs.Window.{control_of, seen_of, is_kept, mark_of, InFront, in_front, cleaned_of}
+use Rattle.text_records.specs.Window.{seen_of, is_kept, mark_of, InFront, in_front, cleaned_of}
 
 -- ---- a character is of one sort
 pub high_control : (c : ℕ) → is_high c ≡ true → is_control c ≡ false
@@ -46,21 +49,14 @@ pub high_not : (c : ℕ) → c ≤ 127 → is_high c ≡ false
 unfolding is_high
 high_not c h = lt-leb 128 c (omega arith)
 
-high_above : (c : ℕ) → is_high c ≡ true → 127 < c
+pub high_as : (c : ℕ) → ltb 127 c ≡ is_high c
 unfolding is_high
-high_above c e = let h : 128 ≤ c = leb-true 128 c e in omega arith
+high_as c = refl
 
-high_below : (c : ℕ) → is_high c ≡ false → c ≤ 127
-unfolding is_high
-high_below c e = let h : c < 128 = leb-false 128 c e in omega arith
-
-pub mark_is : (c : ℕ) → c ≡ 33 → not (is_mark c) ≡ false
+-- where the first `!` stands, or the end
+pub mark_found : (s : List ℕ) → unwrap_or (position (λ (c : ℕ). eqb c 33) s) (length s) ≡ mark_of s
 unfolding is_mark
-mark_is c h = not_of_true (eqb c 33) (eq-eqb c 33 h)
-
-pub mark_not : (c : ℕ) → (c ≡ 33 → ⊥) → not (is_mark c) ≡ true
-unfolding is_mark
-mark_not c h = not_of_false (eqb c 33) (ne_eqb c 33 h)
+mark_found s = span_position (λ (c : ℕ). eqb c 33) s
 
 -- not ignored, as the code tests it
 pub kept_is : (c : ℕ) → is_kept c ≡ cond (leb 127 c) false (not (is_control c))
@@ -161,6 +157,12 @@ none_has p [] e k h = absurd (omega arith)
 none_has p (c ∷ cs) e zero h = or_left (p c) (has p cs) e
 none_has p (c ∷ cs) e (suc k) h = none_has p cs (or_right (p c) (has p cs) e) k (omega arith)
 
+-- a fold over all of them finds it
+pub has_folded : (p : ℕ → Bool) (b : Bool) (s : List ℕ) → fold (λ (f : Bool) (c : ℕ). f || p c) b s ≡ (b || has p s)
+unfolding has
+has_folded p b [] = sym (or_none b)
+has_folded p b (c ∷ s) = has_folded p (b || p c) s ∙ or_assoc b (p c) (has p s)
+
 -- without ignored characters all is kept up to the `!`
 kept_all : (xs : List ℕ) → has is_high xs ≡ false → has is_control xs ≡ false → kept_of xs ≡ take (mark_of xs) xs
 unfolding has
@@ -198,38 +200,6 @@ module _ (p : ℕ → Bool) (s : List ℕ) (i : ℕ) (b : Bool) {a m : Bool} whe
       (λ t. looked_this l refl t (g ∙ or_true_right b (p (get_or s i 0)) t) h)
       (λ t. looked_past l refl t (g ∙ ap (λ (x : Bool). b || x) t ∙ or_none b) h)
 
--- the largest so far tells it
-pub high_grown : (m c : ℕ) {r : ℕ} → r ≡ max m c → ltb 127 r ≡ (ltb 127 m || is_high c)
-high_grown m c {r} e =
-    by_bool (is_high c)
-    (λ t. lt-ltb 127 r (let h : 127 < c = high_above c t in omega (arith, e)) ∙ sym (or_true_right (ltb 127 m) (is_high c) t))
-    (λ t.
-    let h : c ≤ 127 = high_below c t in
-    by_bool (ltb 127 m)
-    (λ u. lt-ltb 127 r (let k : 127 < m = ltb-true 127 m u in omega (arith, e)) ∙ sym (or_true_left (ltb 127 m) (is_high c) u))
-    (λ u. le-ltb 127 r (let k : m ≤ 127 = ltb-false 127 m u in omega (arith, e)) ∙ sym (or_false (ltb 127 m) (is_high c) u t)))
-
-pub control_is : (c : ℕ) → is_control c ≡ true → 1 ≡ control_of c
-unfolding control_of
-control_is c t = sym (cond-true (is_control c) 1 0 t)
-
-pub control_not : (c : ℕ) → is_control c ≡ false → ◌≡◌ {A = ℕ} 0 (control_of c)
-unfolding control_of
-control_not c t = sym (cond-false (is_control c) 1 0 t)
-
-pub control_grown : (m c : ℕ) {k r : ℕ} → k ≡ control_of c → r ≡ max m k → ltb 0 r ≡ (ltb 0 m || is_control c)
-unfolding control_of
-control_grown m c {k} {r} e f =
-    by_bool (is_control c)
-    (λ t.
-    let h : k ≡ 1 = e ∙ cond-true (is_control c) 1 0 t in
-    lt-ltb 0 r (let q : 0 < r = omega (arith, f) in q) ∙ sym (or_true_right (ltb 0 m) (is_control c) t))
-    (λ t.
-    let h : k ≡ 0 = e ∙ cond-false (is_control c) 1 0 t in
-    by_bool (ltb 0 m)
-    (λ u. lt-ltb 0 r (let q : 0 < m = ltb-true 0 m u in omega (arith, f)) ∙ sym (or_true_left (ltb 0 m) (is_control c) u))
-    (λ u. le-ltb 0 r (let q : m ≤ 0 = ltb-false 0 m u in omega (arith, f)) ∙ sym (or_false (ltb 0 m) (is_control c) u t)))
-
 pub looked_all : (p : ℕ → Bool) (s : List ℕ) (i : ℕ) {a b : Bool} → length s ≤ i → (b || has p (drop i s)) ≡ a → b ≡ a
 unfolding has
 looked_all p s i {a} {b} l h =
@@ -254,11 +224,8 @@ pub squeezed_none : (s : List ℕ) → Squeezed s s 0 0
 squeezed_none s =
     record { ks = []; within = zero-le; long = refl; size = refl; few = zero-le; held = sym (put_nil s 0); same = refl }
 
-module _ (s₀ s : List ℕ) (n i : ℕ) {t : Bool} (o : Squeezed s₀ s n i) (w : mark_of s₀ ≡ length s₀) (l : i < length s)
+module _ (s₀ s : List ℕ) (n i : ℕ) {t : Bool} (o : Squeezed s₀ s n i) (w : mark_of s₀ ≡ length s₀) (l : i < length s₀)
     (e : t ≡ is_kept (get_or s i 0)) where
-  here : i < length s₀
-  here = omega (arith, o.long)
-
   -- what stands at place i was not yet written to
   as_was : get_or s i 0 ≡ get_or s₀ i 0
   as_was =
@@ -266,7 +233,7 @@ module _ (s₀ s : List ℕ) (n i : ℕ) {t : Bool} (o : Squeezed s₀ s n i) (w
       ap (λ (z : List ℕ). get_or z i 0) o.held ∙ get_d_after s₀ 0 o.ks i h zero-le
 
   no_mark : is_mark (get_or s₀ i 0) ≡ false
-  no_mark = not-true (is_mark (get_or s₀ i 0)) (all_below unmarked s₀ w i here)
+  no_mark = not-true (is_mark (get_or s₀ i 0)) (all_below unmarked s₀ w i l)
 
   ignored : {b : Bool} → t ≡ b → (is_high (get_or s₀ i 0) || is_control (get_or s₀ i 0)) ≡ not b
   unfolding is_kept
@@ -275,17 +242,17 @@ module _ (s₀ s : List ℕ) (n i : ℕ) {t : Bool} (o : Squeezed s₀ s n i) (w
 
   is_at : {ys : List ℕ} → kept_of (get_or s₀ i 0 ∷ drop (i + 1) s₀) ≡ ys → kept_of s₀ ≡ o.ks ++ ys
   is_at f =
-      o.same ∙ ap (λ (xs : List ℕ). o.ks ++ kept_of xs) (front s₀ i here) ∙ ap (λ (ys : List ℕ). o.ks ++ ys) f
+      o.same ∙ ap (λ (xs : List ℕ). o.ks ++ kept_of xs) (front s₀ i l) ∙ ap (λ (ys : List ℕ). o.ks ++ ys) f
 
   pub squeezed_kept : {z : List ℕ} {m : ℕ} → t ≡ true → z ≡ set s n (get_or s i 0) → m ≡ n + 1 → Squeezed s₀ z m (i + 1)
   squeezed_kept f u v =
       let c = get_or s₀ i 0 in
       let g : (is_high c || is_control c) ≡ false = ignored f in
-      let r : n < length s₀ = omega (arith, o.few, here) in
+      let r : n < length s₀ = omega (arith, o.few) in
       let q : n ≡ 0 + length o.ks = omega (arith, o.size) in
       record {
         ks = o.ks ++ (c ∷ []);
-        within = omega (arith, here);
+        within = omega arith;
         long = ap (λ (x : List ℕ). length x) u ∙ length-set s n (get_or s i 0) ∙ o.long;
         size = v ∙ ap (λ (x : ℕ). x + 1) o.size ∙ sym (length-append o.ks (c ∷ []));
         few = omega (arith, o.few);
@@ -300,7 +267,7 @@ module _ (s₀ s : List ℕ) (n i : ℕ) {t : Bool} (o : Squeezed s₀ s n i) (w
   squeezed_past f u v =
       record {
         ks = o.ks;
-        within = omega (arith, here);
+        within = omega arith;
         long = ap (λ (x : List ℕ). length x) u ∙ o.long;
         size = v ∙ o.size;
         few = omega (arith, o.few);
@@ -308,12 +275,11 @@ module _ (s₀ s : List ℕ) (n i : ℕ) {t : Bool} (o : Squeezed s₀ s n i) (w
         same = is_at (kept_past (get_or s₀ i 0) (drop (i + 1) s₀) (ignored f) no_mark);
       }
 
-module _ (s₀ s : List ℕ) (n i : ℕ) (o : Squeezed s₀ s n i) (l : length s ≤ i) where
+module _ (s₀ s : List ℕ) (n i : ℕ) (o : Squeezed s₀ s n i) (l : length s₀ ≤ i) where
   all_there : kept_of s₀ ≡ o.ks
   unfolding kept_of
   all_there =
-      let h : length s₀ ≤ i = omega (arith, o.long) in
-      o.same ∙ ap (λ (xs : List ℕ). o.ks ++ kept_of xs) (drop_of_length-le s₀ h) ∙ append-nil o.ks
+      o.same ∙ ap (λ (xs : List ℕ). o.ks ++ kept_of xs) (drop_of_length-le s₀ l) ∙ append-nil o.ks
 
   pub squeezed_count : n ≡ length (kept_of s₀)
   squeezed_count = o.size ∙ ap (λ (k : List ℕ). length k) (sym all_there)

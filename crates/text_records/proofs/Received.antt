@@ -3,18 +3,16 @@
 -- Assumes nothing.
 use mathlib.Core.Path.{◌≡◌, sym, ap, ◌∙◌}
 use mathlib.Core.Bool.{false}
-use mathlib.Core.List.{List, ◌++◌}
-use Prim.Native.Nat.{ℕ, ◌+◌, ◌-◌, ◌≤◌, ◌<◌, min}
+use mathlib.Core.List.{List, ◌++◌, append-nil}
+use Prim.Native.Nat.{ℕ, ◌+◌, ◌-◌, ◌≤◌, min}
 use lib.Dec.{ltb}
 use borrow.Author.Tests.{ltb-false}
-use native.Mathlib.Nat.{le_refl}
-use native.Mathlib.Numerals.{add-one}
 use native.Mathlib.Omega.{arith}
-use lib.ListN.{length, get_or, set, take, drop, replicate, length-drop, length-take}
-use lib.Seq.{take_all, take-suc, take-take, take-append-le, length-take-le}
+use lib.ListN.{length, take, drop, replicate, length-drop, length-take}
+use lib.Seq.{take_all, take-take, take-append-le, length-take-le}
 use Rattle.cells.specs.Pad.{padded}
 use Rattle.cells.specs.Put.{put}
-use Rattle.cells.proofs.Pad.{drop-replicate, length-padded, padded_nil, padded_add}
+use Rattle.cells.proofs.Pad.{drop-replicate, length-padded}
 use Rattle.cells.proofs.Put.{put_zero, tail_is}
 use Rattle.text_records.specs.declared.Record.{Record}
 use Rattle.text_records.specs.Received.{longest}
@@ -58,24 +56,13 @@ received_part s at end e h g =
     let l : length (drop at s) ≡ length s - at = length-drop at s in
     received_text (drop at s) (end - at) e h (omega arith)
 
--- ---- the first i bytes are in the array
-pub filled_none : (s : List ℕ) → replicate longest 0 ≡ padded longest (take 0 s)
-filled_none s = sym (padded_nil longest)
-
-pub filled_more : (s : List ℕ) (i : ℕ) {b : List ℕ} → length s ≡ longest → i < longest → b ≡ padded longest (take i s)
-    → set b i (get_or s i 0) ≡ padded longest (take (i + 1) s)
-filled_more s i h l e =
-    let k : i < length s = omega arith in
-    let m : i ≤ length s = omega arith in
-    padded_add longest (take i s) i (get_or s i 0) e (sym (length-take-le i s m)) l
-    ∙ ap (padded longest) (sym (take-suc s i 0 k) ∙ ap (λ (j : ℕ). take j s) (sym (add-one i)))
-
--- all of them: the record
-pub filled_all : (s : List ℕ) (i n : ℕ) {b : List ℕ} → i ≡ longest → b ≡ padded longest (take i s)
-    → ◌≡◌ {A = Record} (record { bytes = b; count = n }) (window_of s n)
-unfolding window_of
-filled_all s i n e f =
-    let g = f ∙ ap (λ (k : ℕ). padded longest (take k s)) e in
+-- ---- the first 80 bytes: the record
+pub whole_all : (s : List ℕ) (n : ℕ) {b : List ℕ} → longest ≤ length s → b ≡ take longest s → ◌≡◌ {A = Record} (record { bytes = b; count = n }) (window_of s n)
+unfolding window_of padded
+whole_all s n h e =
+    let l : length (take longest s) ≡ longest = length-take-le longest s h in
+    let z : longest - length (take longest s) ≡ 0 = omega arith in
+    let g = e ∙ sym (ap (λ (k : ℕ). take longest s ++ replicate k 0) z ∙ append-nil (take longest s)) in
     λ j. record { bytes = g j; count = n }
 
 -- fewer in one copy
@@ -87,14 +74,6 @@ copied_all s n h f =
     ∙ ap (padded longest) (sym (take_all longest s h)) in
     λ j. record { bytes = g j; count = n }
 
--- ---- of a stream, the 80 bytes from a place on, or all that are left
-pub window_front : (s : List ℕ) (at last n : ℕ) {r : Record} → last ≡ at + longest → r ≡ window_of (take (last - at) (drop at s)) n
-    → r ≡ window_of (drop at s) n
-unfolding window_of
-window_front s at last n e f =
-    let k : last - at ≡ longest = omega arith in
-    f ∙ ap (λ (j : ℕ). window_of (take j (drop at s)) n) k
-    ∙ ap (λ (z : List ℕ). record { bytes = padded longest z; count = n }) (take-take longest longest (drop at s) (le_refl longest))
-
+-- ---- of a stream, all that is left from a place on
 pub window_rest : (s : List ℕ) (at n : ℕ) {r : Record} → r ≡ window_of (take (length s - at) (drop at s)) n → r ≡ window_of (drop at s) n
 window_rest s at n f = f ∙ ap (λ (z : List ℕ). window_of z n) (tail_is s at)

@@ -1,12 +1,6 @@
--- `cells::fill` meets its contract: after i turns the first i bytes are v and the rest is as it was.
-use mathlib.Core.Path.{◌≡◌}
-use mathlib.Core.List.{◌++◌}
-use Prim.Native.Nat.{◌≤◌, ◌-◌}
-use lib.ListN.{length, drop, replicate}
+-- `fill` meets its contract: so far as the loop has come the bytes are v, and the rest is as it was.
+use Rattle.std.proofs.Common.{◌≡◌, ◌++◌, drop, replicate}
 use Rattle.cells.proofs.fill.Given as goal
 
-abbrev pub invariant-loop-i : goal.invariant-loop-i
-invariant-loop-i l = (l.i ≤ length l.initial.s) × (l.s ≡ replicate l.i l.v ++ drop l.i l.initial.s) × (length l.s ≡ length l.initial.s)
-
-abbrev pub decreases-loop-i : goal.decreases-loop-i
-decreases-loop-i l = length l.initial.s - l.i
+abbrev pub invariant-loop-x : goal.invariant-loop-x
+invariant-loop-x l = l.s ≡ replicate l.x-index l.v ++ drop l.x-index l.initial.s

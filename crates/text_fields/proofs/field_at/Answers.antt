@@ -1,4 +1,4 @@
--- `fields::field_at` meets its contract: the two scans find where the field starts and ends.
+-- `text_fields::field_at` meets its contract: the two scans find where the field starts and ends.
 use mathlib.Core.Path.{subst, sym}
 use Prim.Native.Nat.{ℕ, ◌≤◌}
 use lib.ListN.{length}

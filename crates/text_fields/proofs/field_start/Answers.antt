@@ -1,5 +1,7 @@
--- `fields::field_start` meets its contract: the place where the scan from `i` ends is the place where the scan from `at` ends.
-use mathlib.Core.Path.{refl}
+-- `text_fields::field_start` meets its contract: the place where the scan from `i` ends is the place where the scan from `at` ends.
+use mathlib.Core.Path.{◌≡◌, refl, ◌∙◌}
+use Prim.Native.Nat.{◌≤◌}
+use lib.ListN.{length}
 use native.Mathlib.Omega.{arith}
 use Rattle.cells.proofs.Scan.{scan_turn, scan_stop, scan_end}
 use Rattle.text_fields.specs.Words.{is_delimiter}
@@ -17,4 +19,7 @@ pub loop-i-preserved : goal.loop-i-preserved
 loop-i-preserved c = (omega arith, scan_turn is_delimiter _ _ c.loop-i-test.true c.is_delimiter.ensures c.if-not-is_delimiter.false c.loop-i.invariant.1)
 
 pub returns : goal.returns
-returns c = scan_end is_delimiter _ _ c.loop-i-test.false c.loop-i.invariant.1
+returns c =
+    let within : c.loop-i.i ≤ length c.args.text.now = c.loop-i.invariant.0 in
+    let over : length c.args.text.now ≡ c.loop-i.i = omega arith in
+    over ∙ scan_end is_delimiter _ _ (omega arith) c.loop-i.invariant.1

@@ -1,4 +1,4 @@
--- `fields::is_chan` meets its contract: its four characters are looked at one by one, and then where they end.
+-- `text_fields::is_chan` meets its contract: its four characters are looked at one by one, and then where they end.
 use Rattle.text_fields.proofs.Runs.{chan_short, chan_first, chan_second, chan_third, chan_fourth, chan_ends}
 use Rattle.text_fields.proofs.is_chan.Goals as goal
 

@@ -1,4 +1,4 @@
--- `fields::is_delimiter` meets its contract: the tests that led to each answer, by the laws of classes.
+-- `text_fields::is_delimiter` meets its contract: the tests that led to each answer, by the laws of classes.
 use Rattle.text_fields.proofs.Classes.{delimiter_low, delimiter_past, delimiter_bit}
 use Rattle.std.proofs.Common.{rules}
 use Rattle.text_fields.proofs.is_delimiter.Goals as goal

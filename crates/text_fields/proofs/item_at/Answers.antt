@@ -1,4 +1,4 @@
--- `fields::item_at` meets its contract: the number made in the scan decides.
+-- `text_fields::item_at` meets its contract: the number made in the scan decides.
 use Rattle.text_fields.proofs.Runs.{said_item_by}
 use Rattle.text_fields.proofs.item_at.Goals as goal
 

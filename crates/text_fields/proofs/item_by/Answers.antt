@@ -1,29 +1,30 @@
--- `fields::item_by` meets its contract: the number of each name is computed, and the rows are asked in order.
+-- `text_fields::item_by` meets its contract: the number of each name is computed, and the rows are asked in order.
+use Rattle.std.proofs.Common.{◌≡◌, arith}
 use Rattle.text_fields.specs.Keywords.{upper, item_rows}
-use Rattle.text_fields.specs.Tables.{letter_of, field_key}
-use Rattle.text_fields.proofs.Keys.{row_hit, row_miss, row_none}
+use Rattle.text_fields.specs.Tables.{letter_of, field_key, meaning_by}
+use Rattle.text_fields.proofs.Keys.{row_miss, row_none}
 use Rattle.text_fields.proofs.item_by.Goals as goal
 
-pub returns-then-k-eq-ALL : goal.returns-then-k-eq-ALL
-unfolding item_rows field_key letter_of upper
-returns-then-k-eq-ALL c = row_hit _ _ _ _ c.if-k-eq-ALL.true
+pub returns-in-12673 : goal.returns-in-12673
+unfolding item_rows field_key letter_of upper meaning_by
+returns-in-12673 c = rw c.in-12673.is
 
-pub returns-then-k-eq-CUES : goal.returns-then-k-eq-CUES
-unfolding item_rows field_key letter_of upper
-returns-then-k-eq-CUES c = row_miss _ _ _ _ c.if-k-eq-ALL.false (row_hit _ _ _ _ c.if-k-eq-CUES.true)
+pub returns-in-628387 : goal.returns-in-628387
+unfolding item_rows field_key letter_of upper meaning_by
+returns-in-628387 c = rw c.in-628387.is
 
-pub returns-then-k-eq-GROUPS : goal.returns-then-k-eq-GROUPS
-unfolding item_rows field_key letter_of upper
-returns-then-k-eq-GROUPS c = row_miss _ _ _ _ c.if-k-eq-ALL.false (row_miss _ _ _ _ c.if-k-eq-CUES.false (row_hit _ _ _ _ c.if-k-eq-GROUPS.true))
+pub returns-in-655015495 : goal.returns-in-655015495
+unfolding item_rows field_key letter_of upper meaning_by
+returns-in-655015495 c = rw c.in-655015495.is
 
-pub returns-then-k-eq-PATCH : goal.returns-then-k-eq-PATCH
-unfolding item_rows field_key letter_of upper
-returns-then-k-eq-PATCH c = row_miss _ _ _ _ c.if-k-eq-ALL.false (row_miss _ _ _ _ c.if-k-eq-CUES.false (row_miss _ _ _ _ c.if-k-eq-GROUPS.false (row_hit _ _ _ _ c.if-k-eq-PATCH.true)))
+pub returns-in-8507440 : goal.returns-in-8507440
+unfolding item_rows field_key letter_of upper meaning_by
+returns-in-8507440 c = rw c.in-8507440.is
 
-pub returns-then-k-eq-SUBMASTERS : goal.returns-then-k-eq-SUBMASTERS
-unfolding item_rows field_key letter_of upper
-returns-then-k-eq-SUBMASTERS c = row_miss _ _ _ _ c.if-k-eq-ALL.false (row_miss _ _ _ _ c.if-k-eq-CUES.false (row_miss _ _ _ _ c.if-k-eq-GROUPS.false (row_miss _ _ _ _ c.if-k-eq-PATCH.false (row_hit _ _ _ _ c.if-k-eq-SUBMASTERS.true))))
+pub returns-in-688488191527603 : goal.returns-in-688488191527603
+unfolding item_rows field_key letter_of upper meaning_by
+returns-in-688488191527603 c = rw c.in-688488191527603.is
 
-pub returns : goal.returns
+pub returns-in_default : goal.returns-in_default
 unfolding item_rows field_key letter_of upper
-returns c = row_miss _ _ _ _ c.if-k-eq-ALL.false (row_miss _ _ _ _ c.if-k-eq-CUES.false (row_miss _ _ _ _ c.if-k-eq-GROUPS.false (row_miss _ _ _ _ c.if-k-eq-PATCH.false (row_miss _ _ _ _ c.if-k-eq-SUBMASTERS.false (row_none _ _)))))
+returns-in_default c = row_miss _ _ _ _ (λ (e : c.args.k ≡ 12673). omega arith) (row_miss _ _ _ _ (λ (e : c.args.k ≡ 628387). omega arith) (row_miss _ _ _ _ (λ (e : c.args.k ≡ 655015495). omega arith) (row_miss _ _ _ _ (λ (e : c.args.k ≡ 8507440). omega arith) (row_miss _ _ _ _ (λ (e : c.args.k ≡ 688488191527603). omega arith) (row_none _ _)))))

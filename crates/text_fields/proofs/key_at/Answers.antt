@@ -1,4 +1,4 @@
--- `fields::key_at` meets its contract: the key so far is that of the characters before `i`, by the laws of the key made on the way.
+-- `text_fields::key_at` meets its contract: the key so far is that of the characters before `i`, by the laws of the key made on the way.
 use native.Mathlib.Omega.{arith}
 use Rattle.text_fields.proofs.Runs.{keying_start, keying_turn, keying_past, keying_stop, keying_end, letter_product, key_turn_low}
 use Rattle.text_fields.proofs.key_at.Goals as goal
@@ -26,4 +26,4 @@ loop-i-preserved c =
     ]
 
 pub returns : goal.returns
-returns c = keying_end c.loop-i.invariant c.loop-i-test.false
+returns c = keying_end c.loop-i.invariant (omega arith)

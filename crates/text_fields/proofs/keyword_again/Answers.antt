@@ -1,4 +1,4 @@
--- `fields::keyword_again` meets its contract: every keyword by its number.
+-- `text_fields::keyword_again` meets its contract: every keyword by its number.
 use Rattle.text_fields.proofs.Runs.{said_by_lem}
 use Rattle.text_fields.proofs.keyword_again.Goals as goal
 

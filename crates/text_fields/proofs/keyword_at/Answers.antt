@@ -1,4 +1,4 @@
--- `fields::keyword_at` meets its contract: CHAN by the quick test, every other keyword by its number.
+-- `text_fields::keyword_at` meets its contract: CHAN by the quick test, every other keyword by its number.
 use mathlib.Core.Path.{sym, ◌∙◌}
 use Rattle.text_fields.proofs.Runs.{said_chan, said_by_lem}
 use Rattle.text_fields.proofs.keyword_at.Goals as goal

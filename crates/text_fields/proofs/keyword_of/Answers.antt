@@ -1,12 +1,12 @@
--- `fields::keyword_of` meets its contract: a `$` decides before any name.
+-- `text_fields::keyword_of` meets its contract: a `$` decides before any name.
 use Rattle.text_fields.proofs.Keys.{by_comment, by_local, by_keyword}
 use Rattle.text_fields.proofs.keyword_of.Goals as goal
 
-pub returns-then-second-eq-DOLLAR : goal.returns-then-second-eq-DOLLAR
-returns-then-second-eq-DOLLAR c = by_comment _ _ _ c.if-first-eq-DOLLAR.true c.if-second-eq-DOLLAR.true
+pub returns-in-36-eq36 : goal.returns-in-36-eq36
+returns-in-36-eq36 c = by_comment _ _ _ c.in-36-eq36.is-0 c.in-36-eq36.is-1
 
-pub returns-then-first-eq-DOLLAR : goal.returns-then-first-eq-DOLLAR
-returns-then-first-eq-DOLLAR c = by_local _ _ _ c.if-first-eq-DOLLAR.true c.if-second-eq-DOLLAR.false
+pub returns-in-36-default : goal.returns-in-36-default
+returns-in-36-default c = by_local _ _ _ c.in-36-default.is-0 c.in-36-default.is-1.1
 
-pub returns : goal.returns
-returns c = by_keyword _ _ _ c.if-first-eq-DOLLAR.false c.keyword_by.ensures
+pub returns-in_default : goal.returns-in_default
+returns-in_default c = by_keyword _ _ _ c.in_default.is-0.1 c.keyword_by.ensures

@@ -1,4 +1,4 @@
--- `fields::letter` meets its contract: the tests that led to each answer decide those of the definition.
+-- `text_fields::letter` meets its contract: the arm that was taken decides the tests of the definition.
 use mathlib.Core.Path.{◌≡◌}
 use Prim.Native.Nat.{◌-◌}
 use native.Mathlib.Omega.{arith}
@@ -7,22 +7,22 @@ use Rattle.text_fields.specs.Keywords.{upper}
 use Rattle.text_fields.specs.Tables.{letter_of}
 use Rattle.text_fields.proofs.letter.Goals as goal
 
-pub returns-then-c-lt65 : goal.returns-then-c-lt65
+pub returns-in-65-to-90 : goal.returns-in-65-to-90
 unfolding letter_of upper
-returns-then-c-lt65 c = let x = c.args.c in simp (lt-leb 97 x (omega arith), lt-leb 65 x c.if-c-lt65.true)
+returns-in-65-to-90 c = let x = c.args.c in let e = c.from.ensures in simp (lt-leb 97 x (omega arith), le-leb 65 x (omega arith), le-leb x 90 (omega arith)) (let z : c.from.result ≡ x - 64 = omega arith in z)
 
-pub returns-then-c-le90 : goal.returns-then-c-le90
+pub returns-in-97-to-122 : goal.returns-in-97-to-122
 unfolding letter_of upper
-returns-then-c-le90 c = let x = c.args.c in simp (lt-leb 97 x (omega arith), le-leb 65 x c.if-c-lt65.false, le-leb x 90 c.if-c-le90.true)
+returns-in-97-to-122 c = let x = c.args.c in let e = c.from-in-97-to-122.ensures in simp (le-leb 97 x (omega arith), le-leb x 122 (omega arith), le-leb 65 (x - 32) (omega arith), le-leb (x - 32) 90 (omega arith)) (let z : c.from-in-97-to-122.result ≡ x - 32 - 64 = omega arith in z)
 
-pub returns-then-c-lt97 : goal.returns-then-c-lt97
+pub returns-in_default : goal.returns-in_default
 unfolding letter_of upper
-returns-then-c-lt97 c = let x = c.args.c in simp (lt-leb 97 x c.if-c-lt97.true, lt-leb x 90 c.if-c-le90.false, le-leb 65 x (omega arith))
+returns-in_default c = let x = c.args.c in simp (lt-leb 97 x (omega arith), lt-leb 65 x (omega arith))
 
-pub returns-then-c-le122 : goal.returns-then-c-le122
+pub returns-in_default-2 : goal.returns-in_default-2
 unfolding letter_of upper
-returns-then-c-le122 c = let x = c.args.c in simp (le-leb 97 x c.if-c-lt97.false, le-leb x 122 c.if-c-le122.true, le-leb 65 (x - 32) (omega arith), le-leb (x - 32) 90 (omega arith)) (let z : x - 96 ≡ x - 32 - 64 = omega arith in z)
+returns-in_default-2 c = let x = c.args.c in simp (lt-leb 97 x (omega arith), lt-leb x 90 (omega arith), le-leb 65 x (omega arith))
 
-pub returns : goal.returns
+pub returns-in_default-3 : goal.returns-in_default-3
 unfolding letter_of upper
-returns c = let x = c.args.c in simp (lt-leb x 122 c.if-c-le122.false, le-leb 65 x (omega arith), le-leb 97 x (omega arith), lt-leb x 90 (omega arith))
+returns-in_default-3 c = let x = c.args.c in simp (lt-leb x 122 (omega arith), le-leb 65 x (omega arith), le-leb 97 x (omega arith), lt-leb x 90 (omega arith))

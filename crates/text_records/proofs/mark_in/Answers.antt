@@ -1,26 +1,15 @@
--- `records::mark_in` meets its contract: the place where the scan from `i` ends is the place where the whole scan ends.
-use mathlib.Core.Path.{refl}
-use mathlib.Core.Bool.{Bool, not}
-use Prim.Native.Nat.{ℕ}
-use native.Mathlib.Nat.{zero-add}
-use native.Mathlib.Omega.{arith}
-use Rattle.cells.proofs.Scan.{scan_turn, scan_stop, scan_end}
-use Rattle.text_records.specs.Cleaning.{is_mark}
-use Rattle.text_records.proofs.Cleaning.{mark_is, mark_not}
-use Rattle.std.proofs.Common.{rules}
+-- `mark_in` meets its contract: the first place that passes is where the scan of the others ends.
+use Rattle.std.proofs.Common.{◌≡◌, eqb, ap, ◌∙◌, length, rules, tests}
+use Rattle.std.specs.List.{position}
+use Rattle.std.specs.Option.{unwrap_or}
+use Rattle.std.proofs.lemmas.Iterator.{YieldsList-from_slice}
+use Rattle.std.proofs.lemmas.Iterator.Search.{position_from_yields_List}
+use Rattle.text_records.proofs.Cleaning.{mark_found}
 use Rattle.text_records.proofs.mark_in.Goals as goal
 
-abbrev unmarked : ℕ → Bool
-unmarked c = not (is_mark c)
-
-pub loop-i-init : goal.loop-i-init
-loop-i-init c = (search rules, zero-add _)
-
-pub returns-then-s-i-eq-MARK : goal.returns-then-s-i-eq-MARK
-returns-then-s-i-eq-MARK c = scan_stop unmarked _ _ c.loop-i-test.true refl (mark_is _ c.if-s-i-eq-MARK.true) c.loop-i.invariant.1
-
-pub loop-i-preserved : goal.loop-i-preserved
-loop-i-preserved c = (omega arith, scan_turn unmarked _ _ c.loop-i-test.true refl (mark_not _ c.if-s-i-eq-MARK.false) c.loop-i.invariant.1)
-
 pub returns : goal.returns
-returns c = scan_end unmarked _ _ c.loop-i-test.false c.loop-i.invariant.1
+returns c =
+    let s = c.args.s.now in
+    let e : c.position.result ≡ position (λ x. eqb x 33) s =
+    position_from_yields_List (λ x. eqb x 33) _ _ _ c.position.ensures.ran (YieldsList-from_slice s cc) (λ x b q k. search (rules, tests)) in
+    c.unwrap_or.ensures ∙ ap (λ r. unwrap_or r (length s)) e ∙ mark_found s
