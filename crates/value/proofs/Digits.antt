@@ -1,10 +1,11 @@
 -- Digit runs: what each character counts; a run read from the front, its value cut early or late alike; how large a run's value can be.
 -- By cases on the tests, and by induction on the characters.
 -- Assumes nothing.
+use Rattle.std.specs.Prelude.{None, Option, Some}
 use mathlib.Core.Path.{◌≡◌, refl, sym, ap, ◌∙◌, subst}
 use mathlib.Core.List.{List, [], ◌∷◌}
 use Prim.Native.Nat.{ℕ, suc, ◌+◌, ◌-◌, ◌*◌, ◌^◌, ◌<◌, ◌≤◌, min}
-use native.Mathlib.Nat.{le-mul_of_pos_right, mul-le-mul, pow-zero, pow-suc, mul-one, mul_assoc, mul_comm, min-le_right, min-le_left, one-mul}
+use native.Mathlib.Nat.{le-mul_of_pos_right, pow-zero, pow-suc, mul-one, mul_assoc, mul_comm, min-le_right, min-le_left, one-mul}
 use native.Mathlib.Numerals.{add-one}
 use native.Mathlib.Omega.{arith}
 use lib.Dec.{ltb}
@@ -13,8 +14,6 @@ use lib.Seq.{drop-cons}
 use lib.Arith.{digits_lt}
 use borrow.Author.Tests.{lt-ltb, le-ltb, le-leb, lt-leb}
 use Rattle.cells.proofs.Split.{by_lt, cond-true, cond-false}
-use Rattle.value.specs.declared.Integer.{Integer}
-use Rattle.value.specs.declared.Integer.TheVariants.{Malformed, Value}
 use Rattle.value.specs.Integer.{cap, digit_of, digits_from, run_of, integer_of, AtMost}
 
 -- ---- what a character counts
@@ -65,17 +64,17 @@ digit_high c g =
     rw (le-ltb c 48 k, lt-leb c 57 l, le-ltb c 65 m, lt-leb c 70 n, le-ltb c 97 o, lt-leb c 102 g)
 
 -- ---- one digit
-pub digits_nil : (r a : ℕ) → digits_from r a [] ≡ Value (min a cap)
+pub digits_nil : (r a : ℕ) → digits_from r a [] ≡ Some (min a cap)
 unfolding digits_from
 digits_nil r a = refl
 
 pub digits_cons : (r a c : ℕ) (s : List ℕ) → digit_of c < r → digits_from r a (c ∷ s) ≡ digits_from r (a * r + digit_of c) s
 unfolding digits_from
-digits_cons r a c s h = cond-true (ltb (digit_of c) r) (digits_from r (a * r + digit_of c) s) Malformed (lt-ltb (digit_of c) r h)
+digits_cons r a c s h = cond-true (ltb (digit_of c) r) (digits_from r (a * r + digit_of c) s) None (lt-ltb (digit_of c) r h)
 
-pub digits_other : (r a c : ℕ) (s : List ℕ) → r ≤ digit_of c → digits_from r a (c ∷ s) ≡ Malformed
+pub digits_other : (r a c : ℕ) (s : List ℕ) → r ≤ digit_of c → digits_from r a (c ∷ s) ≡ None
 unfolding digits_from
-digits_other r a c s h = cond-false (ltb (digit_of c) r) (digits_from r (a * r + digit_of c) s) Malformed (le-ltb (digit_of c) r h)
+digits_other r a c s h = cond-false (ltb (digit_of c) r) (digits_from r (a * r + digit_of c) s) None (le-ltb (digit_of c) r h)
 
 -- ---- cutting early changes nothing
 pub cap_step : (r a b d : ℕ) → 0 < r → min a cap ≡ min b cap → min (a * r + d) cap ≡ min (b * r + d) cap
@@ -88,7 +87,7 @@ cap_step r a b d h e =
     omega arith)
 
 pub digits_cap : (r : ℕ) → 0 < r → (s : List ℕ) (a b : ℕ) → min a cap ≡ min b cap → digits_from r a s ≡ digits_from r b s
-digits_cap r h [] a b e = digits_nil r a ∙ ap Value e ∙ sym (digits_nil r b)
+digits_cap r h [] a b e = digits_nil r a ∙ ap Some e ∙ sym (digits_nil r b)
 digits_cap r h (c ∷ s) a b e =
     by_lt (digit_of c) r
     (λ l.
@@ -98,10 +97,7 @@ digits_cap r h (c ∷ s) a b e =
     (λ l. digits_other r a c s l ∙ sym (digits_other r b c s l))
 
 -- ---- a loop over the characters
-pub grown_fits : {v r d : ℕ} → v ≤ cap → r ≤ 16 → d ≤ 16 → v * r + d ≤ 1600016
-grown_fits {v} {r} {d} h g k = let m : v * r ≤ cap * 16 = mul-le-mul h g in omega arith
-
-pub run_empty : (r : ℕ) (s : List ℕ) → length s ≡ 0 → run_of r s ≡ Malformed
+pub run_empty : (r : ℕ) (s : List ℕ) → length s ≡ 0 → run_of r s ≡ None
 unfolding run_of
 run_empty r [] e = refl
 run_empty r (c ∷ s) e = absurd (let f : length (c ∷ s) ≡ 0 = e in omega arith)
@@ -112,29 +108,28 @@ run_start r [] f = absurd (f refl)
 run_start r (c ∷ s) f = refl
 
 pub run_turn : (r : ℕ) (s : List ℕ) (i a d v : ℕ)
-    → 0 < r → i < length s → d ≡ digit_of (get_or s i 0) → d < r → v ≡ min (a * r + d) cap
+    → 0 < r → i < length s → digit_of (get_or s i 0) < r → d ≡ digit_of (get_or s i 0) → v ≡ min (a * r + d) cap
     → digits_from r a (drop i s) ≡ digits_from r v (drop (i + 1) s)
-run_turn r s i a d v p h e l q =
+run_turn r s i a d v p h l e q =
     let g : ℕ = digit_of (get_or s i 0) in
     let k : min (a * r + g) cap ≡ min v cap = ap (λ (x : ℕ). min (a * r + x) cap) (sym e) ∙ (let z : min (a * r + d) cap ≡ min v cap = omega arith in z) in
     ap (λ (z : List ℕ). digits_from r a z) (drop-cons s i 0 h)
-    ∙ digits_cons r a (get_or s i 0) (drop (suc i) s) (subst (λ (x : ℕ). x < r) e l)
+    ∙ digits_cons r a (get_or s i 0) (drop (suc i) s) l
     ∙ digits_cap r p (drop (suc i) s) (a * r + g) v k
     ∙ ap (λ (j : ℕ). digits_from r v (drop j s)) (sym (add-one i))
 
-pub run_stop : (r : ℕ) (s : List ℕ) (i a d : ℕ) → i < length s → d ≡ digit_of (get_or s i 0) → r ≤ d → digits_from r a (drop i s) ≡ Malformed
-run_stop r s i a d h e l =
-    ap (λ (z : List ℕ). digits_from r a z) (drop-cons s i 0 h)
-    ∙ digits_other r a (get_or s i 0) (drop (suc i) s) (subst (λ (x : ℕ). r ≤ x) e l)
+pub run_stop : (r : ℕ) (s : List ℕ) (i a : ℕ) → i < length s → (digit_of (get_or s i 0) < r → ⊥) → digits_from r a (drop i s) ≡ None
+run_stop r s i a h f =
+    ap (λ (z : List ℕ). digits_from r a z) (drop-cons s i 0 h) ∙ digits_other r a (get_or s i 0) (drop (suc i) s) (omega arith)
 
-pub run_end : (r : ℕ) (s : List ℕ) (i a : ℕ) → length s ≤ i → a ≤ cap → digits_from r a (drop i s) ≡ Value a
+pub run_end : (r : ℕ) (s : List ℕ) (i a : ℕ) → length s ≤ i → a ≤ cap → digits_from r a (drop i s) ≡ Some a
 run_end r s i a h l =
     ap (λ (z : List ℕ). digits_from r a z) (drop_of_length-le s h) ∙ digits_nil r a
-    ∙ ap Value (let e : min a cap ≡ a = omega arith in e)
+    ∙ ap Some (let e : min a cap ≡ a = omega arith in e)
 
 -- ---- how large
-pub at_most_of : (n : ℕ) {i j : Integer} → i ≡ j → AtMost n j → AtMost n i
-at_most_of n e h = subst (λ (x : Integer). AtMost n x) (sym e) h
+pub at_most_of : (n : ℕ) {i j : Option ℕ} → i ≡ j → AtMost n j → AtMost n i
+at_most_of n e h = subst (λ (x : Option ℕ). AtMost n x) (sym e) h
 
 digits_capped : (r : ℕ) (s : List ℕ) (a : ℕ) → AtMost cap (digits_from r a s)
 digits_capped r [] a = at_most_of cap (digits_nil r a) (min-le_right a cap)
@@ -153,12 +148,12 @@ unfolding integer_of
 integer_capped s = run_capped 10 s
 
 -- n digits behind a value below m have a value below m * r ^ n
-abbrev pub Under : ℕ → Integer → Type 0
-Under n Malformed = Unit {0}
-Under n (Value v) = v < n
+abbrev pub Under : ℕ → Option ℕ → Type 0
+Under n None = Unit {0}
+Under n (Some v) = v < n
 
-under_of : {n m : ℕ} {i j : Integer} → n ≡ m → i ≡ j → Under m j → Under n i
-under_of {n} {m} {i} {j} q e h = subst (λ (x : Integer). Under n x) (sym e) (subst (λ (k : ℕ). Under k j) (sym q) h)
+under_of : {n m : ℕ} {i j : Option ℕ} → n ≡ m → i ≡ j → Under m j → Under n i
+under_of {n} {m} {i} {j} q e h = subst (λ (x : Option ℕ). Under n x) (sym e) (subst (λ (k : ℕ). Under k j) (sym q) h)
 
 pub digits_under : (r : ℕ) (s : List ℕ) (a m : ℕ) → a < m → Under (m * r ^ length s) (digits_from r a s)
 digits_under r [] a m h =
@@ -173,9 +168,9 @@ digits_under r (c ∷ s) a m h =
     (digits_under r s (a * r + digit_of c) (m * r) (digits_lt h l)))
     (λ l. under_of refl (digits_other r a c s l) tt)
 
-pub run_below : (r : ℕ) (s : List ℕ) {v : ℕ} → run_of r s ≡ Value v → v < r ^ length s
+pub run_below : (r : ℕ) (s : List ℕ) {v : ℕ} → run_of r s ≡ Some v → v < r ^ length s
 unfolding run_of
 run_below r [] e = absurd (let z : ◌≡◌ {A = ℕ} 0 1 = cc in omega arith)
 run_below r (c ∷ s) {v} e =
-    subst (λ (i : Integer). Under (r ^ length (c ∷ s)) i) e
+    subst (λ (i : Option ℕ). Under (r ^ length (c ∷ s)) i) e
     (under_of {i = digits_from r 0 (c ∷ s)} (sym (one-mul (r ^ length (c ∷ s)))) refl (digits_under r (c ∷ s) 0 1 (omega arith)))

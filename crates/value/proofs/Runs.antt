@@ -1,24 +1,20 @@
 -- Digits read in the scan that finds their end: what they make of a field that ends there or goes on, how large their value can be, and which
 -- characters they are. By cases on the tests, by induction on the characters, and by computation at all 256 characters.
 -- Assumes nothing.
+use Rattle.std.specs.Prelude.{None, Option, Some}
 use mathlib.Core.Path.{◌≡◌, refl, sym, ap, ◌∙◌, subst}
-use mathlib.Core.Bool.{Bool, true, false, cond}
+use mathlib.Core.Bool.{true, false}
 use mathlib.Core.List.{List, [], ◌∷◌}
-use Prim.Native.Nat.{ℕ, zero, suc, ◌+◌, ◌-◌, ◌*◌, ◌/◌, ◌%◌, ◌^◌, ◌<◌, ◌≤◌, min}
+use Prim.Native.Nat.{ℕ, zero, suc, ◌+◌, ◌-◌, ◌*◌, ◌^◌, ◌<◌, ◌≤◌, min}
 use native.Mathlib.Nat.{min-le_right, pow-le-pow_right, one-mul}
 use native.Mathlib.Numerals.{add-one}
 use native.Mathlib.Omega.{arith}
-use lib.Dec.{eqb, ltb, leb}
 use lib.ListN.{length, get_or, take, drop, drop_of_length-le}
 use lib.Seq.{drop-cons, length-take-le}
-use borrow.Author.Tests.{ltb-true, ltb-false, lt-ltb, le-ltb, le-leb, lt-leb}
+use borrow.Author.Tests.{ltb-true, ltb-false, lt-ltb, le-ltb}
 use Rattle.cells.specs.Scan.{span}
-use Rattle.cells.specs.Table.{tab}
-use Rattle.cells.proofs.Table.{tab_same}
 use Rattle.cells.proofs.Scan.{span_nil, span_hit, span_miss, span_more, span_stop, span_end, span_le}
 use Rattle.cells.proofs.Split.{by_bool, by_lt, by_le, cond-true, cond-false}
-use Rattle.value.specs.declared.Integer.{Integer}
-use Rattle.value.specs.declared.Integer.TheVariants.{Malformed, Value}
 use Rattle.value.specs.declared.DigitRun.{DigitRun}
 use Rattle.value.specs.Integer.{cap, digit_of, digits_from, run_of, integer_of}
 use Rattle.value.specs.Digits.{is_digit, value_from, digits_at}
@@ -63,51 +59,6 @@ decimal_counts c e = digit_decimal c (decimal_low c e) (decimal_high c e)
 
 pub decimal_hex : (c : ℕ) → is_digit 10 c ≡ true → is_digit 16 c ≡ true
 decimal_hex c e = let d : digit_of c < 10 = ltb-true (digit_of c) 10 e in lt-ltb (digit_of c) 16 (omega arith)
-
--- the test that the code makes of it
-pub decimal_below : (c : ℕ) → c < 48 → false ≡ is_digit 10 c
-decimal_below c h = sym (digit_no 10 c (omega arith) (digit_low c h))
-
-pub decimal_test : (c : ℕ) → 48 ≤ c → leb c 57 ≡ is_digit 10 c
-decimal_test c h =
-    by_le c 57
-    (λ g. le-leb c 57 g ∙ sym (decimal_is c h g))
-    (λ g.
-    lt-leb c 57 g
-    ∙ by_bool (is_digit 10 c) (λ e. absurd (let l : c ≤ 57 = decimal_high c e in omega arith)) (λ e. sym e))
-
--- hexadecimal: by its place among the bits of one number
-abbrev bit : ℕ → ℕ
-bit c = 35465847073801215 / 2 ^ (c - 48) % 2
-
-abbrev tested : ℕ → Bool
-tested c = cond (ltb c 48) false (cond (ltb 102 c) false (eqb (bit c) 1))
-
-tested_is : (c : ℕ) → c < 256 → tested c ≡ is_digit 16 c
-unfolding tab digit_of
-tested_is c h = tab_same tested (is_digit 16) 256 c false refl h
-
-module _ (c : ℕ) where
-  pub hex_below : c < 48 → false ≡ is_digit 16 c
-  hex_below h = sym (digit_no 16 c (omega arith) (digit_low c h))
-
-  pub hex_past : 102 < c → false ≡ is_digit 16 c
-  hex_past h = sym (digit_no 16 c (omega arith) (digit_high c h))
-
-  pub hex_test : 48 ≤ c → c ≤ 102 → eqb (bit c) 1 ≡ is_digit 16 c
-  hex_test h g =
-      sym (cond-false (ltb c 48) _ _ (le-ltb c 48 h) ∙ cond-false (ltb 102 c) _ _ (le-ltb 102 c g))
-      ∙ tested_is c (omega arith)
-
-  pub hex_counts : is_digit 16 c ≡ true → c % 16 + c / 64 * 9 ≡ digit_of c
-  hex_counts e =
-      by_digit 16 c (omega arith) e
-      (λ h g. let q : digit_of c ≡ c - 48 = digit_decimal c h g in omega arith)
-      (λ h g. let q : digit_of c ≡ c - 55 = digit_capital c h g in omega arith)
-      (λ h g. let q : digit_of c ≡ c - 87 = digit_small c h g in omega arith)
-
-pub counts_below : (r c : ℕ) {d : ℕ} → is_digit r c ≡ true → d ≡ digit_of c → d < r
-counts_below r c e q = subst (λ (x : ℕ). x < r) (sym q) (ltb-true (digit_of c) r e)
 
 -- ---- the value of the digits at the front
 pub value_nil : (r a : ℕ) → value_from r a [] ≡ min a cap
@@ -162,11 +113,12 @@ unfolding run_from digits_at
 walk_start r text at = refl
 
 pub walk_turn : (r : ℕ) (text : List ℕ) (i a d v : ℕ) {e : DigitRun}
-    → 0 < r → i < length text → is_digit r (get_or text i 0) ≡ true → d ≡ digit_of (get_or text i 0) → v ≡ min (a * r + d) cap
+    → 0 < r → i < length text → digit_of (get_or text i 0) < r → d ≡ digit_of (get_or text i 0) → v ≡ min (a * r + d) cap
     → run_from r a text i ≡ e → run_from r v text (i + 1) ≡ e
 unfolding run_from
-walk_turn r text i a d v p h t q m g =
+walk_turn r text i a d v p h l q m g =
     let c : ℕ = get_or text i 0 in
+    let t : is_digit r c ≡ true = lt-ltb (digit_of c) r l in
     let k : min v cap ≡ min (a * r + digit_of c) cap =
     (let z : min v cap ≡ min (a * r + d) cap = omega arith in z) ∙ ap (λ (x : ℕ). min (a * r + x) cap) q in
     let w : value_from r v (drop (i + 1) text) ≡ value_from r a (drop i text) =
@@ -188,31 +140,34 @@ walk_last r text i a v n h g =
     ap (λ (x : ℕ). digit_run x i) w ∙ ap (λ (x : ℕ). digit_run (value_from r a (drop i text)) x) o ∙ g
 
 pub walk_stop : (r : ℕ) (text : List ℕ) (i a : ℕ) {e : DigitRun}
-    → i < length text → is_digit r (get_or text i 0) ≡ false → a ≤ cap → run_from r a text i ≡ e → digit_run a i ≡ e
-walk_stop r text i a h t l g =
+    → i < length text → (digit_of (get_or text i 0) < r → ⊥) → a ≤ cap → run_from r a text i ≡ e → digit_run a i ≡ e
+walk_stop r text i a h f l g =
+    let t : is_digit r (get_or text i 0) ≡ false = le-ltb (digit_of (get_or text i 0)) r (omega arith) in
     walk_last r text i a
     (ap (λ (z : List ℕ). value_from r a z) (drop-cons text i 0 h) ∙ value_miss r a (get_or text i 0) (drop (suc i) text) t)
     (span_stop (is_digit r) text i h refl t) l g
 
-pub walk_end : (r : ℕ) (text : List ℕ) (i a : ℕ) {e : DigitRun} → length text ≤ i → a ≤ cap → run_from r a text i ≡ e → digit_run a i ≡ e
-walk_end r text i a h l g =
-    walk_last r text i a (ap (λ (z : List ℕ). value_from r a z) (drop_of_length-le text h) ∙ value_nil r a) (span_end (is_digit r) text i h) l g
+pub walk_end : (r : ℕ) (text : List ℕ) (i a : ℕ) {e : DigitRun} → length text ≡ i → a ≤ cap → run_from r a text i ≡ e → digit_run a (length text) ≡ e
+walk_end r text i a q l g =
+    let h : length text ≤ i = omega arith in
+    ap (λ (n : ℕ). digit_run a n) q
+    ∙ walk_last r text i a (ap (λ (z : List ℕ). value_from r a z) (drop_of_length-le text h) ∙ value_nil r a) (span_end (is_digit r) text i h) l g
 
 -- ---- what they make of a field: one that ends with them, one that has none, one that goes on
-digits_exact : (r a : ℕ) (s : List ℕ) → digits_from r a (take (span (is_digit r) s) s) ≡ Value (value_from r a s)
+digits_exact : (r a : ℕ) (s : List ℕ) → digits_from r a (take (span (is_digit r) s) s) ≡ Some (value_from r a s)
 digits_exact r a [] =
-    ap (λ (n : ℕ). digits_from r a (take n [])) (span_nil (is_digit r)) ∙ digits_nil r a ∙ ap Value (sym (value_nil r a))
+    ap (λ (n : ℕ). digits_from r a (take n [])) (span_nil (is_digit r)) ∙ digits_nil r a ∙ ap Some (sym (value_nil r a))
 digits_exact r a (c ∷ s) =
     by_bool (is_digit r c)
     (λ t.
     ap (λ (n : ℕ). digits_from r a (take n (c ∷ s))) (span_hit (is_digit r) c s t)
     ∙ digits_cons r a c (take (span (is_digit r) s) s) (ltb-true (digit_of c) r t)
-    ∙ digits_exact r (a * r + digit_of c) s ∙ ap Value (sym (value_hit r a c s t)))
+    ∙ digits_exact r (a * r + digit_of c) s ∙ ap Some (sym (value_hit r a c s t)))
     (λ t.
     ap (λ (n : ℕ). digits_from r a (take n (c ∷ s))) (span_miss (is_digit r) c s t) ∙ digits_nil r a
-    ∙ ap Value (sym (value_miss r a c s t)))
+    ∙ ap Some (sym (value_miss r a c s t)))
 
-digits_longer : (r a k : ℕ) (s : List ℕ) → span (is_digit r) s < k → k ≤ length s → digits_from r a (take k s) ≡ Malformed
+digits_longer : (r a k : ℕ) (s : List ℕ) → span (is_digit r) s < k → k ≤ length s → digits_from r a (take k s) ≡ None
 digits_longer r a zero s h l = absurd (omega arith)
 digits_longer r a (suc k) [] h l = absurd (omega arith)
 digits_longer r a (suc k) (c ∷ s) h l =
@@ -224,30 +179,30 @@ digits_longer r a (suc k) (c ∷ s) h l =
     (λ t. digits_other r a c (take k s) (ltb-false (digit_of c) r t))
 
 module _ (r : ℕ) (s : List ℕ) where
-  pub run_exact : 0 < span (is_digit r) s → run_of r (take (span (is_digit r) s) s) ≡ Value (value_from r 0 s)
+  pub run_exact : 0 < span (is_digit r) s → run_of r (take (span (is_digit r) s) s) ≡ Some (value_from r 0 s)
   run_exact h =
       let l : length (take (span (is_digit r) s) s) ≡ span (is_digit r) s = length-take-le (span (is_digit r) s) s (span_le (is_digit r) s) in
       run_start r (take (span (is_digit r) s) s) (λ z. omega arith) ∙ digits_exact r 0 s
 
-  pub run_none : span (is_digit r) s ≡ 0 → run_of r (take (span (is_digit r) s) s) ≡ Malformed
+  pub run_none : span (is_digit r) s ≡ 0 → run_of r (take (span (is_digit r) s) s) ≡ None
   run_none e =
       run_empty r (take (span (is_digit r) s) s) (length-take-le (span (is_digit r) s) s (span_le (is_digit r) s) ∙ e)
 
-  pub run_longer : (k : ℕ) → span (is_digit r) s < k → k ≤ length s → run_of r (take k s) ≡ Malformed
+  pub run_longer : (k : ℕ) → span (is_digit r) s < k → k ≤ length s → run_of r (take k s) ≡ None
   run_longer k h g =
       let l : length (take k s) ≡ k = length-take-le k s g in
       run_start r (take k s) (λ z. omega arith) ∙ digits_longer r 0 k s h g
 
 module _ (s : List ℕ) where
-  pub integer_exact : 0 < span (is_digit 10) s → integer_of (take (span (is_digit 10) s) s) ≡ Value (value_from 10 0 s)
+  pub integer_exact : 0 < span (is_digit 10) s → integer_of (take (span (is_digit 10) s) s) ≡ Some (value_from 10 0 s)
   unfolding integer_of
   integer_exact h = run_exact 10 s h
 
-  pub integer_none : span (is_digit 10) s ≡ 0 → integer_of (take (span (is_digit 10) s) s) ≡ Malformed
+  pub integer_none : span (is_digit 10) s ≡ 0 → integer_of (take (span (is_digit 10) s) s) ≡ None
   unfolding integer_of
   integer_none e = run_none 10 s e
 
-  pub integer_longer : (k : ℕ) → span (is_digit 10) s < k → k ≤ length s → integer_of (take k s) ≡ Malformed
+  pub integer_longer : (k : ℕ) → span (is_digit 10) s < k → k ≤ length s → integer_of (take k s) ≡ None
   unfolding integer_of
   integer_longer k h g = run_longer 10 s k h g
 
@@ -258,7 +213,7 @@ value_below r s =
     let u : Under (1 * r ^ length (take (span (is_digit r) s) s)) (digits_from r 0 (take (span (is_digit r) s) s)) =
     digits_under r (take (span (is_digit r) s) s) 0 1 (omega arith) in
     subst (λ (n : ℕ). value_from r 0 s < n) (one-mul (r ^ length (take (span (is_digit r) s) s)) ∙ ap (λ (n : ℕ). r ^ n) l)
-    (subst (λ (i : Integer). Under (1 * r ^ length (take (span (is_digit r) s) s)) i) (digits_exact r 0 s) u)
+    (subst (λ (i : Option ℕ). Under (1 * r ^ length (take (span (is_digit r) s) s)) i) (digits_exact r 0 s) u)
 
 pub hex_two : (s : List ℕ) → span (is_digit 16) s ≤ 2 → value_from 16 0 s < 256
 hex_two s h =

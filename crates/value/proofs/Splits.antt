@@ -1,6 +1,7 @@
 -- A field put together from parts reads as its parts: what a writer's inverse law stands on. By where the cut falls.
 -- "xs has no b" is `span (is_other b) xs ≡ length xs`.
 -- Assumes nothing.
+use Rattle.std.specs.Prelude.{Option, Some}
 use mathlib.Core.Path.{◌≡◌, refl, sym, ap, ◌∙◌, subst}
 use mathlib.Core.List.{List, ◌∷◌, ◌++◌}
 use Prim.Native.Nat.{ℕ, suc, ◌+◌, ◌<◌, ◌≤◌}
@@ -13,12 +14,10 @@ use borrow.Author.Tests.{eq-eqb}
 use Rattle.cells.specs.Scan.{span}
 use Rattle.cells.proofs.Split.{not_of_true}
 use Rattle.cells.proofs.Scan.{span_upto}
-use Rattle.value.specs.declared.Integer.{Integer}
-use Rattle.value.specs.declared.Integer.TheVariants.{Value}
 use Rattle.value.specs.Integer.{integer_of}
 use Rattle.value.specs.Parts.{point, colon, is_other, cut_at, decimals_of}
 use Rattle.value.specs.Number.{fraction_digits, numbered_of, number_of}
-use Rattle.value.specs.Time.{tenths_digits, part_of, join_of, later_of, clock_of, timed_of, time_of}
+use Rattle.value.specs.Time.{tenths_digits, part_of, join_of, later_of, clock_of, time_of}
 use Rattle.value.proofs.Cuts.{decimals_none, decimals_few}
 use Rattle.value.proofs.Numbers.{number_is}
 use Rattle.value.proofs.Times.{later_one, later_two, clock_one, clock_more, time_is}
@@ -35,7 +34,7 @@ module _ (b : ℕ) (s : List ℕ) (h : span (is_other b) s ≡ length s) where
   whole_before : take (cut_at b s) s ≡ s
   whole_before = ap (λ (k : ℕ). take k s) whole_cut ∙ take-length s
 
-  whole_decimals : (most : ℕ) → decimals_of most s (cut_at b s) ≡ Value 0
+  whole_decimals : (most : ℕ) → decimals_of most s (cut_at b s) ≡ Some 0
   whole_decimals most = decimals_none most s (cut_at b s) whole_end
 
 -- ---- xs, a b, and ys
@@ -63,7 +62,7 @@ module _ (b : ℕ) (xs ys : List ℕ) (h : span (is_other b) xs ≡ length xs) w
       ∙ ap integer_of parts_after
 
 -- ---- a number
-pub number_whole : (s : List ℕ) → span (is_other point) s ≡ length s → number_of s ≡ numbered_of (integer_of s) (Value 0)
+pub number_whole : (s : List ℕ) → span (is_other point) s ≡ length s → number_of s ≡ numbered_of (integer_of s) (Some 0)
 number_whole s h =
     sym (number_is s refl (ap integer_of (sym (whole_before point s h))) (sym (whole_decimals point s h fraction_digits)))
 
@@ -73,11 +72,11 @@ number_parts xs ys h g =
     sym (number_is (xs ++ (point ∷ ys)) refl (ap integer_of (sym (parts_before point xs ys h))) (sym (parts_decimals point xs ys h fraction_digits g)))
 
 -- ---- a time
-pub time_whole : (s : List ℕ) → span (is_other point) s ≡ length s → time_of s ≡ timed_of (join_of (clock_of s) 10 (Value 0))
+pub time_whole : (s : List ℕ) → span (is_other point) s ≡ length s → time_of s ≡ (join_of (clock_of s) 10 (Some 0))
 time_whole s h = sym (time_is s refl (ap clock_of (sym (whole_before point s h))) (sym (whole_decimals point s h tenths_digits)) refl)
 
 pub time_parts : (xs ys : List ℕ) → span (is_other point) xs ≡ length xs → length ys ≤ tenths_digits
-    → time_of (xs ++ (point ∷ ys)) ≡ timed_of (join_of (clock_of xs) 10 (integer_of ys))
+    → time_of (xs ++ (point ∷ ys)) ≡ (join_of (clock_of xs) 10 (integer_of ys))
 time_parts xs ys h g =
     sym (time_is (xs ++ (point ∷ ys)) refl (ap clock_of (sym (parts_before point xs ys h))) (sym (parts_decimals point xs ys h tenths_digits g)) refl)
 
@@ -90,10 +89,10 @@ clock_parts xs ys h =
     let f : drop (cut_at colon (xs ++ (colon ∷ ys)) + 1) (xs ++ (colon ∷ ys)) ≡ ys = parts_after colon xs ys h in
     clock_more (xs ++ (colon ∷ ys)) (parts_within colon xs ys h) ∙ rw (e, f)
 
-pub later_whole : (first : Integer) (s : List ℕ) → span (is_other colon) s ≡ length s → later_of first s ≡ join_of first 60 (part_of s)
+pub later_whole : (first : Option ℕ) (s : List ℕ) → span (is_other colon) s ≡ length s → later_of first s ≡ join_of first 60 (part_of s)
 later_whole first s h = later_one first s (whole_end colon s h)
 
-pub later_parts : (first : Integer) (xs ys : List ℕ) → span (is_other colon) xs ≡ length xs
+pub later_parts : (first : Option ℕ) (xs ys : List ℕ) → span (is_other colon) xs ≡ length xs
     → later_of first (xs ++ (colon ∷ ys)) ≡ join_of (join_of first 60 (part_of xs)) 60 (part_of ys)
 later_parts first xs ys h =
     let e : take (cut_at colon (xs ++ (colon ∷ ys))) (xs ++ (colon ∷ ys)) ≡ xs = parts_before colon xs ys h in

@@ -1,6 +1,7 @@
 -- A number's whole part, read in the scan that finds its end: the digits in front have no point among them, so they are the whole part, or the
 -- whole part goes on and is malformed, whatever stands behind it.
 -- Assumes nothing.
+use Rattle.std.specs.Prelude.{None, Option, Some}
 use mathlib.Core.Path.{◌≡◌, refl, sym, ap, ◌∙◌}
 use mathlib.Core.List.{List}
 use Prim.Native.Nat.{ℕ, ◌+◌, ◌<◌, ◌≤◌}
@@ -13,8 +14,6 @@ use Rattle.cells.specs.Scan.{span}
 use Rattle.cells.proofs.Split.{by_eq, not_of_false}
 use Rattle.cells.proofs.Scan.{span_le, span_below, span_past}
 use Rattle.value.specs.declared.DigitRun.{DigitRun}
-use Rattle.value.specs.declared.Integer.{Integer}
-use Rattle.value.specs.declared.Integer.TheVariants.{Malformed, Value}
 use Rattle.value.specs.Integer.{integer_of}
 use Rattle.value.specs.Digits.{is_digit, digits_at}
 use Rattle.value.specs.Parts.{point, is_other, cut_at, before, decimals_of}
@@ -47,31 +46,31 @@ module _ (s : List ℕ) {d : DigitRun} (e : d ≡ digits_at 10 s 0) where
   whole_points h f = cut_found point s d.end h f no_point
 
   -- or the whole part goes on
-  longer : (d.end ≡ cut_at point s → ⊥) → integer_of (before (cut_at point s) s) ≡ Malformed
+  longer : (d.end ≡ cut_at point s → ⊥) → integer_of (before (cut_at point s) s) ≡ None
   longer f =
       let n : d.end ≡ span (is_digit 10) s = ends in
       let p : d.end + cut_at point (drop d.end s) ≡ cut_at point s = no_point in
       integer_longer s (cut_at point s) (omega arith) (cut_within point s)
 
-  pub whole_none : d.end ≡ 0 → Malformed ≡ integer_of (before (cut_at point s) s)
+  pub whole_none : d.end ≡ 0 → None ≡ integer_of (before (cut_at point s) s)
   whole_none z =
       by_eq d.end (cut_at point s)
       (λ q. sym (ap (λ (k : ℕ). integer_of (take k s)) (sym q ∙ ends) ∙ integer_none s (sym ends ∙ z)))
       (λ f. sym (longer f))
 
-  pub whole_other : d.end < length s → (get_or s d.end 0 ≡ point → ⊥) → Malformed ≡ integer_of (before (cut_at point s) s)
+  pub whole_other : d.end < length s → (get_or s d.end 0 ≡ point → ⊥) → None ≡ integer_of (before (cut_at point s) s)
   whole_other h f =
       let p : d.end + 1 + cut_at point (drop (d.end + 1) s) ≡ cut_at point s = cut_turn point s d.end h f no_point in
       sym (longer (λ q. omega arith))
 
-  pub whole_good : (d.end ≡ 0 → ⊥) → d.end ≡ cut_at point s → Value d.value ≡ integer_of (before (cut_at point s) s)
+  pub whole_good : (d.end ≡ 0 → ⊥) → d.end ≡ cut_at point s → Some d.value ≡ integer_of (before (cut_at point s) s)
   whole_good z q =
       let n : d.end ≡ span (is_digit 10) s = ends in
-      ap Value (run_value 10 s 0 e)
+      ap Some (run_value 10 s 0 e)
       ∙ sym (ap (λ (k : ℕ). integer_of (take k s)) (sym q ∙ ends) ∙ integer_exact s (omega arith))
 
   -- where the whole part goes on, the fraction does not count
-  pub number_by : {i j : Integer} → i ≡ integer_of (before (cut_at point s) s) → j ≡ decimals_of fraction_digits s d.end → numbered_of i j ≡ number_of s
+  pub number_by : {i j : Option ℕ} → i ≡ integer_of (before (cut_at point s) s) → j ≡ decimals_of fraction_digits s d.end → numbered_of i j ≡ number_of s
   number_by {i} {j} f g =
       by_eq d.end (cut_at point s)
       (λ q. number_is s q (f ∙ ap (λ (k : ℕ). integer_of (take k s)) (sym q)) g)

@@ -1,9 +1,7 @@
 -- A field cut in parts at a character (§7.4's point, §7.7's and §8.4's colon).
 -- Assumes nothing.
-use Rattle.std.specs.Prelude.{Bool, cond, not, List, ℕ, ◌+◌, eqb, ltb, leb, length, take, drop}
+use Rattle.std.specs.Prelude.{Bool, cond, not, List, ℕ, ◌+◌, eqb, ltb, leb, length, take, drop, None, Option, Some}
 use Rattle.cells.specs.Scan.{span}
-use Rattle.value.specs.declared.Integer.{Integer}
-use Rattle.value.specs.declared.Integer.TheVariants.{Malformed, Value}
 use Rattle.value.specs.Integer.{integer_of}
 
 abbrev pub point : ℕ
@@ -30,9 +28,9 @@ abbrev pub within : ℕ → List ℕ → Bool
 within n s = ltb n (length s)
 
 -- an integer of at most `most` digits
-abbrev pub few_of : ℕ → List ℕ → Integer
-few_of most s = cond (leb (length s) most) (integer_of s) Malformed
+abbrev pub few_of : ℕ → List ℕ → Option ℕ
+few_of most s = cond (leb (length s) most) (integer_of s) None
 
 -- the digits behind a point at n; 0 where there is none
-unfoldable pub decimals_of : ℕ → List ℕ → ℕ → Integer
-decimals_of most s n = cond (within n s) (few_of most (after n s)) (Value 0)
+unfoldable pub decimals_of : ℕ → List ℕ → ℕ → Option ℕ
+decimals_of most s n = cond (within n s) (few_of most (after n s)) (Some 0)

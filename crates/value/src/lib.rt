@@ -2,9 +2,9 @@
 // Every reader is total: any bytes have an answer. Which condition a malformed value gives is said above this crate.
 #![tactic(auto)]
 
-ghost use Rattle.std.specs.Prelude.{◌≡◌, true, ◌+◌, ◌*◌, ◌<◌, ◌≤◌, min, length};
+ghost use Rattle.std.specs.Prelude.{◌≡◌, ◌+◌, ◌*◌, ◌<◌, ◌≤◌, min, length, SomeIff};
 ghost use Rattle.value.specs.Integer.{cap, digit_of, run_of, integer_of, AtMost};
-ghost use Rattle.value.specs.Digits.{is_digit, digits_at};
+ghost use Rattle.value.specs.Digits.{digits_at};
 ghost use Rattle.value.specs.Parts.{point, cut_at, before, decimals_of};
 ghost use Rattle.value.specs.Number.{numbered_of, number_of, borne_by, borne_of};
 ghost use Rattle.value.specs.Time.{part_max, part_of, join_of, later_of, clock_of, time_of};
@@ -40,36 +40,33 @@ pub const TENTHS_DIGITS: usize = 1;
 // The largest time in tenths, 999:999:999.9.
 pub const TIME_MAX: u32 = ((PART_MAX * 60 + PART_MAX) * 60 + PART_MAX) * 10 + 9;
 
-// A digit run: one or more digits, its value cut at CAP.
-#[derive(Clone, Copy)]
-pub enum Integer {
-    Malformed,
-    Value(u32),
-}
+// What each character counts as a digit: 0 to 9, A to F, a to f, and 16 where it is none. A table, since with a `match` or `to_digit`, which branch
+// at each letter, the load of a large show of 262 kB took 2.7 ms in place of 2.3.
+const DIGITS: [u8; 256] = [
+    0x10, 0x10, 0x10, 0x10, 0x10, 0x10, 0x10, 0x10, 0x10, 0x10, 0x10, 0x10, 0x10, 0x10, 0x10, 0x10,
+    0x10, 0x10, 0x10, 0x10, 0x10, 0x10, 0x10, 0x10, 0x10, 0x10, 0x10, 0x10, 0x10, 0x10, 0x10, 0x10,
+    0x10, 0x10, 0x10, 0x10, 0x10, 0x10, 0x10, 0x10, 0x10, 0x10, 0x10, 0x10, 0x10, 0x10, 0x10, 0x10,
+    0x00, 0x01, 0x02, 0x03, 0x04, 0x05, 0x06, 0x07, 0x08, 0x09, 0x10, 0x10, 0x10, 0x10, 0x10, 0x10,
+    0x10, 0x0A, 0x0B, 0x0C, 0x0D, 0x0E, 0x0F, 0x10, 0x10, 0x10, 0x10, 0x10, 0x10, 0x10, 0x10, 0x10,
+    0x10, 0x10, 0x10, 0x10, 0x10, 0x10, 0x10, 0x10, 0x10, 0x10, 0x10, 0x10, 0x10, 0x10, 0x10, 0x10,
+    0x10, 0x0A, 0x0B, 0x0C, 0x0D, 0x0E, 0x0F, 0x10, 0x10, 0x10, 0x10, 0x10, 0x10, 0x10, 0x10, 0x10,
+    0x10, 0x10, 0x10, 0x10, 0x10, 0x10, 0x10, 0x10, 0x10, 0x10, 0x10, 0x10, 0x10, 0x10, 0x10, 0x10,
+    0x10, 0x10, 0x10, 0x10, 0x10, 0x10, 0x10, 0x10, 0x10, 0x10, 0x10, 0x10, 0x10, 0x10, 0x10, 0x10,
+    0x10, 0x10, 0x10, 0x10, 0x10, 0x10, 0x10, 0x10, 0x10, 0x10, 0x10, 0x10, 0x10, 0x10, 0x10, 0x10,
+    0x10, 0x10, 0x10, 0x10, 0x10, 0x10, 0x10, 0x10, 0x10, 0x10, 0x10, 0x10, 0x10, 0x10, 0x10, 0x10,
+    0x10, 0x10, 0x10, 0x10, 0x10, 0x10, 0x10, 0x10, 0x10, 0x10, 0x10, 0x10, 0x10, 0x10, 0x10, 0x10,
+    0x10, 0x10, 0x10, 0x10, 0x10, 0x10, 0x10, 0x10, 0x10, 0x10, 0x10, 0x10, 0x10, 0x10, 0x10, 0x10,
+    0x10, 0x10, 0x10, 0x10, 0x10, 0x10, 0x10, 0x10, 0x10, 0x10, 0x10, 0x10, 0x10, 0x10, 0x10, 0x10,
+    0x10, 0x10, 0x10, 0x10, 0x10, 0x10, 0x10, 0x10, 0x10, 0x10, 0x10, 0x10, 0x10, 0x10, 0x10, 0x10,
+    0x10, 0x10, 0x10, 0x10, 0x10, 0x10, 0x10, 0x10, 0x10, 0x10, 0x10, 0x10, 0x10, 0x10, 0x10, 0x10,
+];
 
-// What a digit counts, 16 where it is none.
-fn digit(c: u8) -> u32
-    ensures { result ≡ digit_of c }
+// What a digit of the radix counts.
+fn digit(c: u8, radix: u32) -> Option<u32>
+    ensures { SomeIff result (digit_of c < radix) (digit_of c) }
 {
-    if c < 48 {
-        return 16;
-    }
-    if c <= 57 {
-        return (c - 48) as u32;
-    }
-    if c < 65 {
-        return 16;
-    }
-    if c <= 70 {
-        return (c - 55) as u32;
-    }
-    if c < 97 {
-        return 16;
-    }
-    if c <= 102 {
-        return (c - 87) as u32;
-    }
-    16
+    let d = u32::from(DIGITS[usize::from(c)]);
+    (d < radix).then_some(d)
 }
 
 // One more digit behind a value: CAP stays CAP.
@@ -79,96 +76,65 @@ fn grown(value: u32, radix: u32, d: u32) -> u32
     requires d_bound { d ≤ 16 }
     ensures { result ≡ min (value * radix + d) cap }
 {
-    let next = value * radix + d;
-    if next < CAP {
-        return next;
-    }
-    CAP
+    (value * radix + d).min(CAP)
 }
 
-// A whole field of digits: numbers with parts, pages and submasters come through here.
-pub fn run(s: &[u8], radix: u32) -> Integer
+// A whole field of digits, one or more, its value cut at CAP: numbers with parts, pages and submasters come through here.
+pub fn run(s: &[u8], radix: u32) -> Option<u32>
     requires radix_nonzero { 0 < radix }
     requires radix_bound { radix ≤ 16 }
     ensures { result ≡ run_of radix s.now }
 {
-    if s.len() == 0 {
-        return Integer::Malformed;
+    if s.is_empty() {
+        return None;
     }
-    let mut value: u32 = 0;
-    let mut i: usize = 0;
-    while i < s.len() {
-        let d = digit(s[i]);
-        if radix <= d {
-            return Integer::Malformed;
-        }
-        value = grown(value, radix, d);
-        i += 1;
+    let mut value = 0;
+    for c in s {
+        value = grown(value, radix, digit(*c, radix)?);
     }
-    Integer::Value(value)
+    Some(value)
 }
 
-pub fn read_integer(s: &[u8]) -> Integer
+pub fn read_integer(s: &[u8]) -> Option<u32>
     ensures { result ≡ integer_of s.now }
 {
     run(s, DECIMAL)
 }
 
 // Digits as they stand in a text: their value, cut at CAP, and where they end.
-#[derive(Clone, Copy)]
+#[derive(Clone, Copy, PartialEq, Eq)]
 pub struct DigitRun {
     pub value: u32,
     pub end: usize,
 }
 
-fn is_decimal(c: u8) -> bool
-    ensures { result ≡ is_digit 10 c }
+// The digits from `at` on, read in the one scan that finds their end.
+#[inline(always)]
+fn digit_run<const RADIX: u32>(text: &[u8], at: usize) -> DigitRun
+    requires at_in_bounds { at ≤ length text.now }
+    requires radix_nonzero { 0 < RADIX }
+    requires radix_bound { RADIX ≤ 16 }
+    ensures { result ≡ digits_at RADIX text.now at }
 {
-    if c < 48 {
-        return false;
+    let mut value = 0;
+    for i in at..text.len() {
+        let Some(d) = digit(text[i], RADIX) else {
+            return DigitRun { value, end: i };
+        };
+        value = grown(value, RADIX, d);
     }
-    c <= 57
+    DigitRun {
+        value,
+        end: text.len(),
+    }
 }
 
-// The decimal digits from `at` on, read in the one scan that finds their end.
+// The decimal digits from `at` on.
 pub fn digits_at(text: &[u8], at: usize) -> DigitRun
     requires { at ≤ length text.now }
     ensures { result ≡ digits_at 10 text.now at }
 {
-    let mut value: u32 = 0;
-    let mut i = at;
-    while i < text.len() {
-        let c = text[i];
-        if !is_decimal(c) {
-            return DigitRun { value, end: i };
-        }
-        value = grown(value, DECIMAL, (c - 48) as u32);
-        i += 1;
-    }
-    DigitRun { value, end: i }
-}
-
-// Bit n is set where character 48 + n is a hexadecimal digit.
-const HEX: u64 = 35465847073801215;
-
-fn is_hex(c: u8) -> bool
-    ensures { result ≡ is_digit 16 c }
-{
-    if c < 48 {
-        return false;
-    }
-    if 102 < c {
-        return false;
-    }
-    (HEX >> (c - 48)) % 2 == 1
-}
-
-// What a hexadecimal digit counts, without a test: letters of both cases end in their number less 9.
-fn hex_digit(c: u8) -> u32
-    requires { is_digit 16 c ≡ true }
-    ensures { result ≡ digit_of c }
-{
-    (c % 16 + c / 64 * 9) as u32
+    digit_run::<DECIMAL>(text, at)
 }
 
 // The hexadecimal digits from `at` on.
@@ -176,104 +142,78 @@ pub fn hex_at(text: &[u8], at: usize) -> DigitRun
     requires { at ≤ length text.now }
     ensures { result ≡ digits_at 16 text.now at }
 {
-    let mut value: u32 = 0;
-    let mut i = at;
-    while i < text.len() {
-        let c = text[i];
-        if !is_hex(c) {
-            return DigitRun { value, end: i };
-        }
-        value = grown(value, HEXADECIMAL, hex_digit(c));
-        i += 1;
-    }
-    DigitRun { value, end: i }
+    digit_run::<HEXADECIMAL>(text, at)
 }
 
 // The place of the first `b`, or the length where there is none.
 fn cut(s: &[u8], b: u8) -> usize
     ensures { result ≡ cut_at b s.now }
 {
-    let mut i: usize = 0;
-    while i < s.len() {
-        if s[i] == b {
-            return i;
-        }
-        i += 1;
-    }
-    i
+    s.iter().position(|c| *c == b).unwrap_or(s.len())
 }
 
 // The digits behind a point at `at`, at most `most`; 0 where `at` is the end and there is no point.
-fn decimals(s: &[u8], at: usize, most: usize) -> Integer
+fn decimals(s: &[u8], at: usize, most: usize) -> Option<u32>
     ensures { result ≡ decimals_of most s.now at }
 {
     if s.len() <= at {
-        return Integer::Value(0);
+        return Some(0);
     }
     let rest = &s[at + 1..];
     if most < rest.len() {
-        return Integer::Malformed;
+        return None;
     }
     read_integer(rest)
 }
 
 // A cue, group or link number.
-#[derive(Clone, Copy)]
+#[derive(Clone, Copy, PartialEq, Eq)]
 pub struct Number {
     pub whole: u32,
     pub fraction: u32,
 }
 
-#[derive(Clone, Copy)]
-pub enum Numbered {
+// Why a field is no such number.
+#[derive(Clone, Copy, PartialEq, Eq, Debug)]
+pub enum NumberError {
     Malformed,
     TooLarge,
-    Value(Number),
 }
 
 // The format is tested before the size; 0 and 0.0 have no right format.
-fn sized(whole: Integer, fraction: Integer) -> Numbered
-    requires at_most { AtMost cap whole }
-    requires at_most_2 { AtMost cap fraction }
+fn sized(whole: Option<u32>, fraction: Option<u32>) -> Result<Number, NumberError>
+    requires whole_capped { AtMost cap whole }
+    requires fraction_capped { AtMost cap fraction }
     ensures { result ≡ numbered_of whole fraction }
 {
-    let Integer::Value(w) = whole else {
-        return Numbered::Malformed;
-    };
-    let Integer::Value(f) = fraction else {
-        return Numbered::Malformed;
+    let (Some(w), Some(f)) = (whole, fraction) else {
+        return Err(NumberError::Malformed);
     };
     if WHOLE_MAX < w {
-        return Numbered::TooLarge;
+        return Err(NumberError::TooLarge);
     }
     if w + f == 0 {
-        return Numbered::Malformed;
+        return Err(NumberError::Malformed);
     }
-    Numbered::Value(Number {
+    Ok(Number {
         whole: w,
         fraction: f,
     })
 }
 
 // A number's whole part by the digits that it begins with: malformed where there are none, or where neither the point nor the end follows.
-fn whole_by(s: &[u8], d: DigitRun) -> Integer
+fn whole_by(s: &[u8], d: DigitRun) -> Option<u32>
     requires { d ≡ digits_at 10 s.now 0 }
     ensures { result ≡ integer_of (before (cut_at point s.now) s.now) }
 {
-    let end = d.end;
-    if end == 0 {
-        return Integer::Malformed;
+    if d.end == 0 || d.end < s.len() && s[d.end] != b'.' {
+        return None;
     }
-    if end < s.len() {
-        if s[end] != b'.' {
-            return Integer::Malformed;
-        }
-    }
-    Integer::Value(d.value)
+    Some(d.value)
 }
 
 // The whole part is read in the one scan that finds its end.
-pub fn read_number(s: &[u8]) -> Numbered
+pub fn read_number(s: &[u8]) -> Result<Number, NumberError>
     ensures { result ≡ number_of s.now }
 {
     let d = digits_at(s, 0);
@@ -282,14 +222,11 @@ pub fn read_number(s: &[u8]) -> Numbered
 }
 
 // The number that two parts write, whatever the desk could keep; NO_NUMBER where they write none.
-fn borne(whole: Integer, fraction: Integer) -> u32
+fn borne(whole: Option<u32>, fraction: Option<u32>) -> u32
     requires { AtMost cap fraction }
     ensures { result ≡ borne_by whole fraction }
 {
-    let Integer::Value(w) = whole else {
-        return NO_NUMBER;
-    };
-    let Integer::Value(f) = fraction else {
+    let (Some(w), Some(f)) = (whole, fraction) else {
         return NO_NUMBER;
     };
     if BORNE_MAX < w {
@@ -308,36 +245,26 @@ pub fn read_borne(s: &[u8]) -> u32
 }
 
 // One part of a time: hours, minutes or seconds.
-fn part(s: &[u8]) -> Integer
+#[tactic(auto, unfolding(crate::specs::Time::part_of, crate::specs::Time::bounded_of))]
+fn part(s: &[u8]) -> Option<u32>
     ensures { result ≡ part_of s.now }
 {
-    let Integer::Value(v) = read_integer(s) else {
-        return Integer::Malformed;
-    };
-    if PART_MAX < v {
-        return Integer::Malformed;
-    }
-    Integer::Value(v)
+    let v = read_integer(s)?;
+    (v <= PART_MAX).then_some(v)
 }
 
 // Two parts, of which the second counts units of which the first has `base` each.
-fn joined(high: Integer, base: u32, low: Integer) -> Integer
-    requires at_most { AtMost 10_000_000 high }
+fn joined(high: Option<u32>, base: u32, low: Option<u32>) -> Option<u32>
+    requires high_bound { AtMost 10_000_000 high }
     requires base_bound { base ≤ 100 }
-    requires at_most_2 { AtMost cap low }
+    requires low_capped { AtMost cap low }
     ensures { result ≡ join_of high base low }
 {
-    let Integer::Value(h) = high else {
-        return Integer::Malformed;
-    };
-    let Integer::Value(l) = low else {
-        return Integer::Malformed;
-    };
-    Integer::Value(h * base + l)
+    Some(high? * base + low?)
 }
 
 // The parts after the first colon, one or two of them, behind what stood before it.
-fn later(first: Integer, s: &[u8]) -> Integer
+fn later(first: Option<u32>, s: &[u8]) -> Option<u32>
     requires { AtMost part_max first }
     ensures { result ≡ later_of first s.now }
 {
@@ -350,7 +277,7 @@ fn later(first: Integer, s: &[u8]) -> Integer
 }
 
 // Hours, minutes and seconds as seconds.
-fn clock(s: &[u8]) -> Integer
+fn clock(s: &[u8]) -> Option<u32>
     ensures { result ≡ clock_of s.now }
 {
     let colon = cut(s, b':');
@@ -362,71 +289,45 @@ fn clock(s: &[u8]) -> Integer
 }
 
 // A time in tenths of a second.
-#[derive(Clone, Copy)]
-pub enum Timed {
-    Malformed,
-    Value(u32),
-}
-
-pub fn read_time(s: &[u8]) -> Timed
+pub fn read_time(s: &[u8]) -> Option<u32>
     ensures { result ≡ time_of s.now }
 {
     let point = cut(s, b'.');
     let seconds = clock(&s[..point]);
-    match joined(seconds, 10, decimals(s, point, TENTHS_DIGITS)) {
-        Integer::Malformed => Timed::Malformed,
-        Integer::Value(t) => Timed::Value(t),
-    }
+    joined(seconds, 10, decimals(s, point, TENTHS_DIGITS))
 }
 
 // IDENT's major:minor.
-#[derive(Clone, Copy)]
-pub enum Version {
-    Malformed,
-    Value(u32, u32),
+#[derive(Clone, Copy, PartialEq, Eq)]
+pub struct Version {
+    pub major: u32,
+    pub minor: u32,
 }
 
-fn versioned(major: Integer, minor: Integer) -> Version
+fn versioned(major: Option<u32>, minor: Option<u32>) -> Option<Version>
     ensures { result ≡ versioned_of major minor }
 {
-    let Integer::Value(a) = major else {
-        return Version::Malformed;
-    };
-    let Integer::Value(b) = minor else {
-        return Version::Malformed;
-    };
-    Version::Value(a, b)
+    Some(Version {
+        major: major?,
+        minor: minor?,
+    })
 }
 
-pub fn read_version(s: &[u8]) -> Version
+pub fn read_version(s: &[u8]) -> Option<Version>
     ensures { result ≡ version_of s.now }
 {
     let colon = cut(s, b':');
     if s.len() <= colon {
-        return Version::Malformed;
+        return None;
     }
     let major = read_integer(&s[..colon]);
     versioned(major, read_integer(&s[colon + 1..]))
 }
 
-#[derive(Clone, Copy)]
-pub enum Paged {
-    Bad,
-    Value(u32),
-}
-
 // A page, 1 to `limit`.
-pub fn read_page(s: &[u8], limit: u32) -> Paged
+#[tactic(auto, unfolding(crate::specs::Field::page_of, crate::specs::Field::paged_of))]
+pub fn read_page(s: &[u8], limit: u32) -> Option<u32>
     ensures { result ≡ page_of limit s.now }
 {
-    let Integer::Value(v) = read_integer(s) else {
-        return Paged::Bad;
-    };
-    if v == 0 {
-        return Paged::Bad;
-    }
-    if limit < v {
-        return Paged::Bad;
-    }
-    Paged::Value(v)
+    read_integer(s).filter(|v| (1..=limit).contains(v))
 }

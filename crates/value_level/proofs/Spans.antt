@@ -1,6 +1,7 @@
 -- Levels read in the scan that finds their end: each reader's answer as its definition has it, and what the characters make of a field that ends
 -- with them or goes on. By cases on the tests, and by the laws of digit runs.
 -- Assumes nothing.
+use Rattle.std.specs.Prelude.{Err, Ok, Result}
 use mathlib.Core.Path.{◌≡◌, refl, sym, ap, ◌∙◌, subst}
 use mathlib.Core.Bool.{true, false, cond, ◌||◌}
 use mathlib.Core.List.{List, [], ◌∷◌}
@@ -18,22 +19,22 @@ use Rattle.value.specs.Integer.{integer_of}
 use Rattle.value.specs.Digits.{is_digit, value_from, digits_at}
 use Rattle.value.proofs.Digits.{run_empty}
 use Rattle.value.proofs.Runs.{run_value, run_end, decimal_hex, run_exact, run_longer, integer_exact, integer_none, integer_longer, hex_two, hex_four}
-use Rattle.value_level.specs.declared.Leveled.{Leveled}
-use Rattle.value_level.specs.declared.Leveled.TheVariants.{NotPercent, NotHex, Value}
 use Rattle.value_level.specs.declared.Leveling.{Leveling}
 use Rattle.value_level.specs.Level.{percent_byte, percent_max, percent_of, hex_digits, hex_of, is_hex_mark, level_of}
 use Rattle.value_level.specs.Run.{decimals, hexes, level_span, HexFits, hex_by, percent_leveling, hex_leveling, leveling_at}
 use Rattle.value_level.proofs.Levels.{percent_malformed, percent_large, percent_min, hex_long, hex_read, hex_malformed, hex_byte, hex_upper, level_hex, level_percent}
+use Rattle.value_level.specs.declared.LevelError.{LevelError}
+use Rattle.value_level.specs.declared.LevelError.TheVariants.{NotPercent, NotHex}
 
-abbrev pub leveling : Leveled → ℕ → Leveling
+abbrev pub leveling : Result ℕ LevelError → ℕ → Leveling
 leveling l n = record { level = l; end = n }
 
 -- ---- a percentage, from the digits as the code has them
-percent_leveling_lem : (text : List ℕ) (at : ℕ) (d : DigitRun) {l : Leveled} → d ≡ digits_at 10 text at
+percent_leveling_lem : (text : List ℕ) (at : ℕ) (d : DigitRun) {l : Result ℕ LevelError} → d ≡ digits_at 10 text at
     → percent_of (integer_of (take (decimals (drop at text)) (drop at text))) ≡ l → leveling l d.end ≡ percent_leveling text at
 unfolding percent_leveling digits_at
 percent_leveling_lem text at d {l} e f =
-    ap (λ (x : DigitRun). leveling l x.end) e ∙ ap (λ (x : Leveled). leveling x (at + decimals (drop at text))) (sym f)
+    ap (λ (x : DigitRun). leveling l x.end) e ∙ ap (λ (x : Result ℕ LevelError). leveling x (at + decimals (drop at text))) (sym f)
 
 module _ (text : List ℕ) (at : ℕ) (d : DigitRun) (e : d ≡ digits_at 10 text at) where
   some : (d.end ≡ at → ⊥) → 0 < decimals (drop at text)
@@ -41,39 +42,39 @@ module _ (text : List ℕ) (at : ℕ) (d : DigitRun) (e : d ≡ digits_at 10 tex
       let q : d.end ≡ at + decimals (drop at text) = run_end 10 text at e in
       by_lt 0 (decimals (drop at text)) (λ h. h) (λ h. absurd (f (omega arith)))
 
-  pub percent_none : d.end ≡ at → leveling NotPercent d.end ≡ percent_leveling text at
+  pub percent_none : d.end ≡ at → leveling (Err NotPercent) d.end ≡ percent_leveling text at
   percent_none f =
       let q : d.end ≡ at + decimals (drop at text) = run_end 10 text at e in
       let z : decimals (drop at text) ≡ 0 = omega arith in
       percent_leveling_lem text at d e (percent_malformed (integer_none (drop at text) z))
 
-  pub percent_over : (d.end ≡ at → ⊥) → percent_max < d.value → leveling NotPercent d.end ≡ percent_leveling text at
+  pub percent_over : (d.end ≡ at → ⊥) → percent_max < d.value → leveling (Err NotPercent) d.end ≡ percent_leveling text at
   percent_over f h =
       percent_leveling_lem text at d e
       (percent_large (integer_exact (drop at text) (some f)) (subst (λ (v : ℕ). percent_max < v) (run_value 10 text at e) h))
 
   pub percent_taken : {b : ℕ} → (d.end ≡ at → ⊥) → d.value ≤ percent_max → b ≡ percent_byte (min d.value 100)
-      → leveling (Value b) d.end ≡ percent_leveling text at
+      → leveling (Ok b) d.end ≡ percent_leveling text at
   percent_taken f h i =
       percent_leveling_lem text at d e
       (percent_min (integer_exact (drop at text) (some f)) (subst (λ (v : ℕ). v ≤ percent_max) (run_value 10 text at e) h)
-      ∙ ap (λ (v : ℕ). Value (percent_byte (min v 100))) (sym (run_value 10 text at e)) ∙ ap Value (sym i))
+      ∙ ap (λ (v : ℕ). Ok (percent_byte (min v 100))) (sym (run_value 10 text at e)) ∙ ap Ok (sym i))
 
 -- ---- hexadecimal digits, of which there are n
-pub hex_by_none : (v : ℕ) → hex_by 0 v ≡ NotHex
+pub hex_by_none : (v : ℕ) → hex_by 0 v ≡ Err NotHex
 unfolding hex_by
 hex_by_none v = refl
 
 module _ (n v : ℕ) where
-  pub hex_by_many : (n ≡ 0 → ⊥) → hex_digits < n → NotHex ≡ hex_by n v
+  pub hex_by_many : (n ≡ 0 → ⊥) → hex_digits < n → (Err NotHex) ≡ hex_by n v
   unfolding hex_by
   hex_by_many f h = rw (ne_eqb n 0 f, lt-ltb hex_digits n h)
 
-  pub hex_by_two : (n ≡ 0 → ⊥) → n ≤ hex_digits → n ≤ 2 → Value v ≡ hex_by n v
+  pub hex_by_two : (n ≡ 0 → ⊥) → n ≤ hex_digits → n ≤ 2 → Ok v ≡ hex_by n v
   unfolding hex_by
   hex_by_two f h g = rw (ne_eqb n 0 f, le-ltb hex_digits n h, le-leb n 2 g)
 
-  pub hex_by_four : (n ≡ 0 → ⊥) → n ≤ hex_digits → 2 < n → Value (v / 256) ≡ hex_by n v
+  pub hex_by_four : (n ≡ 0 → ⊥) → n ≤ hex_digits → 2 < n → Ok (v / 256) ≡ hex_by n v
   unfolding hex_by
   hex_by_four f h g = rw (ne_eqb n 0 f, le-ltb hex_digits n h, lt-leb n 2 g)
 
@@ -123,10 +124,10 @@ module _ (text : List ℕ) (at : ℕ) (d : DigitRun) (e : d ≡ digits_at 16 tex
     two = λ h. subst (λ (v : ℕ). v < 256) (sym hex_value) (hex_two (drop at text) (subst (λ (n : ℕ). n ≤ 2) hex_count h));
   }
 
-  pub hex_leveling_lem : {l : Leveled} → l ≡ hex_by (d.end - at) d.value → leveling l d.end ≡ hex_leveling text at
+  pub hex_leveling_lem : {l : Result ℕ LevelError} → l ≡ hex_by (d.end - at) d.value → leveling l d.end ≡ hex_leveling text at
   unfolding hex_leveling
   hex_leveling_lem {l} f =
-      ap (λ (x : Leveled). leveling x d.end)
+      ap (λ (x : Result ℕ LevelError). leveling x d.end)
       (f ∙ ap (λ (n : ℕ). hex_by n d.value) hex_count ∙ ap (λ (v : ℕ). hex_by (hexes (drop at text)) v) hex_value ∙ hex_by_is (drop at text))
       ∙ ap (λ (n : ℕ). leveling (hex_of (take (hexes (drop at text)) (drop at text))) n) hex_end
 
@@ -153,7 +154,7 @@ hex_front : (c : ℕ) (s : List ℕ) → is_hex_mark c ≡ true
     → leveling (level_of (take (level_span (c ∷ s)) (c ∷ s))) (level_span (c ∷ s)) ≡ leveling (hex_of (take (hexes s) s)) (suc (hexes s))
 hex_front c s e =
     ap (λ (n : ℕ). leveling (level_of (take n (c ∷ s))) n) (span_hex (c ∷ s) e)
-    ∙ ap (λ (l : Leveled). leveling l (suc (hexes s))) (level_hex (c ∷ take (hexes s) s) e)
+    ∙ ap (λ (l : Result ℕ LevelError). leveling l (suc (hexes s))) (level_hex (c ∷ take (hexes s) s) e)
 
 pub level_hex_at : (text : List ℕ) (at : ℕ) {l : Leveling}
     → is_hex_mark (get_or text at 0) ≡ true → l ≡ hex_leveling text (at + 1) → l ≡ leveling_at text at
@@ -174,7 +175,7 @@ unfolding percent_leveling leveling_at
 level_percent_at text at e f =
     let s : List ℕ = drop at text in
     let m : is_hex_mark (get_or s 0 0) ≡ false = ap is_hex_mark (get_or-drop at text 0 0 ∙ ap (λ (k : ℕ). get_or text k 0) (add-zero at)) ∙ e in
-    f ∙ ap (λ (l : Leveled). leveling l (at + decimals s)) (sym (level_percent (take (decimals s) s) (no_mark s (decimals s) m)))
+    f ∙ ap (λ (l : Result ℕ LevelError). leveling l (at + decimals s)) (sym (level_percent (take (decimals s) s) (no_mark s (decimals s) m)))
     ∙ ap (λ (n : ℕ). leveling (level_of (take n s)) (at + n)) (sym (span_percent s m))
 
 -- ---- what the characters are
@@ -200,13 +201,13 @@ level_chars s k h =
         or_true_right (is_hex_mark (get_or s k 0)) (is_digit 16 (get_or s k 0)) (span_below (is_digit 16) s k (let z : k < hexes s = omega arith in z))
 
 -- ---- a field that goes on with what no level has is malformed in the format that it begins with
-hex_longer : (s : List ℕ) (k : ℕ) → hexes s < k → k ≤ length s → hex_of (take k s) ≡ NotHex
+hex_longer : (s : List ℕ) (k : ℕ) → hexes s < k → k ≤ length s → hex_of (take k s) ≡ Err NotHex
 hex_longer s k h g =
     by_le (length (take k s)) hex_digits
     (λ l. hex_read (take k s) l ∙ hex_malformed (length (take k s)) (run_longer 16 s k h g))
     (λ l. hex_long (take k s) l)
 
-longer_hex : (s : List ℕ) (k : ℕ) → is_hex_mark (get_or s 0 0) ≡ true → suc (hexes (drop 1 s)) < k → k ≤ length s → level_of (take k s) ≡ NotHex
+longer_hex : (s : List ℕ) (k : ℕ) → is_hex_mark (get_or s 0 0) ≡ true → suc (hexes (drop 1 s)) < k → k ≤ length s → level_of (take k s) ≡ Err NotHex
 longer_hex s zero e h g = absurd (omega arith)
 longer_hex [] (suc k) e h g = absurd (omega arith)
 longer_hex (c ∷ s) (suc k) e h g =
@@ -215,13 +216,13 @@ longer_hex (c ∷ s) (suc k) e h g =
     let b : k ≤ length s = omega arith in
     level_hex (c ∷ take k s) e ∙ hex_longer s k a b
 
-pub level_longer : (s : List ℕ) (k : ℕ) → level_span s < k → k ≤ length s → level_of (take k s) ≡ cond (is_hex_mark (get_or s 0 0)) NotHex NotPercent
+pub level_longer : (s : List ℕ) (k : ℕ) → level_span s < k → k ≤ length s → level_of (take k s) ≡ cond (is_hex_mark (get_or s 0 0)) (Err NotHex) (Err NotPercent)
 level_longer s k h g =
     by_bool (is_hex_mark (get_or s 0 0))
     (λ e.
     longer_hex s k e (subst (λ (n : ℕ). n < k) (span_hex s e) h) g
-    ∙ sym (cond-true (is_hex_mark (get_or s 0 0)) NotHex NotPercent e))
+    ∙ sym (cond-true (is_hex_mark (get_or s 0 0)) (Err NotHex) (Err NotPercent) e))
     (λ e.
     level_percent (take k s) (no_mark s k e)
     ∙ percent_malformed (integer_longer s k (subst (λ (n : ℕ). n < k) (span_percent s e) h) g)
-    ∙ sym (cond-false (is_hex_mark (get_or s 0 0)) NotHex NotPercent e))
+    ∙ sym (cond-false (is_hex_mark (get_or s 0 0)) (Err NotHex) (Err NotPercent) e))

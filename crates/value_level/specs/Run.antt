@@ -1,14 +1,14 @@
 -- A level as the code reads it: the characters from a place on, up to the first that no level goes on with. The laws say what that makes of a
 -- field. No promise above the load names these.
 -- Assumes nothing.
-use Rattle.std.specs.Prelude.{cond, List, ℕ, suc, ◌+◌, ◌<◌, ◌≤◌, ◌/◌, eqb, ltb, leb, get_or, take, drop}
+use Rattle.std.specs.Prelude.{cond, List, ℕ, suc, ◌+◌, ◌<◌, ◌≤◌, ◌/◌, eqb, ltb, leb, get_or, take, drop, Err, Ok, Result}
 use Rattle.cells.specs.Scan.{span}
 use Rattle.value.specs.Integer.{integer_of}
 use Rattle.value.specs.Digits.{is_digit}
-use Rattle.value_level.specs.declared.Leveled.{Leveled}
-use Rattle.value_level.specs.declared.Leveled.TheVariants.{NotHex, Value}
 use Rattle.value_level.specs.declared.Leveling.{Leveling}
 use Rattle.value_level.specs.Level.{percent_of, hex_digits, hex_of, is_hex_mark, level_of}
+use Rattle.value_level.specs.declared.LevelError.{LevelError}
+use Rattle.value_level.specs.declared.LevelError.TheVariants.{NotHex}
 
 -- how many characters a level at the front has
 abbrev pub decimals : List ℕ → ℕ
@@ -25,8 +25,8 @@ pub record HexFits (n v : ℕ) : Type 0 where
   pub four : n ≤ hex_digits → v < 65536
   pub two : n ≤ 2 → v < 256
 
-unfoldable pub hex_by : ℕ → ℕ → Leveled
-hex_by n v = cond (eqb n 0) NotHex (cond (ltb hex_digits n) NotHex (Value (cond (leb n 2) v (v / 256))))
+unfoldable pub hex_by : ℕ → ℕ → Result ℕ LevelError
+hex_by n v = cond (eqb n 0) (Err NotHex) (cond (ltb hex_digits n) (Err NotHex) (Ok (cond (leb n 2) v (v / 256))))
 
 unfoldable pub percent_leveling : List ℕ → ℕ → Leveling
 percent_leveling text at =

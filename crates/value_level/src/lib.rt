@@ -6,10 +6,12 @@ ghost use Rattle.std.specs.Prelude.{◌≡◌, ◌≤◌, length};
 ghost use Rattle.value_level.specs.Level.{percent_byte, byte_percent, is_hex_mark};
 ghost use Rattle.value_level.specs.Run.{percent_leveling, HexFits, hex_by, hex_leveling, leveling_at};
 
+use value::DigitRun;
+
 // A level: the largest percentage taken, and the one that all above it count as.
 const PERCENT_MAX: u32 = 999;
 
-const PERCENT_FULL: usize = 100;
+const PERCENT_FULL: u32 = 100;
 
 const HEX_DIGITS: usize = 4;
 
@@ -32,24 +34,24 @@ pub fn percent_byte(p: usize) -> u8
 }
 
 // The percentage of a level, by Table C-1 of the standard.
+#[tactic(auto, unfolding(crate::specs::Level::byte_percent))]
 pub fn byte_percent(level: u8) -> u32
     ensures { result ≡ byte_percent level }
 {
-    (level as u32 * 200 + 255) / 510
+    (u32::from(level) * 200 + 255) / 510
 }
 
-// A level's byte, or in which of the two formats it is malformed.
-#[derive(Clone, Copy)]
-pub enum Leveled {
+// In which of the two formats a level is malformed.
+#[derive(Clone, Copy, PartialEq, Eq, Debug)]
+pub enum LevelError {
     NotPercent,
     NotHex,
-    Value(u8),
 }
 
-// A level as it stands in a text, and where its characters end.
+// A level's byte as it stands in a text, and where its characters end.
 #[derive(Clone, Copy)]
 pub struct Leveling {
-    pub level: Leveled,
+    pub level: Result<u8, LevelError>,
     pub end: usize,
 }
 
@@ -58,53 +60,35 @@ fn percent(text: &[u8], at: usize) -> Leveling
     requires { at ≤ length text.now }
     ensures { result ≡ percent_leveling text.now at }
 {
-    let d = value::digits_at(text, at);
-    let end = d.end;
-    let v = d.value;
-    if end == at {
-        return Leveling {
-            level: Leveled::NotPercent,
-            end,
-        };
-    }
-    if PERCENT_MAX < v {
-        return Leveling {
-            level: Leveled::NotPercent,
-            end,
-        };
-    }
-    let p = cells::at_most(cells::place(v), PERCENT_FULL);
-    Leveling {
-        level: Leveled::Value(percent_byte(p)),
-        end,
-    }
+    let DigitRun { value, end } = value::digits_at(text, at);
+    let level = if end == at || PERCENT_MAX < value {
+        Err(LevelError::NotPercent)
+    } else {
+        Ok(percent_byte(value.min(PERCENT_FULL) as usize))
+    };
+    Leveling { level, end }
 }
 
 // The digits after the H, of which there are n. One or two are the byte; of three or four the last two are discarded.
-fn hexadecimal(n: usize, v: u32) -> Leveled
+#[tactic(auto, unfolding(crate::specs::Run::hex_by))]
+fn hexadecimal(n: usize, v: u32) -> Result<u8, LevelError>
     requires { HexFits n v }
     ensures { result ≡ hex_by n v }
 {
-    if n == 0 {
-        return Leveled::NotHex;
+    match n {
+        1..=2 => Ok(v as u8),
+        3..=HEX_DIGITS => Ok((v / 256) as u8),
+        _ => Err(LevelError::NotHex),
     }
-    if HEX_DIGITS < n {
-        return Leveled::NotHex;
-    }
-    if n <= 2 {
-        return Leveled::Value(v as u8);
-    }
-    Leveled::Value((v / 256) as u8)
 }
 
 fn hex_at(text: &[u8], at: usize) -> Leveling
     requires { at ≤ length text.now }
     ensures { result ≡ hex_leveling text.now at }
 {
-    let d = value::hex_at(text, at);
-    let end = d.end;
+    let DigitRun { value, end } = value::hex_at(text, at);
     Leveling {
-        level: hexadecimal(end - at, d.value),
+        level: hexadecimal(end - at, value),
         end,
     }
 }
@@ -112,10 +96,7 @@ fn hex_at(text: &[u8], at: usize) -> Leveling
 pub fn hex_mark(c: u8) -> bool
     ensures { result ≡ is_hex_mark c }
 {
-    if c == b'H' {
-        return true;
-    }
-    c == b'h'
+    matches!(c, b'H' | b'h')
 }
 
 // The level that the characters from `at` on make, up to the first that no level goes on with.
@@ -123,8 +104,8 @@ pub fn level_at(text: &[u8], at: usize) -> Leveling
     requires { at ≤ length text.now }
     ensures { result ≡ leveling_at text.now at }
 {
-    if hex_mark(cells::byte(text, at)) {
-        return hex_at(text, at + 1);
+    match text.get(at) {
+        Some(c) if hex_mark(*c) => hex_at(text, at + 1),
+        _ => percent(text, at),
     }
-    percent(text, at)
 }

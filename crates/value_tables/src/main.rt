@@ -8,7 +8,6 @@ ghost use Rattle.value.specs.Integer.{run_of};
 ghost use Rattle.value_tables.specs.Says.{says_of};
 
 use std::io;
-use value::Integer;
 
 const LINE: usize = 10;
 
@@ -19,47 +18,41 @@ const SECOND: usize = 4;
 const FIRST: usize = 7;
 
 // Does a cell, as the document's text has it, say v? A cell with a character that is no digit says nothing.
+#[tactic(auto, unfolding(crate::specs::Says::says_of))]
 fn says(cell: &[u8], v: u8) -> bool
     ensures { result ≡ says_of (run_of 16 cell.now) v }
 {
-    match value::run(cell, 16) {
-        Integer::Malformed => false,
-        Integer::Value(x) => x == cells::wide32(v),
-    }
+    value::run(cell, 16) == Some(u32::from(v))
 }
 
 // What an entry rests on.
-fn print_basis(rt: &impl Print, first: bool, second: bool) -> io::Result<()> {
-    if first {
-        if second {
-            return rt.write_all(b" C-1 C-2\n");
-        }
-        return rt.write_all(b" C-1\n");
+fn basis(first: bool, second: bool) -> &'static str {
+    match (first, second) {
+        (true, true) => "C-1 C-2",
+        (true, false) => "C-1",
+        (false, true) => "C-2",
+        (false, false) => "formula",
     }
-    if second {
-        return rt.write_all(b" C-2\n");
-    }
-    rt.write_all(b" formula\n")
 }
 
 // The line of one percentage.
-fn print_entry(rt: &impl Print, text: &[u8], p: usize) -> io::Result<()>
+fn print_entry(rt: &impl Print, p: usize, line: &[u8]) -> io::Result<()>
     requires p_bound { p < 101 }
-    requires in_bounds { 1010 ≤ length text.now }
+    requires line_length { length line.now ≡ 10 }
 {
     let v = value_level::percent_byte(p);
-    print!(rt; "{p} {v:02x}")?;
-    let at = p * LINE;
-    let second = says(&text[at + SECOND..at + SECOND + 2], v);
-    let first = says(&text[at + FIRST..at + FIRST + 2], v);
-    print_basis(rt, first, second)
+    let basis = basis(
+        says(&line[FIRST..FIRST + 2], v),
+        says(&line[SECOND..SECOND + 2], v),
+    );
+    println!(rt; "{p} {v:02x} {basis}")
 }
 
 fn print_entries(rt: &impl Print, text: &[u8]) -> io::Result<()>
-    requires { 1010 ≤ length text.now }
+    requires { length text.now ≡ 1010 }
 {
-    for p in 0..LINES {
-        print_entry(rt, text, p)?;
+    for (p, line) in text.chunks_exact(LINE).enumerate() {
+        print_entry(rt, p, line)?;
     }
     Ok(())
 }
@@ -72,5 +65,5 @@ fn main(rt: HostRuntime) -> io::Result<()> {
     if text.len() == LINES * LINE {
         return print_entries(&rt, text);
     }
-    rt.write_all(b"the tables have another size\n")
+    println!(rt; "the tables have another size")
 }

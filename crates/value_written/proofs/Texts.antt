@@ -4,8 +4,10 @@ use mathlib.Core.Path.{◌≡◌, refl, sym, ap, ◌∙◌, subst}
 use mathlib.Core.Bool.{Bool, true, ◌&&◌, ◌||◌}
 use mathlib.Core.List.{List, [], ◌∷◌, ◌++◌}
 use Prim.Native.Nat.{ℕ, zero, suc, ◌+◌, ◌-◌, ◌*◌, ◌/◌, ◌%◌, ◌^◌, ◌<◌, ◌≤◌, max}
-use native.Mathlib.Nat.{mod-lt, pow-suc, div-lt_iff_lt-mul, div-mul-le_self, mul-le-mul_right, le_trans}
+use native.Mathlib.Nat.{mod-lt, pow-suc, pow-le-pow_right, div-lt_iff_lt-mul, div-mul-le_self, mul-le-mul_right, le_trans}
 use native.Mathlib.Omega.{arith}
+use Rattle.std.specs.Prelude.{Option, None, Some, IfNone, IfSome}
+use Rattle.std.specs.Option.{unwrap_or}
 use lib.Dec.{eqb, ltb, leb}
 use lib.ListN.{length, get_or, set, length-append}
 use borrow.Author.Tests.{lt-ltb, le-ltb, le-leb, eq-eqb, ne_eqb, eqb-true, leb-true}
@@ -60,23 +62,22 @@ put_last t a xs v h =
     let m : a ≤ length t = omega arith in
     sym (put_next t a xs k (v ∷ []) refl m) ∙ put_comm t a xs k (v ∷ []) l g ∙ ap (λ (z : List ℕ). put z a xs) (sym (set_is_put t k v h))
 
-pub digits_turn : (t : List ℕ) (a r k n j d : ℕ)
-    → 0 < k → j ≡ k - 1 → a + k ≤ length t → d ≡ digit_char (n % r)
-    → put t a (digits_text r k n) ≡ put (set t (a + j) d) a (digits_text r j (n / r))
-digits_turn t a r k n j d h e g q =
-    let f : k ≡ suc j = omega arith in
-    let xs : List ℕ = digits_text r j (n / r) in
-    let l : length xs ≡ j = text_length r j (n / r) in
-    ap (λ (m : ℕ). put t a (digits_text r m n)) f
-    ∙ ap (λ (z : List ℕ). put t a z) (digits_last r j n)
+-- those up to place i
+pub digits_turn : (t : List ℕ) (a r i n d : ℕ) → a < i → i ≤ length t → d ≡ digit_char (n % r)
+    → put t a (digits_text r (i - a) n) ≡ put (set t (i - 1) d) a (digits_text r (i - 1 - a) (n / r))
+digits_turn t a r i n d h e q =
+    let xs : List ℕ = digits_text r (i - 1 - a) (n / r) in
+    let l : length xs ≡ i - 1 - a = text_length r (i - 1 - a) (n / r) in
+    ap (λ (k : ℕ). put t a (digits_text r k n)) (let f : i - a ≡ suc (i - 1 - a) = omega arith in f)
+    ∙ ap (λ (z : List ℕ). put t a z) (digits_last r (i - 1 - a) n)
     ∙ ap (λ (c : ℕ). put t a (xs ++ (c ∷ []))) (sym q)
     ∙ put_last t a xs d (let w : a + length xs < length t = omega arith in w)
-    ∙ ap (λ (m : ℕ). put (set t (a + m) d) a xs) l
+    ∙ ap (λ (k : ℕ). put (set t k d) a xs) (let w : a + length xs ≡ i - 1 = omega arith in w)
 
-pub digits_done : (t : List ℕ) (a r k n : ℕ) → k ≤ 0 → put t a (digits_text r k n) ≡ t
-digits_done t a r k n h =
-    let e : k ≡ 0 = omega arith in
-    ap (λ (m : ℕ). put t a (digits_text r m n)) e ∙ ap (λ (z : List ℕ). put t a z) (digits_none r n) ∙ put_nil t a
+pub digits_done : (t : List ℕ) (a r i n : ℕ) → i ≤ a → put t a (digits_text r (i - a) n) ≡ t
+digits_done t a r i n h =
+    ap (λ (k : ℕ). put t a (digits_text r k n)) (let e : i - a ≡ 0 = omega arith in e)
+    ∙ ap (λ (z : List ℕ). put t a z) (digits_none r n) ∙ put_nil t a
 
 -- ---- how many digits
 pub count_one : (f n : ℕ) → n < 10 → digit_count_from f n ≡ 1
@@ -130,35 +131,6 @@ count_some (suc f) n =
     (λ l. let e : digit_count_from (suc f) n ≡ 1 = count_one (suc f) n l in omega arith)
     (λ l. let e : digit_count_from (suc f) n ≡ suc (digit_count_from f (n / 10)) = count_more f n l in omega arith)
 
--- a loop that counts the digits
-pub record Counting (n rest count : ℕ) : Type 0 where
-  pub left : ℕ
-  pub within : count + left ≡ 10
-  pub small : rest < 10 ^ suc left
-  pub same : digit_count n + 1 ≡ count + digit_count_from left rest
-
-pub counting_start : (n : ℕ) → n < 10 ^ 10 → Counting n n 1
-unfolding digit_count
-counting_start n h = record { left = 9; within = refl; small = h; same = (let e : digit_count_from 9 n + 1 ≡ 1 + digit_count_from 9 n = omega arith in e) }
-
-counting_by : {n rest : ℕ} (count f : ℕ) → count + f ≡ 10 → rest < 10 ^ suc f → digit_count n + 1 ≡ count + digit_count_from f rest → 10 ≤ rest
-    → Counting n (rest / 10) (count + 1)
-counting_by {n} {rest} count zero e s q h = absurd (let m : rest < 10 = s in omega arith)
-counting_by {n} {rest} count (suc f) e s q h =
-    let m : digit_count_from (suc f) rest ≡ suc (digit_count_from f (rest / 10)) = count_more f rest h in
-    record {
-      left = f;
-      within = (let w : count + 1 + f ≡ 10 = omega arith in w);
-      small = tenth_below rest (suc f) s;
-      same = (let w : digit_count n + 1 ≡ count + 1 + digit_count_from f (rest / 10) = omega arith in w);
-    }
-
-pub counting_turn : {n rest count : ℕ} → Counting n rest count → 10 ≤ rest → Counting n (rest / 10) (count + 1)
-counting_turn {n} {rest} {count} w h = counting_by count w.left w.within w.small w.same h
-
-pub counting_end : {n rest count : ℕ} → Counting n rest count → rest < 10 → count ≡ digit_count n
-counting_end {n} {rest} {count} w h = let e : digit_count_from w.left rest ≡ 1 = count_one w.left rest h in omega (arith, w.same)
-
 -- ---- lengths
 pub integer_length : (n : ℕ) → length (integer_text n) ≡ digit_count n
 unfolding integer_text
@@ -171,6 +143,20 @@ integer_enough n h = count_enough 9 n h
 pub integer_count : (n : ℕ) → 1 ≤ digit_count n
 unfolding digit_count
 integer_count n = count_some 9 n
+
+-- one more than the largest power of ten that is no larger; zero has a digit too
+power_count : (n k : ℕ) → n < 10 ^ 10 → 10 ^ k ≤ n → n < 10 * 10 ^ k → digit_count n ≡ k + 1
+unfolding digit_count
+power_count n k h g l =
+    let m : digit_count n ≤ suc k = count_short 9 n k (let p = pow-suc 10 k in omega arith) in
+    let e : n < 10 ^ digit_count n = integer_enough n h in
+    by_lt k (digit_count n) (λ i. omega arith) (λ i. absurd (let p : 10 ^ digit_count n ≤ 10 ^ k = pow-le-pow_right (omega arith) i in omega arith))
+
+pub length_power : (n : ℕ) (o : Option ℕ) → n < 4294967296
+    → IfNone o (n ≡ 0) → IfSome o (λ k. 10 ^ k ≤ n) → IfSome o (λ k. n < 10 * 10 ^ k) → unwrap_or o 0 + 1 ≡ length (integer_text n)
+unfolding digit_count
+length_power n None h z p q = sym (integer_length n ∙ count_one 9 n (let e : n ≡ 0 = z in omega arith))
+length_power n (Some k) h z p q = sym (integer_length n ∙ power_count n k (omega arith) p q)
 
 -- a number below 10 ^ (k + 1) has at most k + 1 digits
 pub integer_short : (n k : ℕ) → n < 10 ^ suc k → length (integer_text n) ≤ suc k
@@ -237,31 +223,16 @@ part_short v k h =
     let c : length (part_text v) ≡ 1 + max 2 (digit_count v) = part_length v in
     omega arith
 
--- two digits below a hundred, and from there on its own
-count_two : (v : ℕ) → 10 ≤ v → 2 ≤ digit_count v
-unfolding digit_count
-count_two v h = let e = count_more 8 v h in let l = count_some 8 (v / 10) in omega arith
+-- its digits, of which there are two at least
+pub part_is : (v : ℕ) {k : ℕ} → k ≡ max (length (integer_text v)) 2 → colon ∷ digits_text 10 k v ≡ part_text v
+unfolding part_text
+part_is v {k} e = ap (λ (j : ℕ). colon ∷ digits_text 10 j v) (omega (arith, integer_length v))
 
-module _ (v : ℕ) where
-  pub part_two : v < 100 → part_text v ≡ colon ∷ digits_text 10 2 v
-  unfolding part_text
-  part_two h =
-      let a : length (integer_text v) ≤ 2 = integer_short v 1 h in
-      let e : max 2 (digit_count v) ≡ 2 = omega (arith, integer_length v) in
-      ap (λ (k : ℕ). colon ∷ digits_text 10 k v) e
-
-  pub part_own : 100 ≤ v → part_text v ≡ colon ∷ integer_text v
-  unfolding part_text integer_text
-  part_own h =
-      let a : 2 ≤ digit_count v = count_two v (omega arith) in
-      let e : max 2 (digit_count v) ≡ digit_count v = omega arith in
-      ap (λ (k : ℕ). colon ∷ digits_text 10 k v) e
-
-  pub part_length_two : v < 100 → length (part_text v) ≡ 3
-  part_length_two h = ap length (part_two h) ∙ ap suc (text_length 10 2 v)
-
-  pub part_length_own : 100 ≤ v → length (part_text v) ≡ 1 + length (integer_text v)
-  part_length_own h = ap length (part_own h) ∙ (let e : suc (length (integer_text v)) ≡ 1 + length (integer_text v) = omega arith in e)
+-- two below a hundred
+part_length_two : (v : ℕ) → v < 100 → length (part_text v) ≡ 3
+part_length_two v h =
+    let a : length (integer_text v) ≤ 2 = integer_short v 1 h in
+    omega (arith, integer_length v, part_length v)
 
 -- any part of 32 bits
 part_long : (v : ℕ) → v < 4294967296 → length (part_text v) ≤ 11
@@ -269,14 +240,6 @@ part_long v h = part_short v 8 (let g : v < 10000000000 = omega arith in g)
 
 -- ---- whole hours, or minutes, and what they leave
 module _ (unit s : ℕ) where
-  pub whole_few : s / unit < part_max → s / unit ≡ whole_in unit s
-  unfolding whole_in
-  whole_few h = omega arith
-
-  pub whole_most : part_max ≤ s / unit → part_max ≡ whole_in unit s
-  unfolding whole_in
-  whole_most h = omega arith
-
   pub whole_max_lem : whole_in unit s ≤ part_max
   unfolding whole_in
   whole_max_lem = omega arith

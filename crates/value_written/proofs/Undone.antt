@@ -1,5 +1,6 @@
 -- Reading undoes writing, for every value in range; by induction on the digits, and by the shapes of the texts.
 -- Assumes nothing.
+use Rattle.std.specs.Prelude.{Ok, Some}
 use mathlib.Core.Path.{◌≡◌, refl, sym, ap, ◌∙◌, subst}
 use mathlib.Core.Bool.{true}
 use mathlib.Core.List.{List, [], ◌∷◌, ◌++◌, append-nil}
@@ -11,11 +12,6 @@ use lib.ListN.{length}
 use borrow.Author.Tests.{ne_eqb}
 use Rattle.cells.specs.Scan.{span}
 use Rattle.cells.proofs.Split.{by_lt, by_eq, not_of_false}
-use Rattle.value.specs.declared.Integer.TheVariants.{Value}
-use Rattle.value.specs.declared.Numbered.TheVariants.{Value as IsNumber}
-use Rattle.value.specs.declared.Timed.TheVariants.{Value as IsTime}
-use Rattle.value.specs.declared.Paged.TheVariants.{Value as IsPage}
-use Rattle.value_level.specs.declared.Leveled.TheVariants.{Value as IsLevel}
 use Rattle.value.specs.Integer.{cap, digit_of, digits_from, run_of, integer_of}
 use Rattle.value.specs.Parts.{point, colon, is_other}
 use Rattle.value.specs.Number.{whole_max, fraction_digits, fraction_max, number, number_of}
@@ -24,7 +20,7 @@ use Rattle.value.specs.Field.{page_of}
 use Rattle.value_level.specs.Level.{hex_digits, level_of}
 use Rattle.value.proofs.Digits.{digit_decimal, digit_capital, digits_nil, digits_cons, run_start}
 use Rattle.value.proofs.Numbers.{number_good, page_good, page_is}
-use Rattle.value.proofs.Times.{part_good, part_is, join_good, time_good}
+use Rattle.value.proofs.Times.{part_good, part_is, join_good}
 use Rattle.value.proofs.Splits.{number_whole, number_parts, time_whole, time_parts, clock_whole, clock_parts, later_whole, later_parts}
 use Rattle.value_level.proofs.Levels.{hex_read, hex_byte, level_hex}
 use Rattle.value_written.specs.Text.{digit_char, digits_on, digits_text, digit_count, integer_text, number_text, level_text, part_text, whole_in, left_by, clock_text, time_text}
@@ -73,27 +69,27 @@ module _ (r : ℕ) (z : 0 < r) (h : r ≤ 16) where
       ∙ ap (λ (x : ℕ). digits_from r x rest) (value_step a n k)
 
   -- a run of k digits has its number
-  pub run_read : (k n : ℕ) → 0 < k → n < r ^ k → n ≤ cap → run_of r (digits_text r k n) ≡ Value n
+  pub run_read : (k n : ℕ) → 0 < k → n < r ^ k → n ≤ cap → run_of r (digits_text r k n) ≡ Some n
   run_read k n s g l =
       let t : length (digits_text r k n) ≡ k = text_length r k n in
       let e : 0 * r ^ k + n ≡ n = ap (λ (x : ℕ). x + n) (zero-mul (r ^ k)) ∙ zero-add n in
       let f : min n cap ≡ n = omega arith in
       run_start r (digits_text r k n) (λ (q : length (digits_text r k n) ≡ 0). omega arith)
       ∙ digits_read k n 0 [] g
-      ∙ ap (λ (x : ℕ). digits_from r x []) e ∙ digits_nil r n ∙ ap Value f
+      ∙ ap (λ (x : ℕ). digits_from r x []) e ∙ digits_nil r n ∙ ap Some f
 
 -- ---- integers
-pub fixed_read : (k n : ℕ) → 0 < k → n < 10 ^ k → n ≤ cap → integer_of (digits_text 10 k n) ≡ Value n
+pub fixed_read : (k n : ℕ) → 0 < k → n < 10 ^ k → n ≤ cap → integer_of (digits_text 10 k n) ≡ Some n
 unfolding integer_of
 fixed_read k n s g l = run_read 10 (omega arith) (omega arith) k n s g l
 
-pub integer_read : (n : ℕ) → n ≤ cap → integer_of (integer_text n) ≡ Value n
+pub integer_read : (n : ℕ) → n ≤ cap → integer_of (integer_text n) ≡ Some n
 unfolding integer_text
 integer_read n l =
     let e : n < 10 ^ 10 = (let m : n < 10000000000 = omega arith in m) in
     fixed_read (digit_count n) n (integer_count n) (integer_enough n e) l
 
-pub page_read : (limit n : ℕ) → 1 ≤ n → n ≤ limit → n ≤ cap → page_of limit (integer_text n) ≡ IsPage n
+pub page_read : (limit n : ℕ) → 1 ≤ n → n ≤ limit → n ≤ cap → page_of limit (integer_text n) ≡ Some n
 page_read limit n a b l =
     sym (page_is limit (integer_text n) refl)
     ∙ page_good limit (integer_read n l) (λ (e : n ≡ 0). omega arith) b
@@ -113,7 +109,7 @@ number_text_some : (w f : ℕ) → (f ≡ 0 → ⊥) → number_text w f ≡ int
 unfolding number_text
 number_text_some w f e = ap (λ (z : List ℕ). integer_text w ++ z) (fraction_some fraction_digits f e)
 
-pub number_read : (w f : ℕ) → w ≤ whole_max → f ≤ fraction_max → (w + f ≡ 0 → ⊥) → number_of (number_text w f) ≡ IsNumber (number w f)
+pub number_read : (w f : ℕ) → w ≤ whole_max → f ≤ fraction_max → (w + f ≡ 0 → ⊥) → number_of (number_text w f) ≡ Ok (number w f)
 number_read w f a b z =
     let xs : List ℕ = integer_text w in
     let l : w ≤ cap = omega arith in
@@ -122,7 +118,7 @@ number_read w f a b z =
     (λ e.
     let g : w + 0 ≡ 0 → ⊥ = λ (q : w + 0 ≡ 0). z (omega arith) in
     ap number_of (number_text_none w f e) ∙ number_whole xs p ∙ number_good (integer_read w l) refl a g
-    ∙ ap (λ (k : ℕ). IsNumber (number w k)) (sym e))
+    ∙ ap (λ (k : ℕ). Ok (number w k)) (sym e))
     (λ e.
     let t : length (digits_text 10 fraction_digits f) ≡ fraction_digits = text_length 10 fraction_digits f in
     let g : length (digits_text 10 fraction_digits f) ≤ fraction_digits = omega arith in
@@ -132,7 +128,7 @@ number_read w f a b z =
     ∙ number_good (integer_read w l) (fixed_read fraction_digits f (omega arith) n m) a z)
 
 -- ---- levels
-pub level_read : (l : ℕ) → l < 256 → level_of (level_text l) ≡ IsLevel l
+pub level_read : (l : ℕ) → l < 256 → level_of (level_text l) ≡ Ok l
 unfolding level_text
 level_read l h =
     let t : length (digits_text 16 2 l) ≡ 2 = text_length 16 2 l in
@@ -144,7 +140,7 @@ level_read l h =
     ∙ hex_byte (length (digits_text 16 2 l)) (run_read 16 (omega arith) (omega arith) 2 l (omega arith) h c) b
 
 -- ---- times
-first_read : (n : ℕ) → n ≤ part_max → part_of (integer_text n) ≡ Value n
+first_read : (n : ℕ) → n ≤ part_max → part_of (integer_text n) ≡ Some n
 first_read n h =
     let l : n ≤ cap = omega arith in
     sym (part_is (integer_text n) refl) ∙ part_good part_max (integer_read n l) h
@@ -153,7 +149,7 @@ first_read n h =
 abbrev later_text : ℕ → List ℕ
 later_text v = digits_text 10 (max 2 (digit_count v)) v
 
-later_read : (v : ℕ) → v ≤ part_max → part_of (later_text v) ≡ Value v
+later_read : (v : ℕ) → v ≤ part_max → part_of (later_text v) ≡ Some v
 later_read v h =
     let l : v ≤ cap = omega arith in
     let e : v < 10 ^ digit_count v = integer_enough v (let m : v < 10000000000 = omega arith in m) in
@@ -163,7 +159,7 @@ later_read v h =
 later_plain : (v : ℕ) → span (is_other colon) (later_text v) ≡ length (later_text v)
 later_plain v = decimals_all (is_other colon) no_colon (max 2 (digit_count v)) v
 
-pub clock_read : (s : ℕ) → s ≤ clock_max → clock_of (clock_text s) ≡ Value s
+pub clock_read : (s : ℕ) → s ≤ clock_max → clock_of (clock_text s) ≡ Some s
 unfolding part_text
 clock_read s h =
     by_lt s 60
@@ -181,7 +177,7 @@ clock_read s h =
     ap clock_of (clock_minutes s l m)
     ∙ clock_parts (integer_text a) (later_text b) (integer_all (is_other colon) no_colon a)
     ∙ later_whole (part_of (integer_text a)) (later_text b) (later_plain b)
-    ∙ join_good 60 (first_read a j) (later_read b k) ∙ ap Value e)
+    ∙ join_good 60 (first_read a j) (later_read b k) ∙ ap Some e)
     (λ m.
     let r : ℕ = left_by 3600 s in
     let a : ℕ = whole_in 3600 s in
@@ -191,7 +187,7 @@ clock_read s h =
     ∙ clock_parts (integer_text a) (later_text b ++ (colon ∷ later_text c)) (integer_all (is_other colon) no_colon a)
     ∙ later_parts (part_of (integer_text a)) (later_text b) (later_text c) (later_plain b)
     ∙ join_good 60 (join_good 60 (first_read a (whole_max_lem 3600 s)) (later_read b (whole_max_lem 60 r))) (later_read c (clock_left s h))
-    ∙ ap Value (hours_whole s)))
+    ∙ ap Some (hours_whole s)))
 
 time_text_none : (t : ℕ) → t % 10 ≡ 0 → time_text t ≡ clock_text (t / 10)
 unfolding time_text
@@ -202,7 +198,7 @@ time_text_some : (t : ℕ) → (t % 10 ≡ 0 → ⊥) → time_text t ≡ clock_
 unfolding time_text
 time_text_some t e = ap (λ (z : List ℕ). clock_text (t / 10) ++ z) (fraction_some tenths_digits (t % 10) e)
 
-pub time_read : (t : ℕ) → t ≤ time_max → time_of (time_text t) ≡ IsTime t
+pub time_read : (t : ℕ) → t ≤ time_max → time_of (time_text t) ≡ Some t
 time_read t h =
     let u : ℕ = t / 10 in
     let v : ℕ = t % 10 in
@@ -212,7 +208,7 @@ time_read t h =
     by_eq (t % 10) 0
     (λ e.
     let q : t / 10 * 10 + 0 ≡ t = omega arith in
-    ap time_of (time_text_none t e) ∙ time_whole xs p ∙ time_good (join_good 10 (clock_read u l) refl ∙ ap Value q))
+    ap time_of (time_text_none t e) ∙ time_whole xs p ∙ (join_good 10 (clock_read u l) refl ∙ ap Some q))
     (λ e.
     let q : t / 10 * 10 + t % 10 ≡ t = omega arith in
     let n : length (digits_text 10 tenths_digits v) ≡ tenths_digits = text_length 10 tenths_digits v in
@@ -220,4 +216,4 @@ time_read t h =
     let m : t % 10 ≤ cap = omega arith in
     let k : t % 10 < 10 ^ tenths_digits = (let j : t % 10 < 10 = omega arith in j) in
     ap time_of (time_text_some t e) ∙ time_parts xs (digits_text 10 tenths_digits v) p g
-    ∙ time_good (join_good 10 (clock_read u l) (fixed_read tenths_digits v (omega arith) k m) ∙ ap Value q))
+    ∙ (join_good 10 (clock_read u l) (fixed_read tenths_digits v (omega arith) k m) ∙ ap Some q))

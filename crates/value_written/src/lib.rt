@@ -15,25 +15,22 @@ const HEXADECIMAL: u32 = 16;
 
 const LEVEL_DIGITS: usize = 2;
 
-// After a colon a part of a time has two digits, and more only from a hundred on.
+// After a colon a part of a time has two digits at least.
 const PART_DIGITS: usize = 2;
-
-const LONG_PART: u32 = 100;
 
 // In seconds.
 const MINUTE: u32 = 60;
 
 const HOUR: u32 = 3600;
 
+const DIGITS: [u8; 16] = *b"0123456789ABCDEF";
+
 // A digit's character, capitals from ten on.
 fn digit_char(d: u32) -> u8
     requires { d < 16 }
     ensures { result ≡ digit_char d }
 {
-    if d < 10 {
-        return 48 + d as u8;
-    }
-    55 + d as u8
+    DIGITS[d as usize]
 }
 
 // The last `count` digits of n, leading zeros written. Answers the place after them, as every `put` does.
@@ -44,11 +41,9 @@ pub fn put_digits(out: &mut [u8], at: usize, n: u32, count: usize, radix: u32) -
     ensures { wrote result out.new ≡ wrote_at out.old at (digits_text radix count n) }
 {
     let mut rest = n;
-    let mut left = count;
-    while 0 < left {
-        left -= 1;
-        out[at + left] = digit_char(rest % radix);
-        rest = rest / radix;
+    for i in (at..at + count).rev() {
+        out[i] = digit_char(rest % radix);
+        rest /= radix;
     }
     at + count
 }
@@ -57,21 +52,14 @@ pub fn put_digits(out: &mut [u8], at: usize, n: u32, count: usize, radix: u32) -
 pub fn integer_length(n: u32) -> usize
     ensures { result ≡ length (integer_text n) }
 {
-    let mut rest = n;
-    let mut count: usize = 1;
-    while 10 <= rest {
-        rest = rest / 10;
-        count += 1;
-    }
-    count
+    n.checked_ilog10().unwrap_or(0) as usize + 1
 }
 
 pub fn put_integer(out: &mut [u8], at: usize, n: u32) -> usize
     requires { Room out.old at (integer_text n) }
     ensures { wrote result out.new ≡ wrote_at out.old at (integer_text n) }
 {
-    let count = integer_length(n);
-    put_digits(out, at, n, count, DECIMAL)
+    put_digits(out, at, n, integer_length(n), DECIMAL)
 }
 
 // An integer behind a mark.
@@ -130,16 +118,13 @@ pub fn put_level(out: &mut [u8], at: usize, level: u8) -> usize
     ensures { wrote result out.new ≡ wrote_at out.old at (level_text level) }
 {
     out[at] = b'H';
-    put_digits(out, at + 1, level as u32, LEVEL_DIGITS, HEXADECIMAL)
+    put_digits(out, at + 1, u32::from(level), LEVEL_DIGITS, HEXADECIMAL)
 }
 
 fn part_length(v: u32) -> usize
     ensures { result ≡ length (part_text v) }
 {
-    if v < LONG_PART {
-        return 1 + PART_DIGITS;
-    }
-    1 + integer_length(v)
+    1 + integer_length(v).max(PART_DIGITS)
 }
 
 fn put_part(out: &mut [u8], at: usize, v: u32) -> usize
@@ -147,10 +132,7 @@ fn put_part(out: &mut [u8], at: usize, v: u32) -> usize
     ensures { wrote result out.new ≡ wrote_at out.old at (part_text v) }
 {
     out[at] = b':';
-    if v < LONG_PART {
-        return put_digits(out, at + 1, v, PART_DIGITS, DECIMAL);
-    }
-    put_integer(out, at + 1, v)
+    put_digits(out, at + 1, v, integer_length(v).max(PART_DIGITS), DECIMAL)
 }
 
 // As many whole hours, or minutes, as fit, up to 999.
@@ -158,11 +140,7 @@ fn whole_in(seconds: u32, unit: u32) -> u32
     requires { 0 < unit }
     ensures { result ≡ whole_in unit seconds }
 {
-    let whole = seconds / unit;
-    if whole < PART_MAX {
-        return whole;
-    }
-    PART_MAX
+    (seconds / unit).min(PART_MAX)
 }
 
 // The seconds that they leave.

@@ -1,16 +1,12 @@
--- `cut` meets its contract. The invariant: the cut from here on is the cut from the start.
-use native.Mathlib.Omega.{arith}
-use Rattle.value.proofs.Cuts.{cut_start, cut_turn, cut_found, cut_end}
+-- `cut` meets its contract: the place of the first, or the length where there is none.
+use Rattle.std.proofs.Common.{ℕ, Option, length, eqb, rules, tests, ◌∙◌, ap}
+use Rattle.std.specs.Option.{unwrap_or}
+use Rattle.std.proofs.lemmas.Iterator.{YieldsList-from_slice}
+use Rattle.std.proofs.lemmas.Iterator.Search.{position_from_yields_List}
+use Rattle.value.proofs.Cuts.{cut_position}
 use Rattle.value.proofs.cut.Goals as goal
 
-pub loop-i-init : goal.loop-i-init
-loop-i-init c = (omega arith, cut_start _ _)
-
-pub returns-then-s-i : goal.returns-then-s-i
-returns-then-s-i c = cut_found _ _ _ c.loop-i-test.true c.if-s-i.true c.loop-i.invariant.1
-
-pub loop-i-preserved : goal.loop-i-preserved
-loop-i-preserved c = (omega arith, cut_turn _ _ _ c.loop-i-test.true c.if-s-i.false c.loop-i.invariant.1)
-
 pub returns : goal.returns
-returns c = cut_end _ _ _ c.loop-i-test.false c.loop-i.invariant.1
+returns c =
+    let p = position_from_yields_List (λ x. eqb x c.args.b) _ _ c.position.result c.position.ensures.ran (YieldsList-from_slice c.args.s.now cc) (λ x b q k. search (rules, tests)) in
+    c.unwrap_or.ensures ∙ ap (λ (o : Option ℕ). unwrap_or o (length c.args.s.now)) p ∙ cut_position c.args.b c.args.s.now

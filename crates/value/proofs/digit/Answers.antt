@@ -1,25 +1,16 @@
--- `digit` meets its contract: each return is one range of characters.
-use mathlib.Core.Path.{sym}
-use Rattle.value.proofs.Digits.{digit_low, digit_decimal, digit_signs, digit_capital, digit_letters, digit_small, digit_high}
+-- `digit` meets its contract: the constant is the rule's table, computed once, and the rule holds at each place of it.
+use Rattle.std.proofs.Common.{◌≡◌, ℕ, ◌<◌, ltb, get_or, Option, SomeIff, ap, ◌∙◌, arith}
+use Rattle.std.specs.Bool.{then_some}
+use Rattle.cells.specs.Table.{tab}
+use Rattle.cells.proofs.Table.{tab_at}
+use Rattle.value.specs.Integer.{digit_of}
 use Rattle.value.proofs.digit.Goals as goal
 
-pub returns-then-c-lt48 : goal.returns-then-c-lt48
-returns-then-c-lt48 c = sym (digit_low _ c.if-c-lt48.true)
-
-pub returns-then-c-le57 : goal.returns-then-c-le57
-returns-then-c-le57 c = sym (digit_decimal _ c.if-c-lt48.false c.if-c-le57.true)
-
-pub returns-then-c-lt65 : goal.returns-then-c-lt65
-returns-then-c-lt65 c = sym (digit_signs _ c.if-c-le57.false c.if-c-lt65.true)
-
-pub returns-then-c-le70 : goal.returns-then-c-le70
-returns-then-c-le70 c = sym (digit_capital _ c.if-c-lt65.false c.if-c-le70.true)
-
-pub returns-then-c-lt97 : goal.returns-then-c-lt97
-returns-then-c-lt97 c = sym (digit_letters _ c.if-c-le70.false c.if-c-lt97.true)
-
-pub returns-then-c-le102 : goal.returns-then-c-le102
-returns-then-c-le102 c = sym (digit_small _ c.if-c-lt97.false c.if-c-le102.true)
+then_counts : {o : Option ℕ} {d e : ℕ} (r : ℕ) → o ≡ then_some (ltb d r) d → d ≡ e → SomeIff o (e < r) e
+then_counts r p q = grind arith
 
 pub returns : goal.returns
-returns c = sym (digit_high _ c.if-c-le102.false)
+unfolding tab digit_of
+returns c =
+    then_counts _ c.then_some.ensures
+    (c.from-d.ensures ∙ ap (λ (i : ℕ). get_or (tab digit_of 0 256) i 0) c.from.ensures ∙ tab_at digit_of 256 c.args.c 0 (omega arith))

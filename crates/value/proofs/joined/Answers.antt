@@ -1,25 +1,30 @@
 -- `joined` meets its contract: the sum stays far below 32 bits.
-use mathlib.Core.Path.{sym, subst}
+use mathlib.Core.Path.{subst}
 use native.Mathlib.Omega.{arith}
+use Rattle.std.proofs.Common.{rules}
 use Rattle.value.specs.Integer.{cap, AtMost}
-use Rattle.value.proofs.Times.{join_high, join_low, join_good, joined_fits}
+use Rattle.value.specs.Time.{join_of}
+use Rattle.value.proofs.Times.{joined_fits}
 use Rattle.value.proofs.joined.Goals as goal
 
-pub returns-in_default : goal.returns-in_default
-returns-in_default c = sym (join_high _ _ c.in_default.is)
+pub returns-in_err-high : goal.returns-in_err-high
+unfolding join_of
+returns-in_err-high c = search rules
 
-pub returns-in_default-low : goal.returns-in_default-low
-returns-in_default-low c = sym (join_low _ c.in-Value.is c.in_default-low.is)
+pub returns-in_err-low : goal.returns-in_err-low
+unfolding join_of
+returns-in_err-low c = search rules
 
 pub overflow_mul-result : goal.overflow_mul-result
 overflow_mul-result c =
-    omega
-    (arith, joined_fits (subst (AtMost 10000000) c.in-Value.is c.requires.at_most) c.requires.base_bound (subst (AtMost cap) c.in-Value-low.is c.requires.at_most_2))
+    let h = joined_fits {l = 0} (subst (AtMost 10000000) c.in_ok-high.was c.requires.high_bound) c.requires.base_bound (omega arith) in
+    omega arith
 
 pub overflow_add-result : goal.overflow_add-result
 overflow_add-result c =
     omega
-    (arith, joined_fits (subst (AtMost 10000000) c.in-Value.is c.requires.at_most) c.requires.base_bound (subst (AtMost cap) c.in-Value-low.is c.requires.at_most_2))
+    (arith, joined_fits (subst (AtMost 10000000) c.in_ok-high.was c.requires.high_bound) c.requires.base_bound (subst (AtMost cap) c.in_ok-low.was c.requires.low_capped))
 
 pub returns : goal.returns
-returns c = sym (join_good _ c.in-Value.is c.in-Value-low.is)
+unfolding join_of
+returns c = search rules

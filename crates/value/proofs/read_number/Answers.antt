@@ -7,7 +7,7 @@ use Rattle.value.proofs.Wholes.{number_by}
 use Rattle.value.proofs.read_number.Goals as goal
 
 pub sized-requires : goal.sized-requires
-sized-requires c = record { at_most = subst (AtMost cap) (sym c.whole_by-whole.ensures) (integer_capped _); at_most_2 = subst (AtMost cap) (sym c.decimals.ensures) (decimals_capped _ _ _) }
+sized-requires c = record { whole_capped = subst (AtMost cap) (sym c.whole_by-whole.ensures) (integer_capped _); fraction_capped = subst (AtMost cap) (sym c.decimals.ensures) (decimals_capped _ _ _) }
 
 pub returns : goal.returns
 returns c =

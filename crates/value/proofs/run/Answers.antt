@@ -1,26 +1,22 @@
 -- `run` meets its contract. The invariant: the digits from here on, behind the value so far, are the whole run.
-use mathlib.Core.Path.{sym, ◌∙◌}
-use native.Mathlib.Omega.{arith}
+use Rattle.std.proofs.Common.{sym, ◌∙◌, arith}
+use borrow.Author.Tests.{eqb-true, eqb-false}
 use Rattle.value.proofs.Digits.{run_empty, run_start, run_turn, run_stop, run_end}
 use Rattle.value.proofs.run.Goals as goal
 
-pub returns-then-s-eq0 : goal.returns-then-s-eq0
-returns-then-s-eq0 c = sym (run_empty _ _ c.if-s-eq0.true)
+pub returns-then-is_empty : goal.returns-then-is_empty
+returns-then-is_empty c = sym (run_empty _ _ (eqb-true _ _ (sym c.if-is_empty.ensures)))
 
-pub loop-i-init : goal.loop-i-init
-loop-i-init c = (omega arith, omega arith, run_start _ _ c.if-s-eq0.false)
+pub loop-c-init : goal.loop-c-init
+loop-c-init c = (omega arith, run_start _ _ (eqb-false _ _ (sym c.if-is_empty.ensures)))
 
-pub returns-then-radix-d : goal.returns-then-radix-d
-returns-then-radix-d c =
-    sym
-    (c.loop-i.invariant.2 ∙ run_stop _ _ _ _ _ c.loop-i-test.true c.digit-d.ensures c.if-radix-d.true)
+pub returns-in_err-digit : goal.returns-in_err-digit
+returns-in_err-digit c = c.from_residual.ensures ∙ sym (c.loop-c.invariant.1 ∙ run_stop _ _ _ _ c.loop-c-test.true c.in_err-digit.ensures)
 
-pub loop-i-preserved : goal.loop-i-preserved
-loop-i-preserved c = (
-  omega arith,
-  omega arith,
-  c.loop-i.invariant.2 ∙ run_turn _ _ _ _ _ _ c.requires.radix_nonzero c.loop-i-test.true c.digit-d.ensures c.if-radix-d.false c.grown-value.ensures,
-)
+pub loop-c-preserved : goal.loop-c-preserved
+loop-c-preserved c =
+    let counts = c.in_ok-digit.ensures in
+    (omega arith, c.loop-c.invariant.1 ∙ run_turn _ _ _ _ _ _ c.requires.radix_nonzero c.loop-c-test.true counts.0 counts.1 c.grown-value.ensures)
 
 pub returns : goal.returns
-returns c = sym (c.loop-i.invariant.2 ∙ run_end _ _ _ _ c.loop-i-test.false c.loop-i.invariant.1)
+returns c = sym (c.loop-c.invariant.1 ∙ run_end _ _ _ _ c.loop-c-test.false c.loop-c.invariant.0)

@@ -1,13 +1,16 @@
--- `versioned` meets its contract, case by case.
-use mathlib.Core.Path.{sym}
-use Rattle.value.proofs.Numbers.{major_malformed, minor_malformed, version_good}
+-- `versioned` meets its contract: each `?` is a case of the definition.
+use Rattle.std.proofs.Common.{rules}
+use Rattle.value.specs.Field.{versioned_of}
 use Rattle.value.proofs.versioned.Goals as goal
 
-pub returns-in_default : goal.returns-in_default
-returns-in_default c = sym (major_malformed _ c.in_default.is)
+pub returns-in_err-major : goal.returns-in_err-major
+unfolding versioned_of
+returns-in_err-major c = search rules
 
-pub returns-in_default-minor : goal.returns-in_default-minor
-returns-in_default-minor c = sym (minor_malformed c.in-Value.is c.in_default-minor.is)
+pub returns-in_err-minor : goal.returns-in_err-minor
+unfolding versioned_of
+returns-in_err-minor c = search rules
 
 pub returns : goal.returns
-returns c = sym (version_good c.in-Value.is c.in-Value-minor.is)
+unfolding versioned_of
+returns c = search rules

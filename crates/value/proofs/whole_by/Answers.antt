@@ -1,17 +1,27 @@
 -- `whole_by` meets its contract: no digits, another character behind them, the point, or the end.
+use Rattle.std.proofs.Common.{sym, ◌∙◌}
+use borrow.Author.Tests.{eqb-true, eqb-false, le-ltb, not-true, not-false}
+use Rattle.cells.proofs.Split.{clash}
 use Rattle.value.proofs.Wholes.{whole_none, whole_other, whole_points, whole_ends, whole_good}
 use Rattle.value.proofs.whole_by.Goals as goal
+use Rattle.value.proofs.whole_by.Goals.{then-d-eq0-via-then-d-eq0, then-d-eq0-via-else-d-eq0+then-s-d-ne46, then-d-s, else-d-s}
 
-pub returns-then-end-eq0 : goal.returns-then-end-eq0
-returns-then-end-eq0 c = whole_none _ c.requires c.if-end-eq0.true
+pub returns-then-d-eq0 : goal.returns-then-d-eq0
+returns-then-d-eq0 c =
+    elim c.then-d-eq0.branch [
+      | then-d-eq0-via-then-d-eq0 w ↦ whole_none _ c.requires w.if-d-eq0.true
+      | then-d-eq0-via-else-d-eq0+then-s-d-ne46 w ↦
+          elim w.if-d-s.branch [
+            | then-d-s w' ↦ whole_other _ c.requires w'.if-d-s.true (eqb-false _ _ (not-true _ (sym w'.value-is ∙ w.if-s-d-ne46.true)))
+            | else-d-s w' ↦ clash w.if-s-d-ne46.true (w'.value-is ∙ le-ltb _ _ w'.if-d-s.false)
+          ]
+    ]
 
-pub returns-then-s-end-ne46 : goal.returns-then-s-end-ne46
-returns-then-s-end-ne46 c = whole_other _ c.requires c.if-end-s.true c.if-s-end-ne46.true
-
-pub returns-else-s-end-ne46 : goal.returns-else-s-end-ne46
-returns-else-s-end-ne46 c =
-    let e = c.requires in
-    whole_good _ e c.if-end-eq0.false (whole_points _ e c.if-end-s.true c.if-s-end-ne46.false)
-
-pub returns-else-end-s : goal.returns-else-end-s
-returns-else-end-s c = let e = c.requires in whole_good _ e c.if-end-eq0.false (whole_ends _ e c.if-end-s.false)
+pub returns : goal.returns
+returns c =
+    elim c.if-d-s.branch [
+      | then-d-s w ↦
+          whole_good _ c.requires c.if-d-eq0.false
+          (whole_points _ c.requires w.if-d-s.true (eqb-true _ _ (not-false _ (sym w.value-is ∙ c.if-s-d-ne46.false))))
+      | else-d-s w ↦ whole_good _ c.requires c.if-d-eq0.false (whole_ends _ c.requires w.if-d-s.false)
+    ]

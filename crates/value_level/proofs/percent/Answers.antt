@@ -1,17 +1,17 @@
 -- `percent` meets its contract: no digits, too large a value, and a percentage.
-use mathlib.Core.Path.{ap, ◌∙◌}
-use Prim.Native.Nat.{ℕ, min}
+use Rattle.std.proofs.Common.{inl, inr, ap, ◌∙◌}
 use Rattle.value_level.specs.Level.{percent_byte}
 use Rattle.value_level.proofs.Spans.{percent_none, percent_over, percent_taken}
 use Rattle.value_level.proofs.percent.Goals as goal
 
-pub returns-then-end-at : goal.returns-then-end-at
-returns-then-end-at c = percent_none _ _ _ c.digits_at-d.ensures c.if-end-at.true
+pub returns-then-value-gt-PERCENT_MAX : goal.returns-then-value-gt-PERCENT_MAX
+returns-then-value-gt-PERCENT_MAX c =
+    elim c.if-value-gt-PERCENT_MAX.either [
+      | inl none ↦ percent_none _ _ _ c.digits_at-value.ensures none
+      | inr over ↦ percent_over _ _ _ c.digits_at-value.ensures over.0 over.1
+    ]
 
-pub returns-then-v-gt-PERCENT_MAX : goal.returns-then-v-gt-PERCENT_MAX
-returns-then-v-gt-PERCENT_MAX c = percent_over _ _ _ c.digits_at-d.ensures c.if-end-at.false c.if-v-gt-PERCENT_MAX.true
-
-pub returns : goal.returns
-returns c =
-    percent_taken _ _ _ c.digits_at-d.ensures c.if-end-at.false c.if-v-gt-PERCENT_MAX.false
-    (c.percent_byte.ensures ∙ ap percent_byte (c.at_most-p.ensures ∙ ap (λ (v : ℕ). min v 100) c.place.ensures))
+pub returns-else-value-gt-PERCENT_MAX : goal.returns-else-value-gt-PERCENT_MAX
+returns-else-value-gt-PERCENT_MAX c =
+    let some = c.if-value-gt-PERCENT_MAX.false in
+    percent_taken _ _ _ c.digits_at-value.ensures some.0 some.1 (c.percent_byte.ensures ∙ ap percent_byte c.min.ensures)

@@ -1,10 +1,10 @@
--- `digit_char` meets its contract: digits below ten, capitals from ten on.
-use mathlib.Core.Path.{sym}
-use Rattle.value_written.proofs.Texts.{char_decimal, char_capital}
+-- `digit_char` meets its contract: the constant is the rule's table, computed once, and the rule holds at each place of it.
+use Rattle.std.proofs.Common.{arith}
+use Rattle.cells.specs.Table.{tab}
+use Rattle.cells.proofs.Table.{tab_at}
+use Rattle.value_written.specs.Text.{digit_char}
 use Rattle.value_written.proofs.digit_char.Goals as goal
 
-pub returns-then-d-lt10 : goal.returns-then-d-lt10
-returns-then-d-lt10 c = sym (char_decimal _ c.if-d-lt10.true)
-
 pub returns : goal.returns
-returns c = sym (char_capital _ c.if-d-lt10.false)
+unfolding tab digit_char
+returns c = tab_at digit_char 16 c.args.d 0 (omega arith)

