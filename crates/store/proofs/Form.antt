@@ -1,6 +1,7 @@
 -- Good form: the test is the facts, what they say of a used slot and of an unused one, the rightful place of a name, and that putting a
 -- slot in form there keeps good form. By the laws of searches and of the view.
 -- Assumes nothing.
+use Rattle.std.specs.Prelude.{Err, Ok, Result}
 use mathlib.Core.Path.{◌≡◌, refl, sym, ap, ◌∙◌, subst}
 use mathlib.Core.Bool.{true, false, cond, not, ◌&&◌}
 use mathlib.Core.List.{List, [], ◌∷◌}
@@ -21,14 +22,14 @@ use Rattle.store_desk.specs.Name.{Name, first_slot, slot_count, slots_end, kind_
 use Rattle.store_desk.proofs.Name.{eq_key-true, eq_name_lem, eq_name-true, eq_name_refl, kind_of, kind_at_lem, kind_end, sub_parts, sub_inside, sub_same}
 use Rattle.store_head.specs.declared.Head.{Head}
 use Rattle.store_head.specs.Layout.{decode_head, decode_patch}
-use Rattle.store.specs.declared.StoreForm.{StoreForm}
-use Rattle.store.specs.declared.StoreForm.TheVariants.{Good, BadSlot, Repeated, BadEntry}
 use Rattle.store.specs.Slots.{slot_at, put_slot, head_at, key_of, is_used, holds_at, find, on_found}
 use Rattle.store.specs.Change.{lowest_unused, new_seat, seat}
 use Rattle.store.specs.Form.{shares, bad_slot, repeats, repeated_slot, bad_entry, form_by, form_of, is_good, good_form, is_zero, values_fit, place_fits, name_at, slot_fits, patch_fits, entry_fits}
 use Rattle.store.specs.Good.{GoodForm, Ready}
 use Rattle.store.proofs.Places.{slot_length_lem, put_length, slot_same, slot_other, slot_patch}
 use Rattle.store.proofs.Find.{head_same, holds_own, holds_true, holds_unused, holds_one, Placed, placed_slot, put_find}
+use Rattle.store.specs.declared.FormError.{FormError}
+use Rattle.store.specs.declared.FormError.TheVariants.{BadSlot, Repeated, BadEntry}
 
 -- ---- what a search that finds no place says
 module _ (d : Desk) (s : List ℕ) where
@@ -50,11 +51,11 @@ module _ (d : Desk) (s : List ℕ) where
 
 -- ---- the form of a store, by what is out of form first
 module _ (d : Desk) (s : List ℕ) where
-  pub by_form : (P : StoreForm → Type 0)
-      → ((i : ℕ) → IsFirst (λ j. not (slot_fits d s j)) (slots_of d) 0 i → P (BadSlot i))
-      → ((i : ℕ) → bad_slot d s ≡ nowhere → IsFirst (repeats d s) (slots_of d) 0 i → P (Repeated i))
-      → ((i : ℕ) → bad_slot d s ≡ nowhere → repeated_slot d s ≡ nowhere → IsFirst (λ j. not (entry_fits d s j)) (entries_of d) 0 i → P (BadEntry i))
-      → (GoodForm d s → P Good)
+  pub by_form : (P : Result Unit FormError → Type 0)
+      → ((i : ℕ) → IsFirst (λ j. not (slot_fits d s j)) (slots_of d) 0 i → P (Err (BadSlot i)))
+      → ((i : ℕ) → bad_slot d s ≡ nowhere → IsFirst (repeats d s) (slots_of d) 0 i → P (Err (Repeated i)))
+      → ((i : ℕ) → bad_slot d s ≡ nowhere → repeated_slot d s ≡ nowhere → IsFirst (λ j. not (entry_fits d s j)) (entries_of d) 0 i → P (Err (BadEntry i)))
+      → (GoodForm d s → P (Ok tt))
       → P (form_of d s)
   unfolding form_of form_by bad_slot repeated_slot bad_entry
   by_form P bad twice entry good = cases (bad_slot d s) (repeated_slot d s) (bad_entry d s) refl refl refl
@@ -70,10 +71,10 @@ module _ (d : Desk) (s : List ℕ) where
   pub good_sound : good_form d s ≡ true → GoodForm d s
   unfolding good_form is_good
   good_sound =
-      by_form d s (λ (x : StoreForm). is_good x ≡ true → GoodForm d s)
+      by_form d s (λ (x : Result Unit FormError). is_good x ≡ true → GoodForm d s)
       (λ i r e. clash e refl) (λ i a r e. clash e refl) (λ i a b r e. clash e refl) (λ g e. g)
 
-  pub form_is_good : GoodForm d s → form_of d s ≡ Good
+  pub form_is_good : GoodForm d s → form_of d s ≡ Ok tt
   unfolding form_of form_by bad_slot repeated_slot bad_entry repeats
   form_is_good g =
       let a : bad_slot d s ≡ nowhere =

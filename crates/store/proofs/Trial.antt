@@ -1,5 +1,6 @@
 -- The definitions tried on a small desk, by computation: two channels, two dimmers, two cues, one group, one submaster.
 -- Assumes nothing.
+use Rattle.std.specs.Prelude.{Err, Ok}
 use mathlib.Core.Path.{◌≡◌, refl}
 use mathlib.Core.List.{List, [], ◌∷◌, ◌++◌}
 use Prim.Native.Nat.{ℕ}
@@ -12,12 +13,12 @@ use Rattle.store_desk.specs.Size.{all_of, level_width, levels_length, slot_lengt
 use Rattle.store_desk.specs.Name.{Name, first_slot, slot_count, pages_of, kind_at, supported, eq_kind, eq_key, eq_name, less_key, ok_number, ok_sub, ok_within, ok_page, ok_name, sub_slot, entry_of}
 use Rattle.store_head.specs.Pack.{total, packed, unpacked}
 use Rattle.store_head.specs.Layout.{encode_head, decode_head, encode_patch, decode_patch}
-use Rattle.store.specs.declared.StoreForm.TheVariants.{Good, BadSlot, Repeated, BadEntry}
 use Rattle.store.specs.declared.Edit.TheVariants.{Up, Link, Level}
 use Rattle.store.specs.Slots.{slot_at, put_slot, entry_at, put_entry, head_at, level_place, holds_at, find, on_found}
 use Rattle.store.specs.Change.{lowest_unused, new_seat, seat, blank_head, blank_slot, started, edit_head, with_head, edit_slot, edit_at, edited, patched, hits_at, clear_from, cleared}
 use Rattle.store.specs.Form.{has_times, has_link, is_zero, link_fits, values_fit, place_fits, slot_fits, patch_fits, entry_fits, shares, bad_slot, repeats, repeated_slot, bad_entry, form_by, form_of}
 use Rattle.store.specs.Order.{used_from, insert_slot, sort_slots, in_order}
+use Rattle.store.specs.declared.FormError.TheVariants.{BadSlot, Repeated, BadEntry}
 
 abbrev pub small : Desk
 small =
@@ -69,7 +70,7 @@ pub trial_form : form_of small shown
     ∷ form_of small (set (put shown 26 (take 26 shown)) 60 1)
     ∷ form_of small (set (put shown 26 (take 26 shown)) 109 1)
     ∷ []
-    ≡ Good ∷ Good ∷ BadSlot 0 ∷ Repeated 1 ∷ BadEntry 1 ∷ BadSlot 2 ∷ BadSlot 2 ∷ Repeated 1 ∷ []
+    ≡ (Ok tt) ∷ (Ok tt) ∷ Err (BadSlot 0) ∷ Err (Repeated 1) ∷ Err (BadEntry 1) ∷ Err (BadSlot 2) ∷ Err (BadSlot 2) ∷ Err (Repeated 1) ∷ []
 unfolding form_of form_by bad_slot repeats repeated_slot bad_entry all_from shares eq_name eq_kind slot_fits entry_fits values_fit link_fits has_times has_link is_zero place_fits patch_fits ok_name ok_page ok_within ok_number ok_sub supported pages_of kind_at entries_of entry_at decode_patch less_key started seat new_seat lowest_unused blank_slot blank_head edited edit_at edit_slot with_head edit_head patched slot_at put_slot put_entry head_at level_place holds_at find on_found first_from put all_of eq_key level_width levels_length slot_length sub_slots slots_of patch_start entry_of first_slot slot_count sub_slot total packed unpacked encode_head decode_head encode_patch
 trial_form = refl
 

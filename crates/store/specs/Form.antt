@@ -1,6 +1,6 @@
 -- Good form (paper 01, "The store"), and where a store is out of it (paper 02, C-11: R4a, R4b, R4c).
 -- Assumes nothing.
-use Rattle.std.specs.Prelude.{Bool, true, false, cond, not, ◌&&◌, List, [], ◌∷◌, ℕ, eqb, leb}
+use Rattle.std.specs.Prelude.{Bool, true, false, cond, not, ◌&&◌, List, [], ◌∷◌, ℕ, eqb, leb, Err, Ok, Result}
 use Rattle.cells.specs.Search.{Found, at, nowhere, first_from, all_from}
 use Rattle.value.specs.Time.{time_max}
 use Rattle.store_desk.specs.declared.Desk.{Desk}
@@ -12,9 +12,9 @@ use Rattle.store_desk.specs.Name.{Name, kind_at, eq_name, ok_number, ok_name, su
 use Rattle.store_head.specs.declared.Head.{Head}
 use Rattle.store_head.specs.declared.Patch.{Patch}
 use Rattle.store_head.specs.Layout.{decode_patch}
-use Rattle.store.specs.declared.StoreForm.{StoreForm}
-use Rattle.store.specs.declared.StoreForm.TheVariants.{Good, BadSlot, Repeated, BadEntry}
 use Rattle.store.specs.Slots.{slot_at, entry_at, head_at, key_of, is_used}
+use Rattle.store.specs.declared.FormError.{FormError}
+use Rattle.store.specs.declared.FormError.TheVariants.{BadSlot, Repeated, BadEntry}
 
 -- ---- which values a kind can have (§6.3: CHAN, UP and DOWN, FOLLOWON and LINK)
 
@@ -103,21 +103,21 @@ repeated_slot d s = first_from (repeats d s) (slots_of d) 0
 unfoldable pub bad_entry : Desk → List ℕ → Found
 bad_entry d s = first_from (λ i. not (entry_fits d s i)) (entries_of d) 0
 
-unfoldable pub form_by : Found → Found → Found → StoreForm
-form_by (at i) b e = BadSlot i
-form_by nowhere (at i) e = Repeated i
-form_by nowhere nowhere (at i) = BadEntry i
-form_by nowhere nowhere nowhere = Good
+unfoldable pub form_by : Found → Found → Found → Result Unit FormError
+form_by (at i) b e = Err (BadSlot i)
+form_by nowhere (at i) e = Err (Repeated i)
+form_by nowhere nowhere (at i) = Err (BadEntry i)
+form_by nowhere nowhere nowhere = Ok tt
 
-unfoldable pub form_of : Desk → List ℕ → StoreForm
+unfoldable pub form_of : Desk → List ℕ → Result Unit FormError
 form_of d s = form_by (bad_slot d s) (repeated_slot d s) (bad_entry d s)
 
 -- none of the three
-unfoldable pub is_good : StoreForm → Bool
-is_good Good = true
-is_good (BadSlot i) = false
-is_good (Repeated i) = false
-is_good (BadEntry i) = false
+unfoldable pub is_good : Result Unit FormError → Bool
+is_good (Ok _) = true
+is_good (Err (BadSlot i)) = false
+is_good (Err (Repeated i)) = false
+is_good (Err (BadEntry i)) = false
 
 unfoldable pub good_form : Desk → List ℕ → Bool
 good_form d s = is_good (form_of d s)

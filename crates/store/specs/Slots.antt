@@ -1,7 +1,7 @@
 -- The lent bytes as slots and patch entries (paper 01, "The store": cue slots, then group slots, then submaster slots, then patch
 -- entries; a slot is 24 head bytes and C level bytes).
 -- Assumes nothing.
-use Rattle.std.specs.Prelude.{Bool, ◌&&◌, List, ℕ, ◌+◌, ◌-◌, ◌*◌, eqb, get_or, set, take, drop}
+use Rattle.std.specs.Prelude.{Bool, ◌&&◌, List, ℕ, ◌+◌, ◌-◌, ◌*◌, eqb, get_or, set, take, drop, None, Option, Some}
 use Rattle.cells.specs.Put.{put}
 use Rattle.cells.specs.Search.{Found, at, nowhere, first_from}
 use Rattle.store_desk.specs.declared.Desk.{Desk}
@@ -10,8 +10,6 @@ use Rattle.store_desk.specs.Size.{head_length, entry_length_of, level_width, slo
 use Rattle.store_desk.specs.Name.{Name, eq_key, first_slot, slot_count}
 use Rattle.store_head.specs.declared.Head.{Head}
 use Rattle.store_head.specs.Layout.{decode_head}
-use Rattle.store.specs.declared.Place.{Place}
-use Rattle.store.specs.declared.Place.TheVariants.{At, Nowhere}
 
 -- slot i, and the store with another in its place
 unfoldable pub slot_at : Desk → List ℕ → ℕ → List ℕ
@@ -69,6 +67,6 @@ on_found (at i) f a = f i
 on_found nowhere f a = a
 
 -- the same as the code answers it
-unfoldable pub place_of : Found → Place
-place_of (at i) = At i
-place_of nowhere = Nowhere
+unfoldable pub place_of : Found → Option ℕ
+place_of (at i) = Some i
+place_of nowhere = None

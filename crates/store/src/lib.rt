@@ -11,18 +11,10 @@ pub enum Edit {
     Level(u32, u8),
 }
 
-// A slot or a patch entry, counted from 0.
-#[derive(Clone, Copy)]
-pub enum Place {
-    At(usize),
-    Nowhere,
-}
-
-// The form of a store: good, or the first slot that is out of form by itself, else the first that repeats an earlier one, else the first patch
-// entry that is out of form; counted from 0.
-#[derive(Clone, Copy)]
-pub enum StoreForm {
-    Good,
+// Where a store is out of form: at the first slot that is out of form by itself, else at the first that repeats an earlier one, else at the first
+// patch entry that is out of form; counted from 0.
+#[derive(Clone, Copy, PartialEq, Eq, Debug)]
+pub enum FormError {
     BadSlot(usize),
     Repeated(usize),
     BadEntry(usize),

@@ -3,7 +3,7 @@
 -- Assumes nothing.
 use mathlib.Core.Path.{◌≡◌, refl, sym, ap, ◌∙◌, subst}
 use mathlib.Core.Bool.{cond}
-use mathlib.Core.List.{List, ◌++◌, append-nil}
+use mathlib.Core.List.{List, ◌++◌}
 use Prim.Native.Nat.{ℕ, suc, ◌+◌, ◌-◌, ◌*◌, ◌≤◌, ◌<◌}
 use native.Mathlib.Nat.{mul_comm, mul_assoc}
 use native.Mathlib.Numerals.{add-one}
@@ -11,11 +11,11 @@ use native.Mathlib.Omega.{arith}
 use lib.Dec.{eqb}
 use borrow.Author.Tests.{eq-eqb, ne_eqb}
 use Rattle.cells.proofs.Split.{cond-true, cond-false}
-use lib.ListN.{length, take, drop, set, replicate, length-append, length-drop, length-replicate, drop_of_length-le}
+use lib.ListN.{length, take, drop, set, replicate, length-drop}
 use lib.Seq.{length-take-le, drop-drop}
 use Rattle.cells.specs.Put.{put}
 use Rattle.cells.proofs.Arith.{apart, products}
-use Rattle.cells.proofs.Put.{length-put, put_back, put_front, put_fill, put_next, put_zero, part_of_front}
+use Rattle.cells.proofs.Put.{put_back, put_fill, part_of_front}
 use Rattle.store_desk.specs.declared.Desk.{Desk}
 use Rattle.store_desk.specs.declared.Key.{Key}
 use Rattle.store_desk.specs.declared.Kind.{Kind}
@@ -27,9 +27,9 @@ use Rattle.store_head.specs.declared.Head.{Head}
 use Rattle.store_head.specs.declared.Patch.{Patch}
 use Rattle.store_head.specs.Layout.{encode_head, decode_head, encode_patch, decode_patch}
 use Rattle.store_head.specs.Fits.{HeadFits}
-use Rattle.store_head.proofs.Laws.{length_encode, decode_fits, length-encode_patch}
+use Rattle.store_head.proofs.Laws.{decode_fits, length-encode_patch}
 use Rattle.store.specs.declared.Edit.{Edit}
-use Rattle.store.specs.declared.Edit.TheVariants.{Link, Level}
+use Rattle.store.specs.declared.Edit.TheVariants.{Level}
 use Rattle.store.specs.Slots.{slot_at, put_slot, entry_at, put_entry, levels_at, level_place}
 use Rattle.store.specs.Change.{blank_head, blank_slot, edit_head, with_head, edit_slot, edit_at, hits_at, clear_from, patch_page_length, cleared_patch, patch_entry, patched, cleared}
 use Rattle.store.specs.Fits.{EditFits}
@@ -67,12 +67,19 @@ pub kind_slot : (d : Desk) (k : Kind) {first count end i : ℕ}
     → first ≡ first_slot d k → count ≡ slot_count d k → end ≡ first + count → i < end → i < slots_of d
 kind_slot d k a b e h = let l = kind_end d k in omega arith
 
--- and so is where the first begins
-pub kind_from : (d : Desk) (k : Kind) {first len : ℕ} → first ≡ first_slot d k → len ≡ slot_length d → first * len ≤ patch_start d
-unfolding patch_start
-kind_from d k {first} e f =
-    let l : first ≤ slots_of d = (let a = kind_end d k in omega arith) in
-    subst (λ (z : ℕ). first * z ≤ slots_of d * slot_length d) (sym f) (products (slot_length d) l)
+-- and so are their bytes
+module _ (d : Desk) (k : Kind) {first end len : ℕ} (ef : first ≡ first_slot d k) (ee : end ≡ slots_end d k) (el : len ≡ slot_length d) where
+  pub kind_bytes : end * len ≤ patch_start d
+  unfolding patch_start
+  kind_bytes =
+      let l : end ≤ slots_of d = (let a = kind_end d k in omega arith) in
+      subst (λ (z : ℕ). end * z ≤ slots_of d * slot_length d) (sym el) (products (slot_length d) l)
+
+  pub kind_room : {s : List ℕ} → Fitting d s → end * len ≤ length s
+  kind_room f = let a : end * len ≤ patch_start d = kind_bytes in let b = slots_end_lem d in let c = f.long in omega arith
+
+  pub kind_order : first * len ≤ end * len
+  kind_order = products len (let l : first ≤ end = omega arith in l)
 
 -- ---- a slot that is lent
 module _ (d : Desk) (s : List ℕ) (i : ℕ) {a e : ℕ} (ea : a ≡ i * slot_length d) (ee : e ≡ i * slot_length d + slot_length d) where
@@ -134,27 +141,6 @@ levels_is d s i {b} {e} eb ee =
     ∙ ap (λ (z : ℕ). drop 24 (take z (drop a s))) m
 
 -- ---- a slot afresh
--- the head is put, and zeros over all that is after it
-pub afresh : (t z ys : List ℕ) (h : Head) {bs : List ℕ} → bs ≡ encode_head h → z ≡ put t 0 bs → 24 ≤ length t
-    → ys ≡ replicate (length (take (length z - 24) (drop 24 z))) 0
-    → take 24 z ++ (ys ++ drop (length z - 24) (drop 24 z)) ≡ encode_head h ++ replicate (length t - 24) 0
-afresh t z ys h {bs} eb e g q =
-    let lb : length bs ≡ 24 = ap length eb ∙ length_encode h in
-    let lz : length z ≡ length t = ap length e ∙ length-put t 0 bs (omega arith) in
-    let n : ℕ = length z - 24 in
-    let r : List ℕ = replicate n 0 in
-    let m : n ≡ length t - 24 = omega arith in
-    let lr : length r ≡ n = length-replicate n 0 in
-    let la : length (bs ++ r) ≡ length bs + length r = length-append bs r in
-    put_fill z 24 n ys 0 q (omega arith)
-    ∙ ap (λ (y : List ℕ). put y 24 r) e
-    ∙ put_next t 0 bs 24 r (omega arith) (omega arith)
-    ∙ put_zero t (bs ++ r)
-    ∙ ap (λ (y : List ℕ). (bs ++ r) ++ y) (drop_of_length-le t {i = length (bs ++ r)} (omega arith))
-    ∙ append-nil (bs ++ r)
-    ∙ ap (λ (y : List ℕ). y ++ r) eb
-    ∙ ap (λ (k : ℕ). encode_head h ++ replicate k 0) m
-
 pub blank_is : (d : Desk) (key : Key) {h : Head} {xs : List ℕ} {n : ℕ}
     → xs ≡ encode_head h ++ replicate (n - 24) 0 → h ≡ blank_head key → n ≡ slot_length d → xs ≡ blank_slot d key
 unfolding blank_slot slot_length
@@ -169,10 +155,6 @@ change_fits d e x f l = let g = slot_long d in (edit_fits e (decode_head x) (dec
 -- the slot after it, by the arms
 pub edit_by : (d : Desk) (xs : List ℕ) {x v : Edit} {t : List ℕ} → x ≡ v → ((y : List ℕ) → with_head v y ≡ edit_slot d v y) → t ≡ with_head x xs → t ≡ edit_slot d x xs
 edit_by d xs {x} {v} {t} e f r = r ∙ subst (λ (z : Edit). with_head z xs ≡ edit_slot d z xs) (sym e) (f xs)
-
-pub edit_link : (d : Desk) (xs : List ℕ) (w f : ℕ) {t : List ℕ} → t ≡ with_head (Link w f) xs → t ≡ edit_slot d (Link w f) xs
-unfolding edit_slot
-edit_link d xs w f r = r
 
 pub edit_level : (d : Desk) (xs : List ℕ) {x v : Edit} {t : List ℕ} → x ≡ v → t ≡ edit_slot d v xs → t ≡ edit_slot d x xs
 edit_level d xs {x} {v} {t} e r = r ∙ ap (λ (z : Edit). edit_slot d z xs) (sym e)
@@ -199,11 +181,11 @@ module _ (d : Desk) (j : ℕ) (h : j < entries_of d) where
 pub entry_there : (d : Desk) (page dimmer : ℕ) {j : ℕ} → OnPatch d page dimmer → j ≡ entry_of d page dimmer → j < entries_of d
 entry_there d page dimmer o e = subst (λ (z : ℕ). z < entries_of d) (sym e) (entry_inside d page dimmer o.on_page o.on_dimmer)
 
-pub entry_is : (d : Desk) (s : List ℕ) (j : ℕ) {a : ℕ} → a ≡ patch_start d + j * 3 → take (a + 3 - a) (drop a s) ≡ entry_at d s j
+pub entry_is : (d : Desk) (s : List ℕ) (j : ℕ) {a e : ℕ} → a ≡ patch_start d + j * 3 → e ≡ patch_start d + j * 3 + 3 → take (e - a) (drop a s) ≡ entry_at d s j
 unfolding entry_at
-entry_is d s j {a} e =
-    let m : a + 3 - a ≡ 3 = omega arith in
-    ap (λ (z : ℕ). take z (drop a s)) m ∙ ap (λ (z : ℕ). take 3 (drop z s)) e
+entry_is d s j {a} {e} ea ee =
+    let m : e - a ≡ 3 = omega arith in
+    ap (λ (z : ℕ). take z (drop a s)) m ∙ ap (λ (z : ℕ). take 3 (drop z s)) ea
 
 pub entry_whole : (d : Desk) (s : List ℕ) (j : ℕ) {x : List ℕ} → Fitting d s → j < entries_of d → x ≡ entry_at d s j → 3 ≤ length x
 entry_whole d s j f h e = let l = ap length e ∙ entry_length d s f.long j h in omega arith
@@ -213,25 +195,15 @@ pub patched_is : (d : Desk) (s : List ℕ) (page dimmer : ℕ) {j : ℕ} {x : Li
 unfolding patched_to
 patched_is d s page dimmer ej ex e = e ∙ ap decode_patch (ex ∙ ap (entry_at d s) ej)
 
-pub entry_back : (d : Desk) (s : List ℕ) (j : ℕ) {a : ℕ} (ys xs : List ℕ) → a ≡ patch_start d + j * 3 → a + 3 ≤ length s
-    → ys ≡ put (take (a + 3 - a) (drop a s)) 0 xs → length xs ≡ 3 → take a s ++ (ys ++ drop (a + 3 - a) (drop a s)) ≡ put_entry d s j xs
-unfolding put_entry
-entry_back d s j {a} ys xs e g q l =
-    let k : length xs ≤ a + 3 - a = omega arith in
-    let r : a + (a + 3 - a) ≤ length s = omega arith in
-    put_front s a (a + 3 - a) ys xs q k r ∙ ap (λ (z : ℕ). put s z xs) e
-
-pub patch_back : (d : Desk) (s : List ℕ) (page dimmer channel level : ℕ) {j a v : ℕ} (ys : List ℕ) {bs : List ℕ}
-    → Fitting d s → OnPatch d page dimmer → j ≡ entry_of d page dimmer → a ≡ patch_start d + j * 3
-    → bs ≡ encode_patch (record { channel = channel; level = v; rest = 0 }) → v ≡ level
-    → ys ≡ put (take (a + 3 - a) (drop a s)) 0 bs
-    → take a s ++ (ys ++ drop (a + 3 - a) (drop a s)) ≡ patched d s page dimmer channel level
-unfolding patched
-patch_back d s page dimmer channel level {j} {a} {v} ys {bs} f o ej e eb ev q =
-    let g = entry_room d j (entry_there d page dimmer o ej) f in
-    let r : bs ≡ encode_patch (patch_entry channel level) = eb ∙ ap (λ (z : ℕ). encode_patch (patch_entry channel z)) ev in
-    entry_back d s j ys bs e (omega arith) q (ap length r ∙ length-encode_patch (patch_entry channel level))
-    ∙ ap (λ (z : List ℕ). put_entry d s j z) r
+pub patch_back : (d : Desk) (s : List ℕ) (page dimmer channel level : ℕ) {j a e : ℕ} (ys : List ℕ) {bs : List ℕ}
+    → j ≡ entry_of d page dimmer → a ≡ patch_start d + j * 3 → e ≡ patch_start d + j * 3 + 3
+    → bs ≡ encode_patch (patch_entry channel level) → ys ≡ bs
+    → take a s ++ (ys ++ drop (e - a) (drop a s)) ≡ patched d s page dimmer channel level
+unfolding patched put_entry
+patch_back d s page dimmer channel level {j} {a} {e} ys {bs} ej ea ee eb q =
+    let m : 3 ≡ e - a = omega arith in
+    put_back s a (e - a) ys (encode_patch (patch_entry channel level)) (q ∙ eb) (length-encode_patch (patch_entry channel level) ∙ m)
+    ∙ ap (λ (z : ℕ). put s z (encode_patch (patch_entry channel level))) ea
     ∙ ap (λ (z : ℕ). put_entry d s z (encode_patch (patch_entry channel level))) ej
 
 -- ---- zeros
@@ -298,9 +270,9 @@ pub clear_done : (d : Desk) (p e i : ℕ) (s u : List ℕ) → e ≤ i → clear
 unfolding clear_from
 clear_done d p e i s u h g = let m : e - i ≡ 0 = omega arith in ap (λ (k : ℕ). clear_from d p k i s) (sym m) ∙ g
 
-pub clear_all : (d : Desk) (s : List ℕ) (k : Kind) (p : ℕ) {first count : ℕ} {t : List ℕ} → first ≡ first_slot d k → count ≡ slot_count d k
-    → t ≡ clear_from d p (first + count - first) first s → t ≡ cleared d s k p
+pub clear_all : (d : Desk) (s : List ℕ) (k : Kind) (p : ℕ) {first end : ℕ} {t : List ℕ} → first ≡ first_slot d k → end ≡ slots_end d k
+    → t ≡ clear_from d p (end - first) first s → t ≡ cleared d s k p
 unfolding cleared
-clear_all d s k p {first} {count} ef ec e =
-    let m : first + count - first ≡ slot_count d k = omega arith in
+clear_all d s k p {first} {end} ef ee e =
+    let m : end - first ≡ slot_count d k = omega arith in
     e ∙ ap (λ (z : ℕ). clear_from d p z first s) m ∙ ap (λ (z : ℕ). clear_from d p (slot_count d k) z s) ef

@@ -1,3 +1,5 @@
 pub mod Laws
 pub mod Word
 pub mod Found
+pub mod Ranged
+pub mod Chunks

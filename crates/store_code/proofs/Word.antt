@@ -2,38 +2,36 @@
 -- the quick number and linear arithmetic on its four fields.
 -- Assumes nothing.
 use mathlib.Core.Path.{◌≡◌, refl, sym, ap, ◌∙◌}
-use mathlib.Core.Bool.{Bool, true, false, not}
+use mathlib.Core.Bool.{Bool, true, false, not, ◌&&◌}
 use mathlib.Core.List.{List}
 use Prim.Native.Nat.{ℕ, ◌+◌, ◌-◌, ◌*◌, ◌≤◌, ◌<◌}
 use native.Mathlib.Nat.{add-mul}
 use native.Mathlib.Omega.{arith}
 use lib.ListN.{length, take, drop, length-drop}
-use lib.Seq.{drop-drop}
-use Rattle.cells.proofs.Put.{tail_is}
+use lib.Seq.{length-take-le}
+use Rattle.cells.proofs.Arith.{apart}
+use Rattle.cells.proofs.Put.{part_part}
 use lib.Dec.{leb, ltb, eqb}
-use borrow.Author.Tests.{eqb-true, eq-eqb, ne_eqb, leb-true, le-leb, ltb-true, lt-ltb, le-ltb}
-use Rattle.cells.specs.Search.{Found, at, first_from}
-use Rattle.cells.proofs.Search.{first_nowhere, first_same, first_skip, first_front, search_hit, search_miss}
+use borrow.Author.Tests.{eqb-true, eq-eqb, leb-true, le-leb, ltb-true, lt-ltb, le-ltb}
+use Rattle.cells.specs.Search.{first_from}
+use Rattle.cells.proofs.Search.{first_same}
 use Rattle.cells.proofs.Split.{by_bool, by_lt, same_test, and_true, and_left, and_right, or_true_left, or_true_right, by_or, not_of_true, not_of_false}
 use Rattle.store_desk.specs.declared.Desk.{Desk}
 use Rattle.store_desk.specs.declared.Key.{Key}
 use Rattle.store_desk.specs.declared.Kind.{Kind}
 use Rattle.store_desk.specs.Size.{slot_length, slots_of}
-use Rattle.store_desk.specs.Name.{KeyFits, eq_key, first_slot, slot_count}
+use Rattle.store_desk.specs.Name.{KeyFits, eq_key, first_slot, slot_count, slots_end}
 use Rattle.store_desk.proofs.Name.{eq_key_lem, eq_key-true, kind_end}
 use Rattle.store_head.specs.Pack.{Bytes}
 use Rattle.store_head.specs.Fits.{used_word, page_word, whole_word, word_of, quick_of}
 use Rattle.store_head.proofs.Laws.{word_sum}
-use Rattle.store.specs.declared.Place.{Place}
-use Rattle.store.specs.declared.Place.TheVariants.{At, Nowhere}
-use Rattle.store.specs.Slots.{slot_at, head_at, key_of, is_used, holds_at, find, place_of}
+use Rattle.store.specs.Slots.{slot_at, head_at, key_of, is_used, holds_at, find}
 use Rattle.store.specs.Change.{on_page, hits_at, lowest_unused}
 use Rattle.store_code.specs.Fits.{Fitting}
 use Rattle.store.specs.Order.{slot_word}
 use Rattle.store.proofs.Find.{head_fits}
 use Rattle.store.proofs.Ordered.{word_is}
 use Rattle.store_code.specs.Answer.{name_of, is_word}
-use Rattle.store_code.proofs.Found.{place_at, place_nowhere}
 
 module _ (d : Desk) (s : List ℕ) (i : ℕ) (f : Fitting d s) (h : i < slots_of d) (b : Bytes s) where
   sum_at : {w : ℕ} → w ≡ slot_word d s i
@@ -116,27 +114,16 @@ module _ (d : Desk) (s : List ℕ) (i : ℕ) (f : Fitting d s) (h : i < slots_of
     on_page_lem : on_page p (head_at d s i).page ≡ true → p ≡ (head_at d s i).page
     on_page_lem t = by_or (eqb p 0) (eqb p (head_at d s i).page) t (λ z. absurd (np (eqb-true p 0 z))) (λ z. eqb-true p (head_at d s i).page z)
 
-    pub hits_below : {low : ℕ} → low ≡ word_of 1 p 0 0 → w < low → false ≡ hits_at d s p i
+    pub hits_within : {low : ℕ} → low ≡ word_of 1 p 0 0 → (leb low w && ltb w (low + page_word)) ≡ hits_at d s p i
     unfolding hits_at
-    hits_below q g =
-        by_bool (hits_at d s p i)
-        (λ t.
-        let u : (head_at d s i).used ≡ 1 = used_is (and_left (is_used (head_at d s i)) (on_page p (head_at d s i).page) t) in
-        let m : p ≡ (head_at d s i).page = on_page_lem (and_right (is_used (head_at d s i)) (on_page p (head_at d s i).page) t) in
-        let a = sum_at e in
-        let c = word_sum 1 p 0 0 in
-        absurd (omega arith))
-        (λ t. sym t)
-
-    pub hits_above : {low : ℕ} → low ≡ word_of 1 p 0 0 → low ≤ w → ltb w (low + page_word) ≡ hits_at d s p i
-    unfolding hits_at
-    hits_above q g =
+    hits_within {low} q =
         let a = sum_at e in
         let c = word_sum 1 p 0 0 in
         let l = head_fits d s i in
-        same_test (ltb w _) _
+        same_test (leb low w && ltb w (low + page_word)) _
         (λ t.
-        let y = ltb-true w _ t in
+        let x = leb-true low w (and_left (leb low w) (ltb w (low + page_word)) t) in
+        let y = ltb-true w (low + page_word) (and_right (leb low w) (ltb w (low + page_word)) t) in
         let u : (head_at d s i).used ≡ 1 = omega (arith, l.used, l.page, l.whole, l.fraction) in
         let m : p ≡ (head_at d s i).page = omega (arith, l.used, l.page, l.whole, l.fraction) in
         and_true (is_used (head_at d s i)) (on_page p (head_at d s i).page) (eq-eqb (head_at d s i).used 1 u)
@@ -144,77 +131,50 @@ module _ (d : Desk) (s : List ℕ) (i : ℕ) (f : Fitting d s) (h : i < slots_of
         (λ t.
         let u : (head_at d s i).used ≡ 1 = used_is (and_left (is_used (head_at d s i)) (on_page p (head_at d s i).page) t) in
         let m : p ≡ (head_at d s i).page = on_page_lem (and_right (is_used (head_at d s i)) (on_page p (head_at d s i).page) t) in
-        lt-ltb w _ (omega (arith, l.whole, l.fraction)))
+        and_true (leb low w) (ltb w (low + page_word)) (le-leb low w (omega arith)) (lt-ltb w (low + page_word) (omega (arith, l.whole, l.fraction))))
 
--- ---- slots that lie by themselves: those of the store from one on
-module _ (d : Desk) (s : List ℕ) {first from i : ℕ} (e : from ≡ first * slot_length d) (h : first ≤ i) where
-  part_at : from + (i - first) * slot_length d ≡ i * slot_length d
-  part_at =
-      let b : first + (i - first) ≡ i = omega arith in
-      ap (λ (k : ℕ). k + (i - first) * slot_length d) e ∙ sym (add-mul first (i - first) (slot_length d)) ∙ ap (λ (k : ℕ). k * slot_length d) b
+-- ---- slots that lie by themselves: so many of the store from one on
+module _ (d : Desk) (s : List ℕ) {first end from to : ℕ} (ef : from ≡ first * slot_length d) (et : to ≡ end * slot_length d) where
+  pub part_length : first ≤ end → to ≤ length s → length (take (to - from) (drop from s)) ≡ (end - first) * slot_length d
+  part_length o r =
+      let a : first + (end - first) ≡ end = omega arith in
+      let b : (first + (end - first)) * slot_length d ≡ to = ap (λ (k : ℕ). k * slot_length d) a ∙ sym et in
+      let c = add-mul first (end - first) (slot_length d) in
+      let l : length (drop from s) ≡ length s - from = length-drop from s in
+      length-take-le (to - from) (drop from s) (omega arith) ∙ omega arith
 
-  part_word : slot_word d (take (length s - from) (drop from s)) (i - first) ≡ slot_word d s i
+  part_word : {i : ℕ} → first ≤ i → i < end → slot_word d (take (to - from) (drop from s)) (i - first) ≡ slot_word d s i
   unfolding slot_word slot_at
-  part_word =
-      ap (λ (z : List ℕ). quick_of (take (slot_length d) (drop ((i - first) * slot_length d) z))) (tail_is s from)
-      ∙ ap (λ (z : List ℕ). quick_of (take (slot_length d) z)) (drop-drop ((i - first) * slot_length d) from s)
-      ∙ ap (λ (k : ℕ). quick_of (take (slot_length d) (drop k s))) part_at
-
-  pub part_room : i * slot_length d + slot_length d ≤ length s → (i - first) * slot_length d + slot_length d ≤ length (take (length s - from) (drop from s))
-  part_room r =
-      let a : length (take (length s - from) (drop from s)) ≡ length s - from = ap length (tail_is s from) ∙ length-drop from s in
-      let p : from + (i - first) * slot_length d ≡ i * slot_length d = part_at in
-      omega arith
+  part_word {i} h l =
+      let b : first + (i - first) ≡ i = omega arith in
+      let p : from + (i - first) * slot_length d ≡ i * slot_length d =
+      ap (λ (k : ℕ). k + (i - first) * slot_length d) ef ∙ sym (add-mul first (i - first) (slot_length d)) ∙ ap (λ (k : ℕ). k * slot_length d) b
+      in
+      let m : i * slot_length d + slot_length d ≤ end * slot_length d = apart (slot_length d) l in
+      ap quick_of
+      (part_part s from (to - from) ((i - first) * slot_length d) (slot_length d) (omega arith) ∙ ap (λ (k : ℕ). take (slot_length d) (drop k s)) p)
 
 -- ---- the searches, as the code makes them
 abbrev pub is_below : Desk → List ℕ → ℕ → ℕ → Bool
 is_below d s w i = ltb (slot_word d s i) w
 
-module _ (d : Desk) (s : List ℕ) (k : Kind) (f : Fitting d s) (b : Bytes s) {first count : ℕ} (ef : first ≡ first_slot d k) (ec : count ≡ slot_count d k) where
-  of_kind : (p q : ℕ → Bool) → ((i : ℕ) → first ≤ i → i < slots_of d → p i ≡ q i)
-      → first_from p (first + count - first) first ≡ first_from q (slot_count d k) (first_slot d k)
+module _ (d : Desk) (s : List ℕ) (k : Kind) (f : Fitting d s) (b : Bytes s) {first end : ℕ} (ef : first ≡ first_slot d k) (ee : end ≡ slots_end d k) where
+  of_kind : (p q : ℕ → Bool) → ((i : ℕ) → first ≤ i → i < end → i < slots_of d → p i ≡ q i)
+      → first_from p (end - first) first ≡ first_from q (slot_count d k) (first_slot d k)
   of_kind p q g =
-      let m : first + count - first ≡ slot_count d k = omega arith in
+      let m : end - first ≡ slot_count d k = omega arith in
       ap (λ (z : ℕ). first_from p z first) m
-      ∙ first_same p q (slot_count d k) first (λ i h l. g i h (let e = kind_end d k in omega arith))
+      ∙ first_same p q (slot_count d k) first (λ i h l. g i h (omega arith) (let e = kind_end d k in omega arith))
       ∙ ap (λ (z : ℕ). first_from q (slot_count d k) z) ef
 
-  pub find_words : (key : Key) → KeyFits key → (wanted : ℕ) → wanted ≡ word_of 1 key.page key.whole key.fraction → {from : ℕ} → from ≡ first * slot_length d
-      → first_from (is_word d (take (length s - from) (drop from s)) first wanted) (first + count - first) first ≡ find d s (name_of k key)
+  pub find_words : (key : Key) → KeyFits key → (wanted : ℕ) → wanted ≡ word_of 1 key.page key.whole key.fraction
+      → {from to : ℕ} → from ≡ first * slot_length d → to ≡ end * slot_length d
+      → first_from (is_word d (take (to - from) (drop from s)) first wanted) (end - first) first ≡ find d s (name_of k key)
   unfolding find
-  find_words key kf wanted q {from} e =
-      of_kind (is_word d (take (length s - from) (drop from s)) first wanted) (holds_at d s key) (λ i l h. word_test d s i f h b key kf (part_word d s e l) q)
+  find_words key kf wanted q {from} {to} eg et =
+      of_kind (is_word d (take (to - from) (drop from s)) first wanted) (holds_at d s key)
+      (λ i l m h. word_test d s i f h b key kf (part_word d s eg et l m) q)
 
-  pub unused_words : first_from (is_below d s used_word) (first + count - first) first ≡ lowest_unused d s k
+  pub unused_words : first_from (is_below d s used_word) (end - first) first ≡ lowest_unused d s k
   unfolding lowest_unused
-  unused_words = of_kind (is_below d s used_word) (λ i. not (is_used (head_at d s i))) (λ i l h. unused_test d s i f h b refl)
-
--- one turn of the look-up
-module _ (d : Desk) (s : List ℕ) (first : ℕ) {w x e i : ℕ} {a : Found} (h : i < e) (q : x ≡ slot_word d s (i - first)) where
-  pub word_hit : x ≡ w → first_from (is_word d s first w) (e - i) i ≡ a → at i ≡ a
-  word_hit t g = search_hit (is_word d s first w) e i h (ap (λ (z : ℕ). eqb z w) q) (eq-eqb x w t) g
-
-  pub word_miss : (x ≡ w → ⊥) → first_from (is_word d s first w) (e - i) i ≡ a → first_from (is_word d s first w) (e - (i + 1)) (i + 1) ≡ a
-  word_miss t g = search_miss (is_word d s first w) e i h (ap (λ (z : ℕ). eqb z w) q) (ne_eqb x w t) g
-
--- and one of four slots
-module _ (d : Desk) (s : List ℕ) (first w e i : ℕ) {r : Place} (h : i + 4 ≤ e) (q : r ≡ place_of (first_from (is_word d s first w) 4 i)) where
-  past_four : e - i ≡ 4 + (e - (i + 4))
-  past_four = omega arith
-
-  pub four_hit : {j : ℕ} {a : Found} → r ≡ At j → first_from (is_word d s first w) (e - i) i ≡ a → at j ≡ a
-  four_hit {j} t g =
-      sym (first_front (is_word d s first w) 4 (e - (i + 4)) i j (place_at q t)) ∙ ap (λ (z : ℕ). first_from (is_word d s first w) z i) (sym past_four) ∙ g
-
-  pub four_miss : {a : Found} → r ≡ Nowhere → first_from (is_word d s first w) (e - i) i ≡ a → first_from (is_word d s first w) (e - (i + 4)) (i + 4) ≡ a
-  four_miss t g =
-      sym (first_skip (is_word d s first w) 4 (e - (i + 4)) i (first_nowhere (is_word d s first w) 4 i (place_nowhere q t)))
-      ∙ ap (λ (z : ℕ). first_from (is_word d s first w) z i) (sym past_four) ∙ g
-
--- one turn of the look for an unused slot
-module _ (d : Desk) (s : List ℕ) {w x e i : ℕ} {a : Found} (h : i < e) (q : x ≡ slot_word d s i) where
-  pub below_hit : x < w → first_from (is_below d s w) (e - i) i ≡ a → at i ≡ a
-  below_hit t g = search_hit (is_below d s w) e i h (ap (λ (z : ℕ). ltb z w) q) (lt-ltb x w t) g
-
-  pub below_miss : w ≤ x → first_from (is_below d s w) (e - i) i ≡ a → first_from (is_below d s w) (e - (i + 1)) (i + 1) ≡ a
-  below_miss t g = search_miss (is_below d s w) e i h (ap (λ (z : ℕ). ltb z w) q) (le-ltb x w t) g
+  unused_words = of_kind (is_below d s used_word) (λ i. not (is_used (head_at d s i))) (λ i l m h. unused_test d s i f h b refl)

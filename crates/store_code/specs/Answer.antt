@@ -1,14 +1,13 @@
 -- What the operations answer: where a memory was started and the store after it, and the part of the store that is handed out (paper 01,
 -- "The store": "the levels are handed out as the very C bytes in the store").
 -- Assumes nothing.
-use Rattle.std.specs.Prelude.{◌≡◌, Bool, List, ℕ, ◌+◌, ◌-◌, ◌*◌, eqb}
+use Rattle.std.specs.Prelude.{◌≡◌, Bool, List, ℕ, ◌+◌, ◌-◌, ◌*◌, eqb, Option}
 use Rattle.std.specs.Borrow.{Bor}
 use Rattle.store_desk.specs.declared.Desk.{Desk}
 use Rattle.store_desk.specs.declared.Key.{Key}
 use Rattle.store_desk.specs.declared.Kind.{Kind}
 use Rattle.store_desk.specs.Size.{head_length, slot_length}
 use Rattle.store_desk.specs.Name.{Name}
-use Rattle.store.specs.declared.Place.{Place}
 use Rattle.store.specs.Slots.{levels_at, place_of}
 use Rattle.store.specs.Change.{seat, started}
 use Rattle.store.specs.Order.{slot_word}
@@ -23,10 +22,10 @@ is_word d s first w i = eqb (slot_word d s (i - first)) w
 
 -- a place, and the store
 pub record Started : Type 0 where
-  pub place : Place
+  pub place : Option ℕ
   pub store : List ℕ
 
-abbrev pub started_as : Place → List ℕ → Started
+abbrev pub started_as : Option ℕ → List ℕ → Started
 started_as p s = record { place = p; store = s }
 
 -- where the memory of a name goes, and the store once it is there

@@ -5,62 +5,51 @@ ghost use Rattle.std.specs.Prelude.{◌≡◌, true, cond, ◌++◌, ◌+◌, �
 ghost use Rattle.cells.specs.Put.{put};
 ghost use Rattle.cells.specs.Search.{first_from};
 ghost use Rattle.store_desk.specs.Size.{Within, InRange, head_length, entry_length_of, slot_length, slots_of, patch_start, entries_of};
-ghost use Rattle.store_desk.specs.Name.{ok_name, KeyFits};
+ghost use Rattle.store_desk.specs.Name.{first_slot, slots_end, ok_name, KeyFits};
 ghost use Rattle.store_head.specs.Layout.{encode_head, decode_head};
 ghost use Rattle.store_head.specs.Fits.{page_span, channel_span, HeadFits};
-ghost use Rattle.store.specs.Slots.{slot_at, put_slot, entry_at, head_at, place_of, find as findSlot};
+ghost use Rattle.store.specs.Slots.{slot_at, put_slot, entry_at, head_at, place_of, find as find_slot};
 ghost use Rattle.store.specs.View.{patched_to};
-ghost use Rattle.store.specs.Change.{lowest_unused, new_seat, seat as seatOf, blank_head, blank_slot, edit_head, with_head, edit_slot, edit_at, patched, hits_at, cleared, cleared_patch, emptied};
+ghost use Rattle.store.specs.Change.{lowest_unused, new_seat, seat as seat_of, blank_head, blank_slot, edit_head, with_head, edit_slot, edit_at, patched, hits_at, cleared, cleared_patch, emptied};
 ghost use Rattle.store.specs.Form.{has_times, has_link};
 ghost use Rattle.store.specs.Order.{slot_word};
 ghost use Rattle.store_code.specs.Fits.{Fitting, Editing, OnPatch};
 ghost use Rattle.store_code.specs.Answer.{name_of, started_as, start_of, LevelsOf, is_word};
 
-use store::{Edit, Place};
+use std::ops::Range;
+use store::Edit;
 use store_desk::{Desk, Key, Kind};
 use store_head::{Head, Patch};
 
 // ---- which values a kind can have (§6.3)
 
 // UP and DOWN.
+#[tactic(auto, unfolding(store::specs::Form::has_times))]
 pub fn has_times(kind: Kind) -> bool
     ensures { result ≡ has_times kind }
 {
-    match kind {
-        Kind::Cue => true,
-        Kind::Group => false,
-        Kind::Sub => true,
-    }
+    matches!(kind, Kind::Cue | Kind::Sub)
 }
 
 // FOLLOWON and LINK.
+#[tactic(auto, unfolding(store::specs::Form::has_link))]
 pub fn has_link(kind: Kind) -> bool
     ensures { result ≡ has_link kind }
 {
-    match kind {
-        Kind::Cue => true,
-        Kind::Group => false,
-        Kind::Sub => false,
-    }
+    matches!(kind, Kind::Cue)
 }
 
 // ---- slots and their heads
 
-// Where a slot begins in the store, and where it ends.
-fn slot_start(desk: Desk, slot: usize) -> usize
+// Where a slot lies in the store.
+fn slot_range(desk: Desk, slot: usize) -> Range<usize>
     requires in_range { InRange desk }
     requires slot_bound { slot < slots_of desk }
-    ensures { result ≡ slot * slot_length desk }
+    ensures start { result.start ≡ slot * slot_length desk }
+    ensures end { result.end ≡ slot * slot_length desk + slot_length desk }
 {
-    slot * desk.slot_length()
-}
-
-fn slot_end(desk: Desk, slot: usize) -> usize
-    requires in_range { InRange desk }
-    requires slot_bound { slot < slots_of desk }
-    ensures { result ≡ slot * slot_length desk + slot_length desk }
-{
-    slot_start(desk, slot) + desk.slot_length()
+    let start = slot * desk.slot_length();
+    start..start + desk.slot_length()
 }
 
 // The bytes of a slot.
@@ -69,9 +58,7 @@ pub fn slot_bytes<'a>(desk: Desk, store: &'a [u8], slot: usize) -> &'a [u8]
     requires slot_bound { slot < slots_of desk }
     ensures { result.now ≡ slot_at desk store.now slot }
 {
-    let at = slot_start(desk, slot);
-    let end = slot_end(desk, slot);
-    &store[at..end]
+    &store[slot_range(desk, slot)]
 }
 
 // The key of a slot in one number, so that a search reads three bytes of each slot.
@@ -97,7 +84,7 @@ pub fn levels_start(desk: Desk, slot: usize) -> usize
     requires slot_bound { slot < slots_of desk }
     ensures { result ≡ slot * slot_length desk + head_length }
 {
-    slot_start(desk, slot) + store_desk::HEAD_LENGTH
+    slot_range(desk, slot).start + store_desk::HEAD_LENGTH
 }
 
 // The very bytes in the store, with no copying.
@@ -106,125 +93,86 @@ pub fn levels<'a>(desk: Desk, store: &'a [u8], slot: usize) -> &'a [u8]
     requires slot_bound { slot < slots_of desk }
     ensures { LevelsOf desk store.entry slot result }
 {
-    let at = levels_start(desk, slot);
-    let end = slot_end(desk, slot);
-    &store[at..end]
+    &store[levels_start(desk, slot)..slot_range(desk, slot).end]
 }
 
 // ---- look-up
 
-// The same of slots that lie by themselves.
-fn word_in(desk: Desk, slots: &[u8], slot: usize) -> u32
-    requires in_range { InRange desk }
-    requires slot_bound { slot < slots_of desk }
-    requires desk_in_bounds { slot * slot_length desk + slot_length desk ≤ length slots.now }
-    ensures { result ≡ slot_word desk slots.now slot }
+// The slots of a kind.
+fn slots_of_kind(desk: Desk, kind: Kind) -> Range<usize>
+    requires { InRange desk }
+    ensures start { result.start ≡ first_slot desk kind }
+    ensures end { result.end ≡ slots_end desk kind }
 {
-    let at = slot_start(desk, slot);
-    let end = slot_end(desk, slot);
-    store_head::quick(&slots[at..end])
+    let first = store_desk::first_slot(desk, kind);
+    first..first + store_desk::slot_count(desk, kind)
 }
 
-// Which of the four slots from i on has this word first, where the slots from `first` on lie by themselves.
-fn among_four(desk: Desk, slots: &[u8], first: usize, i: usize, wanted: u32) -> Place
-    requires in_range { InRange desk }
-    requires first_le_i { first ≤ i }
-    requires i_bound { i + 3 < slots_of desk }
-    requires desk_in_bounds { (i + 3 - first) * slot_length desk + slot_length desk ≤ length slots.now }
-    ensures { result ≡ place_of (first_from (is_word desk slots.now first wanted) 4 i) }
-{
-    if word_in(desk, slots, i - first) == wanted {
-        return Place::At(i);
-    }
-    let second = i + 1;
-    if word_in(desk, slots, second - first) == wanted {
-        return Place::At(second);
-    }
-    let third = second + 1;
-    if word_in(desk, slots, third - first) == wanted {
-        return Place::At(third);
-    }
-    let fourth = third + 1;
-    if word_in(desk, slots, fourth - first) == wanted {
-        return Place::At(fourth);
-    }
-    Place::Nowhere
-}
-
-// The slot that keeps this memory. The slots of its kind are looked at as a part of the store of their own: in a load the compiler then keeps
-// where they begin at hand, and does not fetch it again for each slot. Four are looked at a turn, and what is left one by one: the compiler then
-// does not put the search in line, and a load that searches much is the faster for it.
-pub fn find(desk: Desk, store: &[u8], kind: Kind, key: Key) -> Place
+// The slot that keeps this memory.
+pub fn find(desk: Desk, store: &[u8], kind: Kind, key: Key) -> Option<usize>
     requires fitting { Fitting desk store.now }
     requires key_fits { KeyFits key }
-    ensures { result ≡ place_of (findSlot desk store.now (name_of kind key)) }
+    ensures { result ≡ place_of (find_slot desk store.now (name_of kind key)) }
 {
     let wanted = store_head::quick_key(key.page, key.whole, key.fraction);
-    let first = store_desk::first_slot(desk, kind);
-    let end = first + store_desk::slot_count(desk, kind);
-    let from = first * desk.slot_length();
-    let slots = &store[from..];
-    let mut i = first;
-    while i + 4 <= end {
-        match among_four(desk, slots, first, i, wanted) {
-            Place::At(j) => return Place::At(j),
-            Place::Nowhere => {}
-        }
-        i += 4;
-    }
-    while i < end {
-        if word_in(desk, slots, i - first) == wanted {
-            return Place::At(i);
-        }
-        i += 1;
-    }
-    Place::Nowhere
+    let slots = slots_of_kind(desk, kind);
+    let length = desk.slot_length();
+    store[slots.start * length..slots.end * length]
+        .chunks_exact(length)
+        .position(|slot| store_head::quick(slot) == wanted)
+        .map(|i| slots.start + i)
 }
 
 // The first slot of a kind that keeps nothing.
-fn lowest_unused(desk: Desk, store: &[u8], kind: Kind) -> Place
+fn lowest_unused(desk: Desk, store: &[u8], kind: Kind) -> Option<usize>
     requires { Fitting desk store.now }
     ensures { result ≡ place_of (lowest_unused desk store.now kind) }
 {
-    let first = store_desk::first_slot(desk, kind);
-    let end = first + store_desk::slot_count(desk, kind);
-    let mut i = first;
-    while i < end {
-        if word_at(desk, store, i) < store_head::USED_WORD {
-            return Place::At(i);
-        }
-        i += 1;
-    }
-    Place::Nowhere
+    slots_of_kind(desk, kind).find(|slot| word_at(desk, store, *slot) < store_head::USED_WORD)
 }
 
 // The slot for a memory that is not kept yet.
-fn new_seat(desk: Desk, store: &[u8], kind: Kind, key: Key) -> Place
+fn new_seat(desk: Desk, store: &[u8], kind: Kind, key: Key) -> Option<usize>
     requires fitting { Fitting desk store.now }
     requires key_value { ok_name desk (name_of kind key) ≡ true }
     ensures { result ≡ place_of (new_seat desk store.now kind key) }
 {
     match kind {
-        Kind::Cue => lowest_unused(desk, store, kind),
-        Kind::Group => lowest_unused(desk, store, kind),
-        Kind::Sub => Place::At(store_desk::sub_slot(desk, key)),
+        Kind::Cue | Kind::Group => lowest_unused(desk, store, kind),
+        Kind::Sub => Some(store_desk::sub_slot(desk, key)),
     }
 }
 
 // A kept memory stays in its slot.
-fn seat(desk: Desk, store: &[u8], kind: Kind, key: Key) -> Place
+fn seat(desk: Desk, store: &[u8], kind: Kind, key: Key) -> Option<usize>
     requires fitting { Fitting desk store.now }
     requires key_value { ok_name desk (name_of kind key) ≡ true }
-    ensures { result ≡ place_of (seatOf desk store.now (name_of kind key)) }
+    ensures { result ≡ place_of (seat_of desk store.now (name_of kind key)) }
 {
-    let kept = find(desk, store, kind, key);
-    match kept {
-        Place::At(i) => Place::At(i),
-        Place::Nowhere => new_seat(desk, store, kind, key),
-    }
+    find(desk, store, kind, key).or_else(|| new_seat(desk, store, kind, key))
 }
 
 // ---- start
+
+// The head of a slot that keeps nothing.
+const UNUSED: Head = Head {
+    used: 0,
+    page: 0,
+    whole: 0,
+    fraction: 0,
+    link: 0,
+    link_whole: 0,
+    link_fraction: 0,
+    up: 0,
+    up_fade: 0,
+    up_delay: 0,
+    down: 0,
+    down_fade: 0,
+    down_delay: 0,
+    followon: 0,
+    followon_time: 0,
+    rest: 0,
+};
 
 // The head of a memory with no times and no link.
 fn blank_head(key: Key) -> Head
@@ -235,18 +183,7 @@ fn blank_head(key: Key) -> Head
         page: key.page,
         whole: key.whole,
         fraction: key.fraction,
-        link: 0,
-        link_whole: 0,
-        link_fraction: 0,
-        up: 0,
-        up_fade: 0,
-        up_delay: 0,
-        down: 0,
-        down_fade: 0,
-        down_delay: 0,
-        followon: 0,
-        followon_time: 0,
-        rest: 0,
+        ..UNUSED
     }
 }
 
@@ -256,10 +193,9 @@ fn write_afresh(slot: &mut [u8], h: Head)
     requires head_length_in_bounds { head_length ≤ length slot.old }
     ensures { slot.new ≡ encode_head h ++ replicate (length slot.old - head_length) 0 }
 {
-    let bytes = store_head::encode(h);
-    cells::copy(&mut *slot, &bytes);
-    let at = store_desk::HEAD_LENGTH;
-    cells::fill(&mut slot[at..], 0);
+    let (head, levels) = slot.split_at_mut(store_desk::HEAD_LENGTH);
+    head.copy_from_slice(&store_head::encode(h));
+    levels.fill(0);
 }
 
 // A slot becomes a memory of this key, afresh.
@@ -269,88 +205,63 @@ fn blank(desk: Desk, store: &mut [u8], slot: usize, key: Key)
     requires key_fits { KeyFits key }
     ensures { store.new ≡ put_slot desk store.old slot (blank_slot desk key) }
 {
-    let at = slot_start(desk, slot);
-    let end = slot_end(desk, slot);
-    write_afresh(&mut store[at..end], blank_head(key));
+    write_afresh(&mut store[slot_range(desk, slot)], blank_head(key));
 }
 
 // A new cue or group takes the lowest unused slot; a kept memory starts afresh where it is.
-pub fn start(desk: Desk, store: &mut [u8], kind: Kind, key: Key) -> Place
+pub fn start(desk: Desk, store: &mut [u8], kind: Kind, key: Key) -> Option<usize>
     requires fitting { Fitting desk store.old }
     requires key_value { ok_name desk (name_of kind key) ≡ true }
     ensures { started_as result store.new ≡ start_of desk store.old (name_of kind key) }
 {
-    let place = seat(desk, store, kind, key);
-    match place {
-        Place::At(i) => {
-            blank(desk, &mut *store, i, key);
-            Place::At(i)
-        }
-        Place::Nowhere => Place::Nowhere,
-    }
+    let slot = seat(desk, store, kind, key)?;
+    blank(desk, store, slot, key);
+    Some(slot)
 }
 
 // ---- a change of one memory
-
-// A head with a link set.
-fn linked(h: Head, whole: u32, fraction: u32) -> Head
-    ensures { result ≡ edit_head (Edit.Link whole fraction) h }
-{
-    let mut n = h;
-    n.link = 1;
-    n.link_whole = whole;
-    n.link_fraction = fraction;
-    n
-}
 
 // A head with a time or a link set.
 fn changed(e: Edit, h: Head) -> Head
     ensures { result ≡ edit_head e h }
 {
-    let mut n = h;
     match e {
-        Edit::Up(fade, delay) => {
-            n.up = 1;
-            n.up_fade = fade;
-            n.up_delay = delay;
-            n
-        }
-        Edit::Down(fade, delay) => {
-            n.down = 1;
-            n.down_fade = fade;
-            n.down_delay = delay;
-            n
-        }
-        Edit::Followon(time) => {
-            n.followon = 1;
-            n.followon_time = time;
-            n
-        }
-        Edit::Link(whole, fraction) => linked(h, whole, fraction),
-        Edit::Level(_, _) => n,
+        Edit::Up(fade, delay) => Head {
+            up: 1,
+            up_fade: fade,
+            up_delay: delay,
+            ..h
+        },
+        Edit::Down(fade, delay) => Head {
+            down: 1,
+            down_fade: fade,
+            down_delay: delay,
+            ..h
+        },
+        Edit::Followon(time) => Head {
+            followon: 1,
+            followon_time: time,
+            ..h
+        },
+        Edit::Link(whole, fraction) => Head {
+            link: 1,
+            link_whole: whole,
+            link_fraction: fraction,
+            ..h
+        },
+        Edit::Level(_, _) => h,
     }
 }
 
-// The other bytes of the slot stay.
+// The other bytes of the slot stay. Kept out of line: put in line, the walk of a load holds its code at each change (7 in 100 more instructions).
+#[inline(never)]
 fn change_head(slot: &mut [u8], e: Edit)
     requires head_fits { HeadFits (edit_head e (decode_head slot.old)) }
     requires head_length_in_bounds { head_length ≤ length slot.old }
     ensures { slot.new ≡ with_head e slot.old }
 {
     let h = changed(e, store_head::decode(slot));
-    let bytes = store_head::encode(h);
-    cells::copy(&mut *slot, &bytes);
-}
-
-// The same for a link.
-fn relink(slot: &mut [u8], whole: u32, fraction: u32)
-    requires head_fits { HeadFits (edit_head (Edit.Link whole fraction) (decode_head slot.old)) }
-    requires head_length_in_bounds { head_length ≤ length slot.old }
-    ensures { slot.new ≡ with_head (Edit.Link whole fraction) slot.old }
-{
-    let h = linked(store_head::decode(slot), whole, fraction);
-    let bytes = store_head::encode(h);
-    cells::copy(&mut *slot, &bytes);
+    slot[..store_desk::HEAD_LENGTH].copy_from_slice(&store_head::encode(h));
 }
 
 // One channel's level; channel 1 comes first.
@@ -360,9 +271,8 @@ fn set_level(desk: Desk, slot: &mut [u8], channel: u32, level: u8)
     requires desk_in_bounds { slot_length desk ≤ length slot.old }
     ensures { slot.new ≡ edit_slot desk (Edit.Level channel level) slot.old }
 {
-    let n = cells::place(channel) - 1;
-    let at = store_desk::HEAD_LENGTH + n * desk.level_width();
-    slot[at] = level;
+    let n = channel as usize - 1;
+    slot[store_desk::HEAD_LENGTH + n * desk.level_width()] = level;
 }
 
 fn edit_slot(desk: Desk, slot: &mut [u8], e: Edit)
@@ -372,10 +282,7 @@ fn edit_slot(desk: Desk, slot: &mut [u8], e: Edit)
     ensures { slot.new ≡ edit_slot desk e slot.old }
 {
     match e {
-        Edit::Up(_, _) => change_head(slot, e),
-        Edit::Down(_, _) => change_head(slot, e),
-        Edit::Followon(_) => change_head(slot, e),
-        Edit::Link(_, _) => change_head(slot, e),
+        Edit::Up(..) | Edit::Down(..) | Edit::Followon(_) | Edit::Link(..) => change_head(slot, e),
         Edit::Level(channel, level) => set_level(desk, slot, channel, level),
     }
 }
@@ -387,33 +294,30 @@ pub fn edit(desk: Desk, store: &mut [u8], slot: usize, e: Edit)
     requires editing { Editing desk e }
     ensures { store.new ≡ edit_at desk store.old slot e }
 {
-    let at = slot_start(desk, slot);
-    let end = slot_end(desk, slot);
-    edit_slot(desk, &mut store[at..end], e);
+    edit_slot(desk, &mut store[slot_range(desk, slot)], e);
 }
 
-// A link, at the end of a load with translation. It stands beside `edit` so that a head is changed in one place of the walk, and the compiler puts
-// that in line there.
+// A link, at the end of a load with translation.
 pub fn set_link(desk: Desk, store: &mut [u8], slot: usize, whole: u32, fraction: u32)
     requires fitting { Fitting desk store.old }
     requires slot_bound { slot < slots_of desk }
     requires editing { Editing desk (Edit.Link whole fraction) }
     ensures { store.new ≡ edit_at desk store.old slot (Edit.Link whole fraction) }
 {
-    let at = slot_start(desk, slot);
-    let end = slot_end(desk, slot);
-    relink(&mut store[at..end], whole, fraction);
+    edit(desk, store, slot, Edit::Link(whole, fraction));
 }
 
 // ---- the patch
 
-// Where a patch entry begins in the store.
-fn entry_start(desk: Desk, entry: usize) -> usize
+// Where a patch entry lies in the store.
+fn entry_range(desk: Desk, entry: usize) -> Range<usize>
     requires in_range { InRange desk }
     requires bound { entry < entries_of desk }
-    ensures { result ≡ patch_start desk + entry * entry_length_of }
+    ensures start { result.start ≡ patch_start desk + entry * entry_length_of }
+    ensures end { result.end ≡ patch_start desk + entry * entry_length_of + entry_length_of }
 {
-    desk.patch_start() + entry * store_desk::ENTRY_LENGTH
+    let start = desk.patch_start() + entry * store_desk::ENTRY_LENGTH;
+    start..start + store_desk::ENTRY_LENGTH
 }
 
 // The bytes of a patch entry.
@@ -422,9 +326,7 @@ pub fn entry_bytes<'a>(desk: Desk, store: &'a [u8], entry: usize) -> &'a [u8]
     requires bound { entry < entries_of desk }
     ensures { result.now ≡ entry_at desk store.now entry }
 {
-    let at = entry_start(desk, entry);
-    let end = at + store_desk::ENTRY_LENGTH;
-    &store[at..end]
+    &store[entry_range(desk, entry)]
 }
 
 pub fn patch_of(desk: Desk, store: &[u8], page: u32, dimmer: u32) -> Patch
@@ -445,12 +347,11 @@ pub fn patch_dimmer(desk: Desk, store: &mut [u8], page: u32, dimmer: u32, channe
 {
     let bytes = store_head::encode_patch(Patch {
         channel,
-        level: cells::wide32(level),
+        level: u32::from(level),
         rest: 0,
     });
-    let at = entry_start(desk, store_desk::entry_of(desk, page, dimmer));
-    let end = at + store_desk::ENTRY_LENGTH;
-    cells::copy(&mut store[at..end], &bytes);
+    let entry = store_desk::entry_of(desk, page, dimmer);
+    store[entry_range(desk, entry)].copy_from_slice(&bytes);
 }
 
 // ---- CLEAR, and emptying
@@ -467,10 +368,7 @@ fn hits(desk: Desk, store: &[u8], slot: usize, page: u32) -> bool
         return store_head::USED_WORD <= word;
     }
     let first = store_head::quick_key(page, 0, 0);
-    if word < first {
-        return false;
-    }
-    word < first + store_head::PAGE_WORD
+    (first..first + store_head::PAGE_WORD).contains(&word)
 }
 
 // So many bytes from a place on become zero.
@@ -478,8 +376,7 @@ fn zero(store: &mut [u8], at: usize, count: usize)
     requires { at + count ≤ length store.old }
     ensures { store.new ≡ put store.old at (replicate count 0) }
 {
-    let end = at + count;
-    cells::fill(&mut store[at..end], 0);
+    store[at..at + count].fill(0);
 }
 
 fn zero_slot(desk: Desk, store: &mut [u8], slot: usize)
@@ -487,8 +384,7 @@ fn zero_slot(desk: Desk, store: &mut [u8], slot: usize)
     requires slot_bound { slot < slots_of desk }
     ensures { store.new ≡ put_slot desk store.old slot (replicate (slot_length desk) 0) }
 {
-    let at = slot_start(desk, slot);
-    zero(store, at, desk.slot_length());
+    store[slot_range(desk, slot)].fill(0);
 }
 
 // Slots that are not hit are left alone.
@@ -509,12 +405,8 @@ pub fn clear_kind(desk: Desk, store: &mut [u8], kind: Kind, page: u32)
     requires page_lt_page_span { page < page_span }
     ensures { store.new ≡ cleared desk store.old kind page }
 {
-    let first = store_desk::first_slot(desk, kind);
-    let end = first + store_desk::slot_count(desk, kind);
-    let mut i = first;
-    while i < end {
-        clear_slot(desk, &mut *store, i, page);
-        i += 1;
+    for slot in slots_of_kind(desk, kind) {
+        clear_slot(desk, &mut *store, slot, page);
     }
 }
 
@@ -529,9 +421,8 @@ pub fn clear_patch(desk: Desk, store: &mut [u8], page: u32)
         zero(store, start, desk.entries() * store_desk::ENTRY_LENGTH);
         return;
     }
-    let count = cells::place(desk.dimmers) * store_desk::ENTRY_LENGTH;
-    let at = start + (cells::place(page) - 1) * count;
-    zero(store, at, count);
+    let count = desk.dimmers as usize * store_desk::ENTRY_LENGTH;
+    zero(store, start + (page as usize - 1) * count, count);
 }
 
 // Every needed byte becomes zero; bytes past the needed length stay.

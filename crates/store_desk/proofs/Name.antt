@@ -2,11 +2,11 @@
 -- By cases on the kind, the tests' facts and laws of products.
 -- Assumes nothing.
 use mathlib.Core.Path.{◌≡◌, refl, sym, ap, ◌∙◌, subst}
-use mathlib.Core.Bool.{Bool, true, ◌&&◌}
+use mathlib.Core.Bool.{true}
 use Prim.Native.Nat.{ℕ, ◌+◌, ◌-◌, ◌*◌, ◌/◌, ◌%◌, ◌≤◌, ◌<◌}
 use native.Mathlib.Nat.{mul_comm}
 use native.Mathlib.Omega.{arith}
-use lib.Dec.{ltb, leb}
+use lib.Dec.{ltb}
 use lib.Arith.{digits_lt, digits_div, digits_mod}
 use borrow.Author.Tests.{leb-true, le-leb, ltb-true, lt-ltb, le-ltb, eqb-true, eq-eqb}
 use Rattle.store_desk.specs.declared.Desk.{Desk}
@@ -216,10 +216,6 @@ sub_same d a b ha hb e =
     λ i. record { page = q.0 i; whole = q.1 i; fraction = f i }
 
 -- ---- slots and dimmers by number
-
-pub slot_tested : (d : Desk) (n : ℕ) {r : Bool} {p q : ℕ} → r ≡ (leb 1 n && leb p q) → p ≡ n → q ≡ slots_of d → r ≡ has_slot d n
-unfolding has_slot
-slot_tested d n {r} {p} {q} e f g = e ∙ ap (λ (x : ℕ). leb 1 n && leb x q) f ∙ ap (λ (x : ℕ). leb 1 n && leb n x) g
 
 pub slot_there : (d : Desk) (n : ℕ) → has_slot d n ≡ true → Within 1 n (slots_of d)
 unfolding has_slot

@@ -1,6 +1,7 @@
 -- A refusal's number is 1 to 4C in hexadecimal; its number, its place and what it tells beside them tell it from every other. So no second
 -- answer of `needed` fits its promise, and its refusal tells nothing but the number. By the cases of a refusal.
 -- Assumes nothing.
+use Rattle.std.specs.Prelude.{Err, Ok, Result}
 use mathlib.Core.Path.{◌≡◌, refl, sym, ap, ◌∙◌}
 use mathlib.Core.Bool.{cond}
 use mathlib.Core.List.{List, [], ◌∷◌}
@@ -9,8 +10,6 @@ use native.Mathlib.Omega.{arith}
 use lib.Dec.{eqb}
 use lib.ListN.{get_or}
 use Rattle.store_desk.specs.declared.Desk.{Desk}
-use Rattle.store_desk.specs.declared.Needed.{Needed}
-use Rattle.store_desk.specs.declared.Needed.TheVariants.{Away, Length}
 use Rattle.store_desk.specs.declared.Refusal.{Refusal}
 use Rattle.store_desk.specs.declared.Refusal.TheVariants.{R1, R2, R3, R4a, R4b, R4c, R5, R6, R7}
 use Rattle.store_desk.specs.Refusal.{refusal_number, Reply, replied, refused, needed_reply, needed_call, NeededPromise}
@@ -71,13 +70,13 @@ refused_no_reply r e =
 
 -- ---- needed
 
-needed_apart : (a b : Needed) → needed_reply a ≡ needed_reply b → a ≡ b
-needed_apart (Away r) (Away q) e = ap (λ (x : Refusal). Away x) (refused_apart e)
-needed_apart (Away r) (Length n) e = refused_no_reply r e
-needed_apart (Length n) (Away q) e = refused_no_reply q (sym e)
-needed_apart (Length n) (Length m) e = ap (λ (x : Reply). Length (get_or x.told 0 0)) e
+needed_apart : (a b : Result ℕ Refusal) → needed_reply a ≡ needed_reply b → a ≡ b
+needed_apart (Err r) (Err q) e = ap (λ (x : Refusal). Err x) (refused_apart e)
+needed_apart (Err r) (Ok n) e = refused_no_reply r e
+needed_apart (Ok n) (Err q) e = refused_no_reply q (sym e)
+needed_apart (Ok n) (Ok m) e = ap (λ (x : Reply). Ok (get_or x.told 0 0)) e
 
-pub one_needed : (d : Desk) {a b : Needed} → NeededPromise d a → NeededPromise d b → a ≡ b
+pub one_needed : (d : Desk) {a b : Result ℕ Refusal} → NeededPromise d a → NeededPromise d b → a ≡ b
 one_needed d e f = needed_apart _ _ (e ∙ sym f)
 
 -- R2 tells nothing beside its number

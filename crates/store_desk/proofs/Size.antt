@@ -1,7 +1,7 @@
 -- The ranges of a desk as a test and as facts, and bounds of its lengths: from the test by its parts, of products by the products of the bounds.
 -- Assumes nothing.
 use mathlib.Core.Path.{◌≡◌, refl}
-use mathlib.Core.Bool.{Bool, true, false, ◌&&◌, true≢false}
+use mathlib.Core.Bool.{Bool, true, false, true≢false}
 use mathlib.Core.List.{List, [], ◌∷◌}
 use Prim.Native.Nat.{ℕ, zero, suc, ◌*◌, ◌≤◌}
 use native.Mathlib.Nat.{mul-le-mul}
@@ -9,6 +9,11 @@ use native.Mathlib.Omega.{arith}
 use lib.Dec.{leb}
 use lib.ListN.{get_or}
 use borrow.Author.Tests.{leb-true, le-leb}
+use Rattle.std.specs.Prelude.{Some}
+use Rattle.std.specs.Ordering.{nat_cmp, is_le}
+use Rattle.std.specs.declared.ops.RangeInclusive.{RangeInclusive}
+use Rattle.std.specs.Range.{range_inclusive_start, range_inclusive_end, range_inclusive_exhausted, range_inclusive_contains}
+use Rattle.std.proofs.lemmas.Bool.Decides.{nat_tests}
 use Rattle.store_desk.specs.declared.Desk.{Desk}
 use Rattle.store_desk.specs.Size.{all_of, Within, is_within, InRange, in_range_of, house, level_width, levels_length, slot_length, sub_slots, slots_of, patch_start, entries_of, store_length}
 use Rattle.cells.proofs.Split.{and_true, and_left, and_right, and_false_left, and_false_right}
@@ -19,6 +24,14 @@ within lo x hi e =
 
 pub within_true : (lo x hi : ℕ) → Within lo x hi → is_within lo x hi ≡ true
 within_true lo x hi w = and_true (leb lo x) (leb x hi) (le-leb lo x w.0) (le-leb x hi w.1)
+
+-- `(lo..=hi).contains(&x)`, of a range that is whole
+le_cmp : (a b : ℕ) → is_le (nat_cmp a b) ≡ leb a b
+le_cmp a b = grind (arith, nat_tests)
+
+pub contained : {lo hi : ℕ} (x : ℕ) {s : RangeInclusive ℕ} → range_inclusive_start s ≡ lo → range_inclusive_end s ≡ hi → range_inclusive_exhausted s ≡ false
+    → range_inclusive_contains (λ a b. Some (nat_cmp a b)) s x ≡ is_within lo x hi
+contained {lo} {hi} x e f g = simp (e, f, g, le_cmp lo x, le_cmp x hi) refl
 
 -- ---- every test of a list
 pub all_at : (bs : List Bool) (i : ℕ) → all_of bs ≡ true → get_or bs i true ≡ true
@@ -41,16 +54,6 @@ unfolding all_of
 all_fails [] i e = absurd (true≢false e)
 all_fails (b ∷ bs) zero e = and_false_left b (all_of bs) e
 all_fails (b ∷ bs) (suc i) e = and_false_right b (all_of bs) (all_fails bs i e)
-
--- tests that are joined one by one
-pub all_last : {r : Bool} (b : Bool) → r ≡ b → r ≡ all_of (b ∷ [])
-unfolding all_of
-all_last true e = e
-all_last false e = e
-
-pub all_join : {r a t : Bool} (b : Bool) (bs : List Bool) → r ≡ (a && t) → a ≡ b → t ≡ all_of bs → r ≡ all_of (b ∷ bs)
-unfolding all_of
-all_join b bs e f g = cc
 
 -- ---- the test is the facts
 module _ (d : Desk) where

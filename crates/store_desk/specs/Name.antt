@@ -1,6 +1,6 @@
 -- The kinds of memory, their slots and pages, and what names a memory (paper 01, "The store"; "Keywords and conditions", Primaries).
 -- Assumes nothing.
-use Rattle.std.specs.Prelude.{Bool, cond, [], ◌∷◌, ℕ, ◌+◌, ◌-◌, ◌*◌, ◌<◌, leb, ltb, eqb}
+use Rattle.std.specs.Prelude.{Bool, Option, Some, None, cond, [], ◌∷◌, ℕ, ◌+◌, ◌-◌, ◌*◌, ◌<◌, leb, ltb, eqb}
 use Rattle.value.specs.Number.{whole_max, fraction_max}
 use Rattle.store_head.specs.Fits.{page_span, whole_span, fraction_span}
 use Rattle.store_desk.specs.declared.Desk.{Desk}
@@ -49,6 +49,10 @@ abbrev pub kind_number : Kind → ℕ
 kind_number Cue = 0
 kind_number Group = 1
 kind_number Sub = 2
+
+-- the kind that a number names; any other number names none
+abbrev pub kind_by : ℕ → Option Kind
+kind_by n = cond (eqb n (kind_number Cue)) (Some Cue) (cond (eqb n (kind_number Group)) (Some Group) (cond (eqb n (kind_number Sub)) (Some Sub) None))
 
 unfoldable pub eq_kind : Kind → Kind → Bool
 eq_kind a b = eqb (kind_number a) (kind_number b)

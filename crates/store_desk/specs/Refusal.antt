@@ -1,9 +1,7 @@
 -- Why a call is turned away, as a number, and what a call answers (paper 01, "Calls turned away"; paper 02, C-11, C-13).
 -- Assumes nothing.
-use Rattle.std.specs.Prelude.{cond, List, [], ◌∷◌, ◌≡◌, ℕ, ◌+◌, ◌*◌}
+use Rattle.std.specs.Prelude.{cond, List, [], ◌∷◌, ◌≡◌, ℕ, ◌+◌, ◌*◌, Err, Ok, Result}
 use Rattle.store_desk.specs.declared.Desk.{Desk}
-use Rattle.store_desk.specs.declared.Needed.{Needed}
-use Rattle.store_desk.specs.declared.Needed.TheVariants.{Away, Length}
 use Rattle.store_desk.specs.declared.Refusal.{Refusal}
 use Rattle.store_desk.specs.declared.Refusal.TheVariants.{R1, R2, R3, R4a, R4b, R4c, R5, R6, R7}
 use Rattle.store_desk.specs.Size.{in_range_of, store_length}
@@ -72,12 +70,12 @@ most_places = 2048
 
 -- ---- needed: R2, or the length
 
-abbrev pub needed_reply : Needed → Reply
-needed_reply (Away r) = refused r
-needed_reply (Length n) = replied (n ∷ [])
+abbrev pub needed_reply : Result ℕ Refusal → Reply
+needed_reply (Err r) = refused r
+needed_reply (Ok n) = replied (n ∷ [])
 
 unfoldable pub needed_call : Desk → Reply
 needed_call d = cond (in_range_of d) (replied (store_length d ∷ [])) (refused R2)
 
-abbrev pub NeededPromise : Desk → Needed → Type 0
+abbrev pub NeededPromise : Desk → Result ℕ Refusal → Type 0
 NeededPromise d a = needed_reply a ≡ needed_call d

@@ -1,13 +1,14 @@
 // The size of a desk (paper 01, "The size of a desk"), the names of its memories, and why a call is turned away.
 #![tactic(auto)]
 
-ghost use Rattle.std.specs.Prelude.{◌≡◌, ◌&&◌, ◌≤◌};
-ghost use Rattle.store_desk.specs.Size.{Within, InRange, in_range_of, is_within, house, level_width, levels_length, slot_length, sub_slots, slots_of, patch_start, entries_of, store_length};
+ghost use Rattle.std.specs.Prelude.{◌≡◌, ◌≤◌};
+ghost use Rattle.std.specs.Result.{result_ok};
+ghost use Rattle.store_desk.specs.Size.{Within, InRange, in_range_of, house, level_width, levels_length, slot_length, sub_slots, slots_of, patch_start, entries_of, store_length};
 ghost use Rattle.store_desk.specs.Refusal.{refusal_number, refusal_place, most_places, refusal_word, NeededPromise};
-ghost use Rattle.store_desk.specs.Name.{first_slot, slot_count, pages_of, supported, ok_number, ok_sub, ok_within, ok_page, ok_name, has_slot, has_dimmer, sub_slot, entry_of};
+ghost use Rattle.store_desk.specs.Name.{kind_by, first_slot, slot_count, pages_of, supported, ok_number, ok_sub, ok_within, ok_page, ok_name, has_slot, has_dimmer, sub_slot, entry_of};
 
 // The nine limits, in the order of the paper's table.
-#[derive(Clone, Copy)]
+#[derive(Clone, Copy, PartialEq, Eq)]
 pub struct Desk {
     pub channels: u32,
     pub dimmers: u32,
@@ -21,15 +22,34 @@ pub struct Desk {
 }
 
 // The kinds of memory that a primary opens.
-#[derive(Clone, Copy)]
+#[derive(Clone, Copy, PartialEq, Eq)]
 pub enum Kind {
     Cue,
     Group,
     Sub,
 }
 
+// A number that names no kind.
+#[derive(Clone, Copy, Debug, PartialEq, Eq)]
+pub struct NoSuchKind;
+
+impl TryFrom<u32> for Kind {
+    type Error = NoSuchKind;
+
+    ghost try_from_gives = { λ number kind. result_ok kind ≡ kind_by number };
+
+    fn try_from(number: u32) -> Result<Self, NoSuchKind> {
+        match number {
+            0 => Ok(Kind::Cue),
+            1 => Ok(Kind::Group),
+            2 => Ok(Kind::Sub),
+            _ => Err(NoSuchKind),
+        }
+    }
+}
+
 // What names a memory among those of its kind. A submaster's fraction is 0.
-#[derive(Clone, Copy)]
+#[derive(Clone, Copy, PartialEq, Eq)]
 pub struct Key {
     pub page: u32,
     pub whole: u32,
@@ -38,7 +58,7 @@ pub struct Key {
 
 impl Desk {
     // Paper 01's named size.
-    pub const HOUSE: Desk = Desk {
+    pub const HOUSE: Self = Self {
         channels: 96,
         dimmers: 192,
         cues: 200,
@@ -50,40 +70,33 @@ impl Desk {
         patch_pages: 1,
     };
 
-    pub fn house() -> Desk
+    pub fn house() -> Self
         ensures { result ≡ house }
     {
-        Desk::HOUSE
+        Self::HOUSE
     }
 
     // R2 is its failure.
     pub fn in_range(self) -> bool
         ensures { result ≡ in_range_of self }
     {
-        let pages = both(
-            is_within(1, self.cue_pages, MOST_PAGES),
-            both(
-                is_within(1, self.group_pages, MOST_PAGES),
-                both(
-                    is_within(1, self.sub_pages, MOST_SUB_PAGES),
-                    is_within(1, self.patch_pages, MOST_PATCH_PAGES),
-                ),
-            ),
-        );
-        let kinds = both(
-            is_within(1, self.cues, MOST_CUES),
-            both(
-                is_within(0, self.groups, MOST_GROUPS),
-                both(is_within(0, self.subs, MOST_SUBS), pages),
-            ),
-        );
-        both(
-            is_within(1, self.channels, MOST_CHANNELS),
-            both(is_within(1, self.dimmers, MOST_DIMMERS), kinds),
-        )
+        [
+            (1..=MOST_CHANNELS, self.channels),
+            (1..=MOST_DIMMERS, self.dimmers),
+            (1..=MOST_CUES, self.cues),
+            (0..=MOST_GROUPS, self.groups),
+            (0..=MOST_SUBS, self.subs),
+            (1..=MOST_PAGES, self.cue_pages),
+            (1..=MOST_PAGES, self.group_pages),
+            (1..=MOST_SUB_PAGES, self.sub_pages),
+            (1..=MOST_PATCH_PAGES, self.patch_pages),
+        ]
+        .iter()
+        .all(|(range, limit)| range.contains(limit))
     }
 
     // Bytes of one channel's level.
+    #[tactic(auto, unfolding(crate::specs::Size::level_width))]
     pub fn level_width(self) -> usize
         ensures { result ≡ level_width self }
     {
@@ -91,14 +104,15 @@ impl Desk {
     }
 
     // Bytes of a slot's levels.
+    #[tactic(auto, using(crate::proofs::Size::levels_le), unfolding(crate::specs::Size::levels_length))]
     pub fn levels_length(self) -> usize
         requires { InRange self }
         ensures { result ≡ levels_length self }
     {
-        let channels = self.channels as usize;
-        channels * self.level_width()
+        self.channels as usize * self.level_width()
     }
 
+    #[tactic(auto, using(crate::proofs::Size::levels_le), unfolding(crate::specs::Size::slot_length))]
     pub fn slot_length(self) -> usize
         requires { InRange self }
         ensures { result ≡ slot_length self }
@@ -106,26 +120,25 @@ impl Desk {
         HEAD_LENGTH + self.levels_length()
     }
 
+    #[tactic(auto, unfolding(crate::specs::Size::sub_slots))]
     fn sub_slots(self) -> usize
         requires { InRange self }
         ensures { result ≡ sub_slots self }
     {
-        let subs = self.subs as usize;
-        let pages = self.sub_pages as usize;
-        subs * pages
+        self.subs as usize * self.sub_pages as usize
     }
 
     // The slots of all kinds.
+    #[tactic(auto, using(crate::proofs::Size::subs_le), unfolding(crate::specs::Size::slots_of))]
     pub fn slots(self) -> usize
         requires { InRange self }
         ensures { result ≡ slots_of self }
     {
-        let cues = self.cues as usize;
-        let groups = self.groups as usize;
-        cues + groups + self.sub_slots()
+        self.cues as usize + self.groups as usize + self.sub_slots()
     }
 
     // Where the patch entries begin.
+    #[tactic(auto, using(crate::proofs::Size::patch_le), unfolding(crate::specs::Size::patch_start))]
     pub fn patch_start(self) -> usize
         requires { InRange self }
         ensures { result ≡ patch_start self }
@@ -134,16 +147,16 @@ impl Desk {
     }
 
     // How many patch entries there are.
+    #[tactic(auto, unfolding(crate::specs::Size::entries_of))]
     pub fn entries(self) -> usize
         requires { InRange self }
         ensures { result ≡ entries_of self }
     {
-        let dimmers = self.dimmers as usize;
-        let pages = self.patch_pages as usize;
-        dimmers * pages
+        self.dimmers as usize * self.patch_pages as usize
     }
 
     // The bytes that a store of this desk needs.
+    #[tactic(auto, using(crate::proofs::Size::entries_le, crate::proofs::Size::patch_le), unfolding(crate::specs::Size::store_length))]
     pub fn store_length(self) -> usize
         requires { InRange self }
         ensures { result ≡ store_length self }
@@ -152,13 +165,13 @@ impl Desk {
     }
 
     // The public call: R2, or the length.
-    pub fn needed(self) -> Needed
+    pub fn needed(self) -> Result<usize, Refusal>
         ensures { NeededPromise self result }
     {
         if self.in_range() {
-            Needed::Length(self.store_length())
+            Ok(self.store_length())
         } else {
-            Needed::Away(Refusal::R2)
+            Err(Refusal::R2)
         }
     }
 }
@@ -190,7 +203,7 @@ const PLACE_UNIT: u32 = 256;
 
 // Why a call is turned away: paper 01's table "Calls turned away", with C-11's R4a, R4b, R4c in the place of R4, and C-13's R7. R4a to R4c have
 // the place, from 1, of the slot or patch entry that is out of form, R6 the length needed. Every answer of a call holds it.
-#[derive(Clone, Copy)]
+#[derive(Clone, Copy, Debug, PartialEq, Eq)]
 pub enum Refusal {
     R1,
     R2,
@@ -226,15 +239,8 @@ impl Refusal {
         ensures { result ≡ refusal_place self }
     {
         match self {
-            Refusal::R1 => 0,
-            Refusal::R2 => 0,
-            Refusal::R3 => 0,
-            Refusal::R4a(place) => place,
-            Refusal::R4b(place) => place,
-            Refusal::R4c(place) => place,
-            Refusal::R5 => 0,
-            Refusal::R6(_) => 0,
-            Refusal::R7 => 0,
+            Refusal::R4a(place) | Refusal::R4b(place) | Refusal::R4c(place) => place,
+            _ => 0,
         }
     }
 
@@ -243,46 +249,24 @@ impl Refusal {
         requires { refusal_place self ≤ most_places }
         ensures { result ≡ refusal_word self }
     {
-        self.number() + PLACE_UNIT * (self.place() as u32)
+        self.number() + PLACE_UNIT * self.place() as u32
     }
-}
-
-// What a desk needs: R2, or the length of its store in bytes.
-#[derive(Clone, Copy)]
-pub enum Needed {
-    Away(Refusal),
-    Length(usize),
-}
-
-fn both(a: bool, b: bool) -> bool
-    ensures { result ≡ (a && b) }
-{
-    if a {
-        return b;
-    }
-    false
-}
-
-fn is_within(lo: u32, x: u32, hi: u32) -> bool
-    ensures { result ≡ is_within lo x hi }
-{
-    both(lo <= x, x <= hi)
 }
 
 // Cue slots come first, then group slots, then submaster slots.
+#[tactic(auto, unfolding(crate::specs::Name::first_slot))]
 pub fn first_slot(desk: Desk, kind: Kind) -> usize
     requires { InRange desk }
     ensures { result ≡ first_slot desk kind }
 {
-    let cues = desk.cues as usize;
-    let groups = desk.groups as usize;
     match kind {
         Kind::Cue => 0,
-        Kind::Group => cues,
-        Kind::Sub => cues + groups,
+        Kind::Group => desk.cues as usize,
+        Kind::Sub => desk.cues as usize + desk.groups as usize,
     }
 }
 
+#[tactic(auto, unfolding(crate::specs::Name::slot_count))]
 pub fn slot_count(desk: Desk, kind: Kind) -> usize
     requires { InRange desk }
     ensures { result ≡ slot_count desk kind }
@@ -294,6 +278,7 @@ pub fn slot_count(desk: Desk, kind: Kind) -> usize
     }
 }
 
+#[tactic(auto, unfolding(crate::specs::Name::pages_of))]
 pub fn pages(desk: Desk, kind: Kind) -> u32
     ensures { result ≡ pages_of desk kind }
 {
@@ -305,6 +290,7 @@ pub fn pages(desk: Desk, kind: Kind) -> u32
 }
 
 // A kind with no slots is not supported.
+#[tactic(auto, unfolding(crate::specs::Name::supported))]
 pub fn supports(desk: Desk, kind: Kind) -> bool
     requires { InRange desk }
     ensures { result ≡ supported desk kind }
@@ -313,50 +299,45 @@ pub fn supports(desk: Desk, kind: Kind) -> bool
 }
 
 // A cue, group or link number: 0.1 to 999.9, one fraction digit.
+#[tactic(auto, using(std::proofs::lemmas::Bool::Decides::nat_tests), unfolding(crate::specs::Name::ok_number, crate::specs::Size::all_of))]
 pub fn ok_number(whole: u32, fraction: u32) -> bool
     ensures { result ≡ ok_number whole fraction }
 {
-    if value::WHOLE_MAX < whole {
-        return false;
-    }
-    if value::FRACTION_MAX < fraction {
-        return false;
-    }
-    0 < whole + fraction
+    whole <= value::WHOLE_MAX && fraction <= value::FRACTION_MAX && 0 < whole + fraction
 }
 
+#[tactic(auto, using(std::proofs::lemmas::Bool::Decides::nat_tests), unfolding(crate::specs::Name::ok_sub, crate::specs::Size::all_of))]
 fn ok_sub(desk: Desk, whole: u32, fraction: u32) -> bool
     ensures { result ≡ ok_sub desk whole fraction }
 {
-    both(is_within(1, whole, desk.subs), fraction == 0)
+    (1..=desk.subs).contains(&whole) && fraction == 0
 }
 
 // The number of a memory of this kind is in range.
+#[tactic(auto, unfolding(crate::specs::Name::ok_within))]
 pub fn ok_within(desk: Desk, kind: Kind, key: Key) -> bool
     ensures { result ≡ ok_within desk kind key }
 {
     match kind {
-        Kind::Cue => ok_number(key.whole, key.fraction),
-        Kind::Group => ok_number(key.whole, key.fraction),
+        Kind::Cue | Kind::Group => ok_number(key.whole, key.fraction),
         Kind::Sub => ok_sub(desk, key.whole, key.fraction),
     }
 }
 
+#[tactic(auto, using(std::proofs::lemmas::Bool::Decides::nat_tests), unfolding(crate::specs::Name::ok_page))]
 pub fn ok_page(desk: Desk, kind: Kind, page: u32) -> bool
     ensures { result ≡ ok_page desk kind page }
 {
-    is_within(1, page, pages(desk, kind))
+    (1..=pages(desk, kind)).contains(&page)
 }
 
 // The desk can have a memory of this name.
+#[tactic(auto, using(std::proofs::lemmas::Bool::Decides::nat_tests), unfolding(crate::specs::Name::ok_name, crate::specs::Size::all_of))]
 pub fn ok_name(desk: Desk, kind: Kind, key: Key) -> bool
     requires { InRange desk }
     ensures { result ≡ ok_name desk (record { kind = kind; key = key }) }
 {
-    both(
-        supports(desk, kind),
-        both(ok_within(desk, kind, key), ok_page(desk, kind, key.page)),
-    )
+    supports(desk, kind) && ok_within(desk, kind, key) && ok_page(desk, kind, key.page)
 }
 
 // The desk has a slot of this number, which counts from 1 through the whole store.
@@ -364,17 +345,15 @@ pub fn has_slot(desk: Desk, number: u32) -> bool
     requires { InRange desk }
     ensures { result ≡ has_slot desk number }
 {
-    both(1 <= number, cells::place(number) <= desk.slots())
+    (1..=desk.slots()).contains(&(number as usize))
 }
 
 // The desk has this dimmer on this patch page.
+#[tactic(auto, using(std::proofs::lemmas::Bool::Decides::nat_tests), unfolding(crate::specs::Name::has_dimmer, crate::specs::Size::all_of))]
 pub fn has_dimmer(desk: Desk, page: u32, dimmer: u32) -> bool
     ensures { result ≡ has_dimmer desk page dimmer }
 {
-    both(
-        is_within(1, page, desk.patch_pages),
-        is_within(1, dimmer, desk.dimmers),
-    )
+    (1..=desk.patch_pages).contains(&page) && (1..=desk.dimmers).contains(&dimmer)
 }
 
 // A submaster's slot: page by page, by number.
@@ -390,13 +369,14 @@ pub fn sub_slot(desk: Desk, key: Key) -> usize
 }
 
 // A dimmer's patch entry: page by page, by dimmer.
+#[tactic(auto, unfolding(crate::specs::Name::entry_of))]
 pub fn entry_of(desk: Desk, page: u32, dimmer: u32) -> usize
     requires in_range { InRange desk }
     requires within { Within 1 page desk.patch_pages × Within 1 dimmer desk.dimmers }
     ensures { result ≡ entry_of desk page dimmer }
 {
-    let p = page as usize;
-    let d = dimmer as usize;
+    let page = page as usize;
+    let dimmer = dimmer as usize;
     let dimmers = desk.dimmers as usize;
-    (p - 1) * dimmers + (d - 1)
+    (page - 1) * dimmers + (dimmer - 1)
 }

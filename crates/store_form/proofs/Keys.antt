@@ -9,10 +9,13 @@ use native.Mathlib.Nat.{add-zero, zero-add, suc-add, add-suc}
 use native.Mathlib.Numerals.{add-one}
 use native.Mathlib.Omega.{arith}
 use lib.Dec.{eqb, ltb}
-use lib.ListN.{length, get_or, replicate, set}
-use borrow.Author.Tests.{eqb-true, eq-eqb, ne_eqb, lt-ltb, le-ltb}
+use lib.ListN.{length, get_or, replicate, set, take, drop}
+use lib.Seq.{drop-cons}
+use Rattle.std.specs.List.{count_by}
+use Rattle.std.proofs.lemmas.List.Recursion.{is_count_by}
+use borrow.Author.Tests.{eqb-true, ne_eqb, lt-ltb, le-ltb}
 use Rattle.cells.proofs.Split.{by_bool, by_eq, by_lt, cond-true, cond-false, and_left, and_right, not_of_true, not_of_false}
-use Rattle.cells.proofs.Search.{none_is, by_first, first_same, first_skip, first_front, all_is, count_nothing, count_same, count_turn, count_skip}
+use Rattle.cells.proofs.Search.{none_is, by_first, first_same, first_skip, first_front, all_is, count_nothing, count_same}
 use Rattle.cells.proofs.Table.{length-tab, tab_at}
 use Rattle.cells.proofs.Pad.{padded_add, padded_nil, get_d_padded}
 use Rattle.cells.specs.Pad.{padded}
@@ -200,6 +203,13 @@ words_end d s i n e a b q =
     e ∙ ap (λ (k : ℕ). padded most_keys (tab (slot_word d s) 0 k)) m
 
 -- ---- how often a word stands before a slot
+pub start_below : (c i : ℕ) {a : ℕ} → a ≡ kind_start c i → a ≤ i
+unfolding kind_start
+start_below c i e =
+    by_lt i c
+    (λ h. let l = cond-true (ltb i c) 0 c (lt-ltb i c h) in omega arith)
+    (λ h. let l = cond-false (ltb i c) 0 c (le-ltb i c h) in omega arith)
+
 pub seen_unused : (c : ℕ) (ks : List ℕ) (i : ℕ) → get_or ks i 0 < used_word → false ≡ seen_before c ks i
 unfolding seen_before
 seen_unused c ks i h = sym (cond-true _ _ _ (lt-ltb (get_or ks i 0) used_word h))
@@ -267,21 +277,25 @@ topped_turn c ks i top {t} p q =
           (λ d. let l = p.above j (omega arith) (omega arith) in omega arith);
     })
 
-pub count_start : (ks : List ℕ) (w a e : ℕ) → 0 + count_from (is_key_word ks w) (e - a) a ≡ count_word ks w a e
+-- how often a word stands in a list
+counts : ℕ → List ℕ → ℕ
+counts w [] = 0
+counts w (x ∷ xs) = let r = counts w xs in cond (eqb x w) (suc r) r
+
+counts_from : (ks : List ℕ) (w n a : ℕ) → a + n ≤ length ks → counts w (take n (drop a ks)) ≡ count_from (is_key_word ks w) n a
+unfolding counts count_from
+counts_from ks w zero a h = refl
+counts_from ks w (suc n) a h =
+    ap (λ (z : List ℕ). counts w (take (suc n) z)) (drop-cons ks a 0 (omega arith))
+    ∙ ap (λ (k : ℕ). cond (eqb (get_or ks a 0) w) (suc k) k) (counts_from ks w n (suc a) (omega arith))
+
+counts_by : (w : ℕ) (xs : List ℕ) → counts w xs ≡ count_by (λ x. eqb x w) xs
+unfolding counts
+counts_by w xs =
+    is_count_by (counts w) (λ x. eqb x w) refl
+    (λ x ys. let e : suc (counts w ys) ≡ 1 + counts w ys = omega arith in ap (λ (k : ℕ). cond (eqb x w) k (counts w ys)) e)
+    xs
+
+pub counted : (ks : List ℕ) (w a e : ℕ) → a ≤ e → e ≤ length ks → count_by (λ x. eqb x w) (take (e - a) (drop a ks)) ≡ count_word ks w a e
 unfolding count_word
-count_start ks w a e = zero-add _
-
--- a loop from i up to e that has counted n, before and after a turn
-pub word_hit : (ks : List ℕ) (w e i n : ℕ) {m a : ℕ} → i < e → get_or ks i 0 ≡ w → m ≡ n + 1 → n ≤ i → n + count_from (is_key_word ks w) (e - i) i ≡ a
-    → (m ≤ i + 1) × (m + count_from (is_key_word ks w) (e - (i + 1)) (i + 1) ≡ a)
-word_hit ks w e i n h t q l g = (
-  omega arith,
-  ap (λ (k : ℕ). k + count_from (is_key_word ks w) (e - (i + 1)) (i + 1)) q ∙ count_turn (is_key_word ks w) e i n h refl (eq-eqb (get_or ks i 0) w t) g,
-)
-
-pub word_miss : (ks : List ℕ) (w e i n : ℕ) {m a : ℕ} → i < e → (get_or ks i 0 ≡ w → ⊥) → m ≡ n → n ≤ i → n + count_from (is_key_word ks w) (e - i) i ≡ a
-    → (m ≤ i + 1) × (m + count_from (is_key_word ks w) (e - (i + 1)) (i + 1) ≡ a)
-word_miss ks w e i n h t q l g = (
-  omega arith,
-  ap (λ (k : ℕ). k + count_from (is_key_word ks w) (e - (i + 1)) (i + 1)) q ∙ count_skip (is_key_word ks w) e i n h refl (ne_eqb (get_or ks i 0) w t) g,
-)
+counted ks w a e o h = sym (counts_by w (take (e - a) (drop a ks))) ∙ counts_from ks w (e - a) a (omega arith)

@@ -1,30 +1,28 @@
 -- What the tests of a slot, of a patch entry and of a store compute: bytes joined are zero where each is, tests joined one by one are the
 -- definition's, and the first search that finds a place tells the form. By cases on tests.
 -- Assumes nothing.
+use Rattle.std.specs.Prelude.{Err, Ok}
+use Rattle.std.specs.List.{fold}
 use mathlib.Core.Path.{◌≡◌, refl, sym, ap, ◌∙◌}
 use mathlib.Core.Bool.{Bool, true, false, cond, not, ◌&&◌}
-use mathlib.Core.List.{List}
-use Prim.Native.Nat.{ℕ, ◌+◌, ◌-◌, ◌<◌, ◌≤◌}
-use native.Mathlib.Numerals.{add-one}
+use mathlib.Core.List.{List, [], ◌∷◌}
+use Prim.Native.Nat.{ℕ, ◌+◌, ◌-◌, ◌≤◌}
 use native.Mathlib.Omega.{arith}
 use lib.Bits.{bit_or, bit_and, or_add_and, and_le_l, and_le_r, or_zero_l}
 use lib.Dec.{eqb, leb}
-use lib.ListN.{length, get_or, drop, drop_of_length-le}
-use lib.Seq.{drop-cons}
-use borrow.Author.Tests.{eqb-true, eq-eqb, ne_eqb, lt-ltb, le-ltb}
+use borrow.Author.Tests.{eqb-true, eq-eqb, ne_eqb}
 use Rattle.cells.proofs.Split.{cond-true, cond-false, same_test, and_true, and_left, and_right, and_false_left}
 use Rattle.cells.specs.Search.{Found, at, nowhere, first_from}
 use Rattle.store_desk.specs.declared.Desk.{Desk}
 use Rattle.store_desk.specs.declared.Kind.{Kind}
-use Rattle.store_desk.specs.declared.Kind.TheVariants.{Cue, Group, Sub}
 use Rattle.store_desk.specs.Size.{slots_of, entries_of}
-use Rattle.store_desk.specs.Name.{first_slot, kind_at, ok_name}
+use Rattle.store_desk.specs.Name.{kind_at, ok_name}
 use Rattle.store_head.specs.declared.Head.{Head}
 use Rattle.store_head.specs.declared.Patch.{Patch}
 use Rattle.store_head.specs.Layout.{decode_head, decode_patch}
-use Rattle.store.specs.declared.StoreForm.TheVariants.{Good, BadSlot, Repeated, BadEntry}
 use Rattle.store.specs.Slots.{slot_at, entry_at, head_at, key_of}
 use Rattle.store.specs.Form.{has_times, has_link, time_fits, link_fits, is_zero, place_fits, values_fit, used_fits, slot_fits, patch_fits, entry_fits, bad_slot, repeated_slot, bad_entry, form_by, form_of}
+use Rattle.store.specs.declared.FormError.TheVariants.{BadSlot, Repeated, BadEntry}
 
 -- ---- bytes joined
 or_zero : (a b : ℕ) → bit_or a b ≡ 0 → (a ≡ 0) × (b ≡ 0)
@@ -50,44 +48,15 @@ and_assoc true true c = refl
 and_assoc true false c = refl
 and_assoc false b c = refl
 
-zero_at : (s : List ℕ) (i : ℕ) → i < length s → is_zero (drop i s) ≡ cond (eqb (get_or s i 0) 0) (is_zero (drop (i + 1) s)) false
+and_one : (b : Bool) → (b && true) ≡ b
+and_one true = refl
+and_one false = refl
+
+-- joined to a from the first on
+pub fold_zero : (a : ℕ) (s : List ℕ) → eqb (fold bit_or a s) 0 ≡ (eqb a 0 && is_zero s)
 unfolding is_zero
-zero_at s i h =
-    ap is_zero (drop-cons s i 0 h)
-    ∙ ap (λ (k : ℕ). cond (eqb (get_or s i 0) 0) (is_zero (drop k s)) false) (sym (add-one i))
-
--- a loop that has joined the bytes before i, with the invariant `eqb bits 0 && is_zero (drop i s) ≡ z`
-pub zero_turn : (s : List ℕ) (i bits : ℕ) {z : Bool}
-    → i < length s → (eqb bits 0 && is_zero (drop i s)) ≡ z → (eqb (bit_or bits (get_or s i 0)) 0 && is_zero (drop (i + 1) s)) ≡ z
-zero_turn s i bits h g =
-    ap (λ (b : Bool). b && is_zero (drop (i + 1) s)) (or_is_zero bits (get_or s i 0))
-    ∙ and_assoc (eqb bits 0) (eqb (get_or s i 0) 0) (is_zero (drop (i + 1) s))
-    ∙ ap (λ (b : Bool). eqb bits 0 && b) (sym (zero_at s i h))
-    ∙ g
-
-pub zero_end : (s : List ℕ) (i bits : ℕ) {z : Bool} → length s ≤ i → (eqb bits 0 && is_zero (drop i s)) ≡ z → eqb bits 0 ≡ z
-unfolding is_zero
-zero_end s i bits h g =
-    sym (and_one (eqb bits 0)) ∙ ap (λ (l : List ℕ). eqb bits 0 && is_zero l) (sym (drop_of_length-le s h)) ∙ g
-  where
-    and_one : (b : Bool) → (b && true) ≡ b
-    and_one true = refl
-    and_one false = refl
-
--- ---- the kind and the place of a slot
-pub kind_cue : (d : Desk) (i : ℕ) {a : ℕ} → a ≡ first_slot d Group → i < a → Cue ≡ kind_at d i
-unfolding kind_at first_slot
-kind_cue d i e h = sym (cond-true _ _ _ (lt-ltb i d.cues (omega arith)))
-
-pub kind_group : (d : Desk) (i : ℕ) {a b : ℕ} → a ≡ first_slot d Group → b ≡ first_slot d Sub → a ≤ i → i < b → Group ≡ kind_at d i
-unfolding kind_at first_slot
-kind_group d i e g h l =
-    sym (cond-false _ _ _ (le-ltb i d.cues (omega arith)) ∙ cond-true _ _ _ (lt-ltb i (d.cues + d.groups) (omega arith)))
-
-pub kind_sub : (d : Desk) (i : ℕ) {a b : ℕ} → a ≡ first_slot d Group → b ≡ first_slot d Sub → a ≤ i → b ≤ i → Sub ≡ kind_at d i
-unfolding kind_at first_slot
-kind_sub d i e g h l =
-    sym (cond-false _ _ _ (le-ltb i d.cues (omega arith)) ∙ cond-false _ _ _ (le-ltb i (d.cues + d.groups) (omega arith)))
+fold_zero a [] = sym (and_one (eqb a 0))
+fold_zero a (b ∷ s) = fold_zero (bit_or a b) s ∙ ap (λ (z : Bool). z && is_zero s) (or_is_zero a b) ∙ and_assoc (eqb a 0) (eqb b 0) (is_zero s)
 
 -- ---- tests joined
 pub and_join : {r a x y : Bool} → a ≡ x → a ≡ true → r ≡ y → r ≡ (x && y)
@@ -155,18 +124,18 @@ entries_start d s {n} e = let m : n - 0 ≡ entries_of d = omega arith in ap (λ
 
 -- ---- the three searches, one after the other
 module _ (d : Desk) (s : List ℕ) where
-  pub bad_first : {i : ℕ} → bad_slot d s ≡ at i → BadSlot i ≡ form_of d s
+  pub bad_first : {i : ℕ} → bad_slot d s ≡ at i → Err (BadSlot i) ≡ form_of d s
   unfolding form_of form_by
   bad_first a = ap (λ (x : Found). form_by x (repeated_slot d s) (bad_entry d s)) (sym a)
 
-  pub repeated_first : {i : ℕ} → bad_slot d s ≡ nowhere → repeated_slot d s ≡ at i → Repeated i ≡ form_of d s
+  pub repeated_first : {i : ℕ} → bad_slot d s ≡ nowhere → repeated_slot d s ≡ at i → Err (Repeated i) ≡ form_of d s
   unfolding form_of form_by
   repeated_first a b = λ k. form_by (sym a k) (sym b k) (bad_entry d s)
 
-  pub entry_first : {i : ℕ} → bad_slot d s ≡ nowhere → repeated_slot d s ≡ nowhere → bad_entry d s ≡ at i → BadEntry i ≡ form_of d s
+  pub entry_first : {i : ℕ} → bad_slot d s ≡ nowhere → repeated_slot d s ≡ nowhere → bad_entry d s ≡ at i → Err (BadEntry i) ≡ form_of d s
   unfolding form_of form_by
   entry_first a b c = λ k. form_by (sym a k) (sym b k) (sym c k)
 
-  pub none_first : bad_slot d s ≡ nowhere → repeated_slot d s ≡ nowhere → bad_entry d s ≡ nowhere → Good ≡ form_of d s
+  pub none_first : bad_slot d s ≡ nowhere → repeated_slot d s ≡ nowhere → bad_entry d s ≡ nowhere → (Ok tt) ≡ form_of d s
   unfolding form_of form_by
   none_first a b c = λ k. form_by (sym a k) (sym b k) (sym c k)

@@ -3,13 +3,17 @@
 -- Assumes nothing.
 use mathlib.Core.Path.{◌≡◌, refl, sym, ap, ◌∙◌, subst}
 use mathlib.Core.List.{List, [], ◌∷◌, ◌++◌}
-use Prim.Native.Nat.{ℕ, ◌+◌, ◌-◌, ◌*◌, ◌/◌, ◌%◌, ◌^◌, ◌<◌, ◌≤◌}
-use native.Mathlib.Nat.{mod-lt, div-one, div-div-eq-div-mul}
+use Prim.Native.Nat.{ℕ, zero, suc, ◌+◌, ◌-◌, ◌*◌, ◌/◌, ◌%◌, ◌^◌, ◌<◌, ◌≤◌}
+use native.Mathlib.Nat.{mod-lt, div-one, div-div-eq-div-mul, zero-mul, suc-mul, mod-eq_of_lt}
 use native.Mathlib.Omega.{arith}
 use lib.Arith.{digits_lt}
-use lib.Pow.{pow_pos, pow-add}
+use lib.Pow.{pow_pos, pow-add, split}
+use lib.Bits.{bit_or, or_shifted}
 use lib.ListN.{length, get_or, take, drop, replicate, length-drop}
 use lib.Seq.{drop-drop, get_or-drop}
+use mir.Syntax.{w64}
+use Rattle.std.specs.Int.{from_be_bytes}
+use Rattle.std.specs.Simd.{first_chunks}
 use Rattle.store_head.specs.declared.Head.{Head}
 use Rattle.store_head.specs.declared.Patch.{Patch}
 use Rattle.store_head.specs.Pack.{total, packed, unpacked, FitsIn, Bytes}
@@ -28,26 +32,47 @@ packed_three s {a} {b} {c} ea eb ec =
     let p₂ : packed (octets 1) (drop 2 s) ≡ get_or s 2 0 * 1 + 0 = packed-at 8 [] s 2 3 refl in
     omega arith
 
-pub packed_four : (s : List ℕ) (at : ℕ) {a b c d : ℕ} → a ≡ get_or s at 0 → b ≡ get_or s (at + 1) 0 → c ≡ get_or s (at + 2) 0 → d ≡ get_or s (at + 3) 0
-    → a * 16777216 + b * 65536 + c * 256 + d ≡ packed (octets 4) (drop at s)
+-- the same of eight, as `from_be_bytes` says it
+packed_eight : (s : List ℕ) → from_be_bytes w64 s ≡ packed (octets 8) s
 unfolding packed total
-packed_four s at {a} {b} {c} {d} ea eb ec ed =
-    let q₁ : at + 2 ≡ at + 1 + 1 = omega arith in
-    let q₂ : at + 3 ≡ at + 2 + 1 = omega arith in
-    let q₃ : at + 4 ≡ at + 3 + 1 = omega arith in
-    let p₀ : packed (octets 4) (drop at s) ≡ get_or s at 0 * 16777216 + packed (octets 3) (drop (at + 1) s) = packed-at 8 (octets 3) s at (at + 1) refl in
-    let p₁ : packed (octets 3) (drop (at + 1) s) ≡ get_or s (at + 1) 0 * 65536 + packed (octets 2) (drop (at + 2) s) = packed-at 8 (octets 2) s (at + 1) (at + 2) q₁ in
-    let p₂ : packed (octets 2) (drop (at + 2) s) ≡ get_or s (at + 2) 0 * 256 + packed (octets 1) (drop (at + 3) s) = packed-at 8 (octets 1) s (at + 2) (at + 3) q₂ in
-    let p₃ : packed (octets 1) (drop (at + 3) s) ≡ get_or s (at + 3) 0 * 1 + 0 = packed-at 8 [] s (at + 3) (at + 4) q₃ in
+packed_eight s =
+    let p₀ : packed (octets 8) s ≡ get_or s 0 0 * 2 ^ 56 + packed (octets 7) (drop 1 s) = packed-at 8 (octets 7) s 0 1 refl in
+    let p₁ : packed (octets 7) (drop 1 s) ≡ get_or s 1 0 * 2 ^ 48 + packed (octets 6) (drop 2 s) = packed-at 8 (octets 6) s 1 2 refl in
+    let p₂ : packed (octets 6) (drop 2 s) ≡ get_or s 2 0 * 2 ^ 40 + packed (octets 5) (drop 3 s) = packed-at 8 (octets 5) s 2 3 refl in
+    let p₃ : packed (octets 5) (drop 3 s) ≡ get_or s 3 0 * 2 ^ 32 + packed (octets 4) (drop 4 s) = packed-at 8 (octets 4) s 3 4 refl in
+    let p₄ : packed (octets 4) (drop 4 s) ≡ get_or s 4 0 * 2 ^ 24 + packed (octets 3) (drop 5 s) = packed-at 8 (octets 3) s 4 5 refl in
+    let p₅ : packed (octets 3) (drop 5 s) ≡ get_or s 5 0 * 2 ^ 16 + packed (octets 2) (drop 6 s) = packed-at 8 (octets 2) s 5 6 refl in
+    let p₆ : packed (octets 2) (drop 6 s) ≡ get_or s 6 0 * 2 ^ 8 + packed (octets 1) (drop 7 s) = packed-at 8 (octets 1) s 6 7 refl in
+    let p₇ : packed (octets 1) (drop 7 s) ≡ get_or s 7 0 * 1 + 0 = packed-at 8 [] s 7 8 refl in
     omega arith
 
-pub packed_eight : (s : List ℕ) (at : ℕ) {a b : ℕ} → a ≡ packed (octets 4) (drop at s) → b ≡ packed (octets 4) (drop (at + 4) s)
-    → a * 4294967296 + b ≡ packed (octets 8) (drop at s)
-unfolding total
-packed_eight s at {a} {b} ea eb =
-    let p : packed (octets 8) (drop at s) ≡ packed (octets 4) (drop at s) * 4294967296 + packed (octets 4) (drop 4 (drop at s)) = packed_append (octets 4) (octets 4) (drop at s) in
-    let q : packed (octets 4) (drop 4 (drop at s)) ≡ packed (octets 4) (drop (at + 4) s) = ap (λ (z : List ℕ). packed (octets 4) z) (drop-drop 4 at s) in
-    omega arith
+chunk_at : (n k i : ℕ) (s : List ℕ) → i < k → get_or (first_chunks n k s) i [] ≡ take n (drop (i * n) s)
+chunk_at n zero i s l = absurd (omega arith)
+chunk_at n (suc k) zero s l = ap (λ (z : ℕ). take n (drop z s)) (sym (zero-mul n))
+chunk_at n (suc k) (suc i) s l =
+    chunk_at n k i (drop n s) (omega arith)
+    ∙ ap (λ (z : List ℕ). take n z) (drop-drop (i * n) n s)
+    ∙ ap (λ (z : ℕ). take n (drop z s)) (let f : suc i * n ≡ i * n + n = suc-mul i n in let e : n + i * n ≡ suc i * n = omega arith in e)
+
+-- a word of the chunks of eight bytes
+pub word_is : (s : List ℕ) (i : ℕ) {ws : List (List ℕ)} {k n : ℕ} → ws ≡ first_chunks 8 k s → i < k → n ≡ from_be_bytes w64 (get_or ws i [])
+    → n ≡ packed (octets 8) (drop (i * 8) s)
+word_is s i {ws} {k} {n} e l f =
+    f
+    ∙ packed_eight (get_or ws i [])
+    ∙ ap (λ (z : List ℕ). packed (octets 8) z) (ap (λ (z : List (List ℕ)). get_or z i []) e ∙ chunk_at 8 k i s l)
+    ∙ packed-take (octets 8) (drop (i * 8) s) 8 refl
+
+-- ---- fields side by side: `|` adds what stands below
+pub or_sum : (k : ℕ) {x y a b : ℕ} → x ≡ a → y ≡ b → a % 2 ^ k ≡ 0 → b < 2 ^ k → bit_or x y ≡ a + b
+or_sum k {x} {y} {a} {b} e f m l =
+    let h : a / 2 ^ k * 2 ^ k ≡ a = let g = split a k in omega arith in
+    ap (λ (z : ℕ). bit_or z y) (e ∙ sym h) ∙ ap (λ (z : ℕ). bit_or (a / 2 ^ k * 2 ^ k) z) f ∙ or_shifted (a / 2 ^ k) k b l ∙ ap (λ (z : ℕ). z + b) h
+
+-- the same of a field shifted up in a word
+pub or_field : (k j : ℕ) {x y a v : ℕ} → x ≡ a → y ≡ v → a % 2 ^ k ≡ 0 → v * 2 ^ j < 2 ^ k → 2 ^ k ≤ 2 ^ 64 → bit_or x (y * 2 ^ j % 2 ^ 64) ≡ a + v * 2 ^ j
+or_field k j {v = v} e f m l t =
+    or_sum k e (ap (λ (z : ℕ). z * 2 ^ j % 2 ^ 64) f ∙ mod-eq_of_lt (let g : v * 2 ^ j < 2 ^ 64 = omega arith in g)) m l
 
 -- ---- decoding by words
 -- two words and three words side by side

@@ -17,7 +17,8 @@ unfolding edit_head put
 returns-in-Followon c = rw c.in-Followon.is refl
 
 pub returns-in-Link : goal.returns-in-Link
-returns-in-Link c = rw c.in-Link.is c.linked.ensures
+unfolding edit_head put
+returns-in-Link c = rw c.in-Link.is refl
 
 pub returns-in-Level : goal.returns-in-Level
 unfolding edit_head put

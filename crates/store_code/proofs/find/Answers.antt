@@ -1,121 +1,75 @@
--- `find` meets its contract. The invariant of both loops: the search from here on answers as the whole search. The measure is what is left. The
--- number of a key tells which slot holds it, and the slots are those of the store from the kind's first on.
+-- `find` meets its contract: the chunks of the kind's bytes are its slots, whose words tell which keeps the memory.
 use native.Mathlib.Omega.{arith}
-use mathlib.Core.Path.{◌≡◌, refl, ap, ◌∙◌}
-use mathlib.Core.List.{List}
-use Prim.Native.Nat.{ℕ, ◌+◌, ◌-◌, ◌*◌, ◌≤◌, ◌<◌}
-use lib.ListN.{length, take, drop}
-use Rattle.cells.proofs.Search.{search_end}
-use Rattle.store_desk.specs.declared.Desk.{Desk}
-use Rattle.store_desk.specs.declared.Kind.{Kind}
-use Rattle.store_desk.specs.Size.{slot_length, slots_of}
-use Rattle.store_desk.specs.Name.{first_slot, slot_count}
-use Rattle.store_code.specs.Fits.{Fitting}
+use mathlib.Core.Bool.{true, false}
+use mathlib.Core.Path.{◌≡◌, ap, ◌∙◌}
+use Prim.Native.Nat.{ℕ, ◌+◌, ◌-◌, ◌*◌, ◌≤◌}
+use lib.Dec.{eqb}
+use lib.ListN.{take, drop}
+use Rattle.std.proofs.Common.{rules, tests, option_map}
+use Rattle.std.proofs.iter.Serving.{serving}
+use Rattle.std.proofs.lemmas.Iterator.{IsFirst-from_position}
+use Rattle.cells.specs.Table.{tab}
 use Rattle.store_desk.proofs.Size.{patch_le}
-use Rattle.store.proofs.Places.{slots_end_lem}
-use Rattle.store_code.proofs.Laws.{kind_small, kind_slot, kind_from, slot_room}
-use Rattle.store_code.proofs.Found.{at_place, nowhere_place}
-use Rattle.store_code.proofs.Word.{word_hit, word_miss, four_hit, four_miss, find_words, part_room}
+use Rattle.store.specs.Order.{slot_word}
+use Rattle.store.specs.Slots.{place_of}
+use Rattle.store_code.proofs.Laws.{slot_long, kind_bytes, kind_room, kind_order}
+use Rattle.store_code.proofs.Chunks.{chunks_give, IsFirstWanted, position_first}
+use Rattle.store_code.proofs.Word.{find_words, part_length}
 use Rattle.store_code.proofs.find.Goals as goal
 
--- low is the kind's first slot, low + count the end of its slots, low * len where they begin, and the part is what lies from there on
-module _ (d : Desk) (s : List ℕ) (kind : Kind) {low count len : ℕ}
-    (first : low ≡ first_slot d kind) (many : count ≡ slot_count d kind) (long : len ≡ slot_length d) (g : Fitting d s) where
-  -- the slots of the kind begin in the store
-  fits : low * len ≤ length s
-  fits =
-      let a = kind_from d kind first long in
-      let b = slots_end_lem d in
-      let l = g.long in
-      omega arith
-
-  -- and where they begin is so many slots on
-  begins : low * len ≡ low * slot_length d
-  begins = ap (λ (k : ℕ). low * k) long
-
-  -- their numbers are small
-  small : low + count ≤ 1568
-  small = let h = kind_small d kind g.range in omega (arith, first, many)
-
-  -- each of them lies in the part
-  room : (i : ℕ) → low ≤ i → i < low + count
-      → (i < slots_of d) × ((i - low) * slot_length d + slot_length d ≤ length (take (length s - low * len) (drop (low * len) s)))
-  room i l h =
-      let k = kind_slot d kind first many refl h in
-      (k, part_room d s begins l (slot_room d i k g))
-
-pub overflow_add-end : goal.overflow_add-end
-overflow_add-end c = let h = kind_small c.args.desk c.args.kind c.requires.fitting.range in omega (arith, c.first_slot-first.ensures, c.slot_count.ensures)
-
-pub overflow_mul-from : goal.overflow_mul-from
-overflow_mul-from c =
-    let a = kind_from c.args.desk c.args.kind c.first_slot-first.ensures c.slot_length.ensures in
-    let b = patch_le c.args.desk c.requires.fitting.range in
+pub overflow_mul-slots : goal.overflow_mul-slots
+overflow_mul-slots c =
+    let k = c.slots_of_kind-slots.ensures in
+    let b = kind_bytes c.args.desk c.args.kind k.start k.end c.slot_length-length.ensures in
+    let o = kind_order c.args.desk c.args.kind k.start k.end c.slot_length-length.ensures in
+    let p = patch_le c.args.desk c.requires.fitting.range in
     omega arith
 
-pub slice_bounds-slots-count : goal.slice_bounds-slots-count
-slice_bounds-slots-count c = fits c.args.desk c.args.store.now c.args.kind c.first_slot-first.ensures c.slot_count.ensures c.slot_length.ensures c.requires.fitting
+pub overflow_mul-slots-2 : goal.overflow_mul-slots-2
+overflow_mul-slots-2 c =
+    let k = c.slots_of_kind-slots.ensures in
+    let b = kind_bytes c.args.desk c.args.kind k.start k.end c.slot_length-length.ensures in
+    let p = patch_le c.args.desk c.requires.fitting.range in
+    omega arith
 
-pub slice_bounds-slots-start : goal.slice_bounds-slots-start
-slice_bounds-slots-start c = fits c.args.desk c.args.store.now c.args.kind c.first_slot-first.ensures c.slot_count.ensures c.slot_length.ensures c.requires.fitting
+pub slice_bounds-chunks_exact-end : goal.slice_bounds-chunks_exact-end
+slice_bounds-chunks_exact-end c =
+    kind_room _ c.args.kind c.slots_of_kind-slots.ensures.start c.slots_of_kind-slots.ensures.end c.slot_length-length.ensures c.requires.fitting
 
-pub loop-i-init : goal.loop-i-init
-loop-i-init c = (omega arith, (omega arith, refl))
+pub slice_bounds-chunks_exact-count : goal.slice_bounds-chunks_exact-count
+slice_bounds-chunks_exact-count c = kind_order c.args.desk c.args.kind c.slots_of_kind-slots.ensures.start c.slots_of_kind-slots.ensures.end c.slot_length-length.ensures
 
-pub among_four-requires : goal.among_four-requires
-among_four-requires c =
-    let i = c.loop-i.invariant in
-    let r = room c.args.desk c.args.store.now c.args.kind c.first_slot-first.ensures c.slot_count.ensures c.slot_length.ensures c.requires.fitting (c.loop-i.i + 3) (omega (arith, i.1.0)) (omega (arith, c.loop-i-test.true)) in
-    record { in_range = c.requires.fitting.range; first_le_i = i.1.0; i_bound = r.0; desk_in_bounds = r.1 }
+pub chunks_exact-requires : goal.chunks_exact-requires
+chunks_exact-requires c = let l = slot_long c.args.desk in omega (arith, c.slot_length-length.ensures)
 
-pub returns-in-At : goal.returns-in-At
-returns-in-At c = at_place (four_hit _ _ _ _ _ _ c.loop-i-test.true c.among_four.ensures c.in-At.is c.loop-i.invariant.1.1 ∙ (find_words _ _ c.args.kind c.requires.fitting (λ j. (c.shared_slice_known-1.given j).fits) c.first_slot-first.ensures c.slot_count.ensures _ c.requires.key_fits _ c.quick_key-wanted.ensures (begins c.args.desk c.args.store.now c.args.kind c.first_slot-first.ensures c.slot_count.ensures c.slot_length.ensures c.requires.fitting)))
+pub position-requires-clause-can : goal.position-requires-clause-can
+position-requires-clause-can c = let l = slot_long c.args.desk in omega (arith, c.slot_length-length.ensures, c.chunks_exact.ensures.size)
 
-pub overflow_add-i : goal.overflow_add-i
-overflow_add-i c =
-    let m = small c.args.desk c.args.store.now c.args.kind c.first_slot-first.ensures c.slot_count.ensures c.slot_length.ensures c.requires.fitting in
-    omega (arith, c.loop-i.invariant.0)
-
-pub overflow_add-i-in-loop-i : goal.overflow_add-i-in-loop-i
-overflow_add-i-in-loop-i c =
-    let m = small c.args.desk c.args.store.now c.args.kind c.first_slot-first.ensures c.slot_count.ensures c.slot_length.ensures c.requires.fitting in
-    omega (arith, c.loop-i.invariant.0)
-
-pub loop-i-smaller : goal.loop-i-smaller
-loop-i-smaller c = omega (arith, c.loop-i-test.true)
-
-pub loop-i-preserved : goal.loop-i-preserved
-loop-i-preserved c =
-    let i = c.loop-i.invariant in
-    (omega (arith, c.loop-i-test.true), (omega (arith, i.1.0), four_miss _ _ _ _ _ _ c.loop-i-test.true c.among_four.ensures c.in-Nowhere.is i.1.1))
-
-pub loop-i-2-init : goal.loop-i-2-init
-loop-i-2-init c = c.loop-i.invariant.1
-
-pub overflow_sub-i : goal.overflow_sub-i
-overflow_sub-i c = c.loop-i-2.invariant.0
-
-pub word_in-requires : goal.word_in-requires
-word_in-requires c =
-    let i = c.loop-i-2.invariant in
-    let r = room c.args.desk c.args.store.now c.args.kind c.first_slot-first.ensures c.slot_count.ensures c.slot_length.ensures c.requires.fitting c.loop-i-2.i i.0 c.loop-i-2-test.true in
-    record { in_range = c.requires.fitting.range; slot_bound = let k = r.0 in omega arith; desk_in_bounds = r.1 }
-
-pub returns-then-word_in-wanted : goal.returns-then-word_in-wanted
-returns-then-word_in-wanted c = at_place (word_hit _ _ _ c.loop-i-2-test.true c.word_in.ensures c.if-word_in-wanted.true c.loop-i-2.invariant.1 ∙ (find_words _ _ c.args.kind c.requires.fitting (λ j. (c.shared_slice_known-1.given j).fits) c.first_slot-first.ensures c.slot_count.ensures _ c.requires.key_fits _ c.quick_key-wanted.ensures (begins c.args.desk c.args.store.now c.args.kind c.first_slot-first.ensures c.slot_count.ensures c.slot_length.ensures c.requires.fitting)))
-
-pub overflow_add-i-in-loop-i-2 : goal.overflow_add-i-in-loop-i-2
-overflow_add-i-in-loop-i-2 c =
-    let m = small c.args.desk c.args.store.now c.args.kind c.first_slot-first.ensures c.slot_count.ensures c.slot_length.ensures c.requires.fitting in
-    omega (arith, c.loop-i-2-test.true)
-
-pub loop-i-2-smaller : goal.loop-i-2-smaller
-loop-i-2-smaller c = omega (arith, c.loop-i-2-test.true)
-
-pub loop-i-2-preserved : goal.loop-i-2-preserved
-loop-i-2-preserved c =
-    let i = c.loop-i-2.invariant in
-    (omega (arith, i.0), word_miss _ _ _ c.loop-i-2-test.true c.word_in.ensures c.if-word_in-wanted.false i.1)
+pub position-requires-clause-callable : goal.position-requires-clause-callable
+position-requires-clause-callable c =
+    let l = slot_long c.args.desk in
+    let h : 3 ≤ c.slot_length-length.result = omega (arith, c.slot_length-length.ensures) in
+    grind serving
 
 pub returns : goal.returns
-returns c = nowhere_place (search_end _ _ _ c.loop-i-2-test.false c.loop-i-2.invariant.1 ∙ (find_words _ _ c.args.kind c.requires.fitting (λ j. (c.shared_slice_known-1.given j).fits) c.first_slot-first.ensures c.slot_count.ensures _ c.requires.key_fits _ c.quick_key-wanted.ensures (begins c.args.desk c.args.store.now c.args.kind c.first_slot-first.ensures c.slot_count.ensures c.slot_length.ensures c.requires.fitting)))
+returns c =
+    let k = c.slots_of_kind-slots.ensures in
+    let l = c.slot_length-length.ensures in
+    let first = c.slots_of_kind-slots.result.start in
+    let end = c.slots_of_kind-slots.result.end in
+    let ef = ap (λ (z : ℕ). first * z) l in
+    let et = ap (λ (z : ℕ). end * z) l in
+    let n = end - first in
+    let from = first * c.slot_length-length.result in
+    let to = end * c.slot_length-length.result in
+    let word = slot_word c.args.desk (take (to - from) (drop from c.args.store.now)) in
+    let wanted = c.quick_key-wanted.result in
+    let r : IsFirstWanted (tab word 0 n) wanted c.position.result =
+    IsFirst-from_position _ _ _ (λ w. eqb w wanted ≡ true) (λ w. eqb w wanted ≡ false) c.position.ensures.ran
+    (chunks_give _ _ n _ (c.chunks_exact.ensures.size ∙ l) c.chunks_exact.ensures.rest (part_length _ c.args.store.now ef et (omega arith) (kind_room _ c.args.kind k.start k.end l c.requires.fitting)))
+    (λ x q k. search (rules, tests))
+    (λ x q k. (search rules, search (rules, tests)))
+    in
+    let m : c.map.result ≡ option_map (λ i. first + i) c.position.result = search rules in
+    m ∙ position_first word wanted first n _ r
+    ∙ ap place_of (find_words _ _ c.args.kind c.requires.fitting (λ j. (c.type_inv.store j).fits) k.start k.end _ c.requires.key_fits _ c.quick_key-wanted.ensures ef et)

@@ -6,13 +6,13 @@ use Rattle.std.proofs.Common.{rules}
 use Rattle.store_code.proofs.levels.Goals as goal
 
 pub slice_bounds-result-count : goal.slice_bounds-result-count
-slice_bounds-result-count c = let g = slot_long c.args.desk in omega (arith, c.levels_start-at.ensures, c.slot_end-end.ensures)
+slice_bounds-result-count c = let g = slot_long c.args.desk in omega (arith, c.levels_start.ensures, c.slot_range.ensures.end)
 
 pub slice_bounds-result-start : goal.slice_bounds-result-start
-slice_bounds-result-start c = let g = slot_long c.args.desk in omega (arith, c.levels_start-at.ensures, c.slot_end-end.ensures)
+slice_bounds-result-start c = let g = slot_long c.args.desk in omega (arith, c.levels_start.ensures, c.slot_range.ensures.end)
 
 pub slice_bounds-result-end : goal.slice_bounds-result-end
-slice_bounds-result-end c = (slot_ends _ _ _ refl c.slot_end-end.ensures c.requires.fitting c.requires.slot_bound).1
+slice_bounds-result-end c = (slot_ends _ _ _ refl c.slot_range.ensures.end c.requires.fitting c.requires.slot_bound).1
 
 pub returns : goal.returns
-returns c = record { bytes = levels_is _ _ _ c.levels_start-at.ensures c.slot_end-end.ensures; block = search rules; offset = omega (arith, c.levels_start-at.ensures) }
+returns c = record { bytes = levels_is _ _ _ c.levels_start.ensures c.slot_range.ensures.end; block = search rules; offset = omega (arith, c.levels_start.ensures) }

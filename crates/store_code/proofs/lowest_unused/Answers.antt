@@ -1,27 +1,33 @@
--- `lowest_unused` meets its contract. The loop's invariant: the search from here on answers as the whole search. The measure is what is left.
--- Below the least number of a used slot are the unused.
+-- `lowest_unused` meets its contract: below the least number of a used slot are the unused, and the first of them is found.
 use native.Mathlib.Omega.{arith}
-use mathlib.Core.Path.{refl, ◌∙◌}
-use Rattle.cells.proofs.Search.{search_end}
-use Rattle.store_code.proofs.Laws.{kind_small, kind_slot}
-use Rattle.store_code.proofs.Found.{at_place, nowhere_place}
-use Rattle.store_code.proofs.Word.{below_hit, below_miss, unused_words}
+use mathlib.Core.Bool.{true, false}
+use mathlib.Core.Path.{◌≡◌, ap, ◌∙◌}
+use Prim.Native.Nat.{◌<◌}
+use Rattle.std.proofs.Common.{rules, tests}
+use Rattle.std.proofs.lemmas.Iterator.{first_from_Range, serves_from_Range}
+use Rattle.store_desk.specs.Size.{slots_of}
+use Rattle.store_desk.proofs.Name.{kind_end}
+use Rattle.store_head.specs.Fits.{used_word}
+use Rattle.store.specs.Slots.{place_of}
+use Rattle.store_code.proofs.Ranged.{IsFirstIn, range_first}
+use Rattle.store_code.proofs.Word.{is_below, unused_words}
 use Rattle.store_code.proofs.lowest_unused.Goals as goal
 
-pub overflow_add-end : goal.overflow_add-end
-overflow_add-end c = let h = kind_small c.args.desk c.args.kind c.requires.range in omega (arith, c.first_slot-first.ensures, c.slot_count.ensures)
-
-pub word_at-requires : goal.word_at-requires
-word_at-requires c = record { fitting = c.requires; slot_bound = kind_slot _ c.args.kind c.first_slot-first.ensures c.slot_count.ensures refl c.loop-i-test.true }
-
-pub returns-then-word_at-lt-USED_WORD : goal.returns-then-word_at-lt-USED_WORD
-returns-then-word_at-lt-USED_WORD c = at_place (below_hit _ _ c.loop-i-test.true c.word_at.ensures c.if-word_at-lt-USED_WORD.true c.loop-i.invariant ∙ unused_words _ _ c.args.kind c.requires (λ j. (c.shared_slice_known-1.given j).fits) c.first_slot-first.ensures c.slot_count.ensures)
-
-pub overflow_add-i : goal.overflow_add-i
-overflow_add-i c = let h = kind_small c.args.desk c.args.kind c.requires.range in omega (arith, c.first_slot-first.ensures, c.slot_count.ensures)
-
-pub loop-i-preserved : goal.loop-i-preserved
-loop-i-preserved c = below_miss _ _ c.loop-i-test.true c.word_at.ensures c.if-word_at-lt-USED_WORD.false c.loop-i.invariant
+pub find-requires-clause-callable : goal.find-requires-clause-callable
+find-requires-clause-callable c =
+    serves_from_Range (λ x q k. search (rules, tests))
+    (λ x low high.
+    let l = kind_end c.args.desk c.args.kind in
+    let h : x < slots_of c.args.desk = omega (arith, c.slots_of_kind.ensures.end) in
+    search rules)
 
 pub returns : goal.returns
-returns c = nowhere_place (search_end _ _ _ c.loop-i-test.false c.loop-i.invariant ∙ unused_words _ _ c.args.kind c.requires (λ j. (c.shared_slice_known-1.given j).fits) c.first_slot-first.ensures c.slot_count.ensures)
+returns c =
+    let p = is_below c.args.desk c.args.store.now used_word in
+    let r : IsFirstIn p c.slots_of_kind.result.start c.slots_of_kind.result.end c.find.result =
+    first_from_Range _ _ _ _ (λ i. p i ≡ true) (λ i. p i ≡ false) c.find.ensures.ran
+    (λ x q k. search (rules, tests))
+    (λ x q k. (search rules, search (rules, tests)))
+    in
+    range_first p _ _ _ r
+    ∙ ap place_of (unused_words _ _ c.args.kind c.requires (λ j. (c.type_inv.store j).fits) c.slots_of_kind.ensures.start c.slots_of_kind.ensures.end)

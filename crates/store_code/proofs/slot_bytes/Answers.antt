@@ -3,7 +3,7 @@ use Rattle.store_code.proofs.Laws.{slot_ends, slot_is}
 use Rattle.store_code.proofs.slot_bytes.Goals as goal
 
 pub slice_bounds-result-end : goal.slice_bounds-result-end
-slice_bounds-result-end c = (slot_ends _ _ _ c.slot_start-at.ensures c.slot_end-end.ensures c.requires.fitting c.requires.slot_bound).1
+slice_bounds-result-end c = (slot_ends _ _ _ c.slot_range.ensures.start c.slot_range.ensures.end c.requires.fitting c.requires.slot_bound).1
 
 pub returns : goal.returns
-returns c = slot_is _ _ _ c.slot_start-at.ensures c.slot_end-end.ensures
+returns c = slot_is _ _ _ c.slot_range.ensures.start c.slot_range.ensures.end

@@ -7,24 +7,6 @@ use native.Mathlib.Omega.{arith}
 use mathlib.Core.Path.{refl}
 use Rattle.store_desk.proofs.sub_slot.Goals as goal
 
-pub overflow_mul-result : goal.overflow_mul-result
-unfolding sub_slot
-overflow_mul-result c =
-    let a = c.args in
-    let h = sub_inside a.desk a.key c.requires.within.0 c.requires.within.1 in
-    let g = kind_end a.desk Sub in
-    let l = slots_le a.desk c.requires.in_range in
-    omega (arith, c.first_slot.ensures)
-
-pub overflow_add-result : goal.overflow_add-result
-unfolding sub_slot
-overflow_add-result c =
-    let a = c.args in
-    let h = sub_inside a.desk a.key c.requires.within.0 c.requires.within.1 in
-    let g = kind_end a.desk Sub in
-    let l = slots_le a.desk c.requires.in_range in
-    omega (arith, c.first_slot.ensures)
-
 pub overflow_add-result-2 : goal.overflow_add-result-2
 unfolding sub_slot
 overflow_add-result-2 c =

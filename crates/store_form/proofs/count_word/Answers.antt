@@ -1,19 +1,17 @@
--- `count_word` meets its contract. The invariant: what is counted and what is left to count is the whole.
-use Rattle.store_form.proofs.Keys.{word_hit, word_miss, count_start}
-use Rattle.cells.proofs.Search.{count_end}
+-- `count_word` meets its contract: ones are added, of which there are few enough.
+use native.Mathlib.Omega.{arith}
+use mathlib.Core.Bool.{cond}
+use mathlib.Core.Path.{refl}
+use Prim.Native.Nat.{ℕ}
+use lib.Dec.{eqb}
 use Rattle.std.proofs.Common.{rules}
+use Rattle.std.proofs.lemmas.Iterator.{YieldsList-from_slice, YieldsList-from_map}
+use Rattle.std.proofs.lemmas.Iterator.Consumers.{fits_by_from_yields_list}
+use Rattle.std.proofs.lemmas.List.Sums.{count_by-le-length}
 use Rattle.store_form.proofs.count_word.Goals as goal
-use Rattle.store_form.proofs.count_word.Goals.{then-words-i, else-words-i}
 
-pub loop-i-init : goal.loop-i-init
-loop-i-init c = (search rules, count_start _ _ _ _)
-
-pub loop-i-preserved : goal.loop-i-preserved
-loop-i-preserved c =
-    elim c.if-words-i.branch [
-      | then-words-i w ↦ word_hit c.args.words.now _ _ _ _ c.loop-i-test.true w.if-words-i.true w.n-is c.loop-i.invariant.0 c.loop-i.invariant.1
-      | else-words-i w ↦ word_miss c.args.words.now _ _ _ _ c.loop-i-test.true w.if-words-i.false w.n-is c.loop-i.invariant.0 c.loop-i.invariant.1
-    ]
-
-pub returns : goal.returns
-returns c = count_end _ _ _ _ c.loop-i-test.false c.loop-i.invariant.1
+pub sum-requires-clause-fits : goal.sum-requires-clause-fits
+sum-requires-clause-fits c =
+    let one : ℕ → ℕ = λ x. cond (eqb x c.args.word) 1 0 in
+    let l = count_by-le-length (λ x. eqb x c.args.word) c.args.words.now in
+    fits_by_from_yields_list one c.args.words.now _ _ (YieldsList-from_map _ one (YieldsList-from_slice c.args.words.now cc) refl (λ x r q k. search rules)) (omega arith)

@@ -1,23 +1,24 @@
--- `first_seen` meets its contract. The invariant: the first such slot from here on is the first of all, and no word of the kind so far is above
--- the top.
+-- `first_seen` meets its contract: a slot that was seen before is the first, and else the search goes on past it.
 use Rattle.store_form.proofs.Keys.{topped_start, topped_turn}
 use Rattle.store_code.proofs.Found.{at_place, nowhere_place}
 use Rattle.store_form.proofs.Laws.{sub_none}
 use Rattle.cells.proofs.Search.{search_hit, search_miss, search_end}
-use Rattle.std.proofs.Common.{rules}
 use Rattle.store_form.proofs.first_seen.Goals as goal
 
-pub loop-i-init : goal.loop-i-init
-loop-i-init c = (search rules, sub_none _ _, topped_start _ _)
+pub loop-slot-init : goal.loop-slot-init
+loop-slot-init c = record { rest = sub_none _ _; topped = topped_start _ _ }
 
-pub seen_before-requires : goal.seen_before-requires
-seen_before-requires c = record { slot_lt_most_keys = search rules; topped = c.loop-i.invariant.2 }
+pub seen_before-requires-clause-topped : goal.seen_before-requires-clause-topped
+seen_before-requires-clause-topped c = c.loop-slot.invariant.topped
 
 pub returns-then-seen_before : goal.returns-then-seen_before
-returns-then-seen_before c = at_place (search_hit _ _ _ c.loop-i-test.true c.seen_before.ensures c.if-seen_before.true c.loop-i.invariant.1)
+returns-then-seen_before c = at_place (search_hit _ _ _ c.loop-slot-test.true c.seen_before.ensures c.if-seen_before.true c.loop-slot.invariant.rest)
 
-pub loop-i-preserved : goal.loop-i-preserved
-loop-i-preserved c = (search rules, search_miss _ _ _ c.loop-i-test.true c.seen_before.ensures c.if-seen_before.false c.loop-i.invariant.1, topped_turn _ _ _ _ c.loop-i.invariant.2 c.top_of-top.ensures)
+pub loop-slot-preserved : goal.loop-slot-preserved
+loop-slot-preserved c = record {
+  rest = search_miss _ _ _ c.loop-slot-test.true c.seen_before.ensures c.if-seen_before.false c.loop-slot.invariant.rest;
+  topped = topped_turn _ _ _ _ c.loop-slot.invariant.topped c.top_of-top.ensures;
+}
 
 pub returns : goal.returns
-returns c = nowhere_place (search_end _ _ _ c.loop-i-test.false c.loop-i.invariant.1)
+returns c = nowhere_place (search_end _ _ _ c.loop-slot-test.false c.loop-slot.invariant.rest)

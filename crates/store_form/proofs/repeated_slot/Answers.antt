@@ -9,4 +9,4 @@ pub first_seen-requires : goal.first_seen-requires
 first_seen-requires c = let m = most_keys_lem _ c.requires.fitting.range in omega (arith, c.first_slot-n.ensures)
 
 pub returns : goal.returns
-returns c = c.first_seen.ensures ∙ ap place_of (repeated_is _ _ c.requires.fitting (λ i. (c.shared_slice_known-1.given i).fits) c.requires.store_value c.first_slot-cues.ensures c.first_slot-n.ensures c.key_words-words.ensures refl)
+returns c = c.first_seen.ensures ∙ ap place_of (repeated_is _ _ c.requires.fitting (λ i. (c.type_inv.store i).fits) c.requires.store_value c.first_slot-cues.ensures c.first_slot-n.ensures c.key_words-words.ensures refl)

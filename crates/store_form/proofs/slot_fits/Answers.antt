@@ -9,5 +9,5 @@ decode-h-requires c = slot_head _ _ _ c.requires.fitting c.requires.slot_bound c
 pub returns-then-h-eq1 : goal.returns-then-h-eq1
 returns-then-h-eq1 c = used_fits_lem _ _ _ c.slot_bytes-bytes.ensures c.decode-h.ensures c.if-h-eq1.true c.used_fits.ensures
 
-pub returns : goal.returns
-returns c = unused_fits _ _ _ c.slot_bytes-bytes.ensures c.decode-h.ensures c.if-h-eq1.false c.all_zero.ensures
+pub returns-else-h-eq1 : goal.returns-else-h-eq1
+returns-else-h-eq1 c = unused_fits _ _ _ c.slot_bytes-bytes.ensures c.decode-h.ensures c.if-h-eq1.false c.all_zero.ensures

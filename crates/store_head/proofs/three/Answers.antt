@@ -1,9 +1,10 @@
 -- `three` meets its contract: the law of three bytes.
-use Rattle.store_head.proofs.Laws.{packed_three}
 use native.Mathlib.Omega.{arith}
+use mathlib.Core.Path.{refl, ◌∙◌}
+use Rattle.store_head.proofs.Laws.{packed_three}
 use Rattle.store_head.proofs.three.Goals as goal
 
 pub returns : goal.returns
 returns c =
-    let a = c.args in
-    (packed_three a.s.now c.octet-a.ensures.0 c.octet-b.ensures.0 c.octet-c.ensures.0, omega arith)
+    let s = c.args.s.now in
+    (omega (arith, c.from_be_bytes.ensures) ∙ packed_three s refl refl refl, omega (arith, c.from_be_bytes.ensures, c.type_inv.s 0, c.type_inv.s 1, c.type_inv.s 2))
