@@ -1,6 +1,7 @@
 -- What a record asks for in either load, with what holds of it: a memory that is numbered anew has a name that the desk can have, so that
 -- every law of a step is by the same seven cases.
 -- Assumes nothing.
+use Rattle.std.specs.Prelude.{Err, Ok}
 use mathlib.Core.Path.{◌≡◌, refl, sym, ap, ◌∙◌, subst}
 use mathlib.Core.Bool.{true, false, cond}
 use mathlib.Core.List.{List, [], ◌∷◌}
@@ -27,7 +28,6 @@ use Rattle.load.specs.declared.Family.TheVariants.{Primary, Augments, Basic as B
 use Rattle.load.specs.declared.Fault.{Fault}
 use Rattle.load.specs.declared.Heard.{Heard}
 use Rattle.load.specs.declared.Heard.TheVariants.{Other, Accepted as Taken, Refused as NotTaken, Link as Asked}
-use Rattle.load.specs.declared.Named.TheVariants.{Refused, Name as Accepted}
 use Rattle.load.specs.declared.Numbers.{Numbers}
 use Rattle.load.specs.declared.Outcome.{Outcome}
 use Rattle.load.specs.declared.Outcome.TheVariants.{Blank, Obeyed, Dropped, Stopped}
@@ -91,7 +91,7 @@ module _ (d : Desk) (k : Kind) (e : supported d k ≡ true) where
   unfolding next_named
   next_named_ok b ws =
       let n : ℕ = accepted_of b k in
-      by_test (NamedOk d k) (leb (next_key d k n).page (pages_of d k)) (Accepted (next_key d k n)) (Refused (beyond_of k (head_of ws)))
+      by_test (NamedOk d k) (leb (next_key d k n).page (pages_of d k)) (Ok (next_key d k n)) (Err (beyond_of k (head_of ws)))
       (λ h r. next_ok n (leb-true _ _ h))
       (λ h. beyond_fits (head_of ws))
 

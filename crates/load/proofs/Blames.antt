@@ -1,7 +1,7 @@
 -- The field that is blamed, as the code has it, is the word of the definitions. By whether it is missing.
 -- Assumes nothing.
 use mathlib.Core.Path.{◌≡◌, sym, ap, ◌∙◌}
-use mathlib.Core.Bool.{Bool, true, false}
+use mathlib.Core.Bool.{true, false}
 use mathlib.Core.List.{List}
 use Prim.Native.Nat.{ℕ, ◌+◌, ◌≤◌, ◌<◌}
 use native.Mathlib.Omega.{arith}
@@ -15,16 +15,6 @@ use Rattle.text_fields.proofs.Words.{missing_some, missing_none, words_head}
 use Rattle.load.specs.declared.Fault.{Fault}
 use Rattle.load.specs.Item.{blame, blame_none}
 use Rattle.load.specs.Fits.{blame_field}
-
-module _ (f : Field) (c : ℕ) {b : Bool} (m : b ≡ is_missing f) where
-  abbrev at_place : ℕ → Fault
-  at_place p = record { condition = c; place = p }
-
-  pub blamed_none : b ≡ true → {r : Fault} → r ≡ blame_none c → r ≡ blame_field f c
-  blamed_none t e = e ∙ ap at_place (sym (cond-true (is_missing f) 0 (f.start + 1) (sym m ∙ t)))
-
-  pub blamed_some : b ≡ false → at_place (f.start + 1) ≡ blame_field f c
-  blamed_some t = ap at_place (sym (cond-false (is_missing f) 0 (f.start + 1) (sym m ∙ t)))
 
 -- a field that was found is the first word from there on
 module _ (text : List ℕ) (at : ℕ) {f : Field} (e : f ≡ field_at text at) where

@@ -1,5 +1,6 @@
 -- What a record asks for, with what holds of it: by what its keyword begins, once; every law of a step is then by these seven cases.
 -- Assumes nothing.
+use Rattle.std.specs.Prelude.{Err, None, Ok, Option, Result, Some}
 use mathlib.Core.Path.{◌≡◌, refl, sym, subst}
 use mathlib.Core.Bool.{true, false}
 use mathlib.Core.List.{List, [], ◌∷◌, ◌++◌}
@@ -19,10 +20,6 @@ use Rattle.text_fields.specs.declared.Item.{Item}
 use Rattle.text_fields.specs.declared.Item.TheVariants.{All, Cues, Groups, Patch as Patches, Subs, Local as LocalItem, Other}
 use Rattle.text_fields.specs.Words.{Word, fields_of, head_of, tail_of}
 use Rattle.text_fields.specs.Keywords.{keyword_of, item_of}
-use Rattle.value.specs.declared.Version.{Version}
-use Rattle.value.specs.declared.Version.TheVariants.{Malformed as BadVersion, Value as IsVersion}
-use Rattle.value.specs.declared.Paged.{Paged}
-use Rattle.value.specs.declared.Paged.TheVariants.{Bad, Value as IsPage}
 use Rattle.value.specs.Field.{version_of, page_of}
 use Rattle.store.specs.declared.Edit.{Edit}
 use Rattle.store.specs.Change.{every_page}
@@ -39,10 +36,6 @@ use Rattle.load.specs.declared.Family.{Family}
 use Rattle.load.specs.declared.Family.TheVariants.{Primary, Augments, Basic as Basically}
 use Rattle.load.specs.declared.Basic.{Basic}
 use Rattle.load.specs.declared.Basic.TheVariants.{Ident, Clear, Patch, Enddata, Passed as PassedOver, Local, Unknown}
-use Rattle.load.specs.declared.Named.{Named}
-use Rattle.load.specs.declared.Named.TheVariants.{Refused, Name as Accepted}
-use Rattle.load.specs.declared.Reading.{Reading}
-use Rattle.load.specs.declared.Reading.TheVariants.{Wrong as Misread, Change}
 use Rattle.load.specs.Condition.{full_of, unsupported_of, wrong_secondary, over_long_record, ident_mismatch}
 use Rattle.load.specs.Item.{blame, blame_none, memory, page, pairs_of, triples_of}
 use Rattle.load.specs.Ask.{Wipe, table, dimmers, Ask, rests, skips, opens, edits, items, clears, name}
@@ -54,6 +47,7 @@ use Rattle.load.specs.Run.{condition_span, stops}
 use Rattle.load.proofs.Entries.{pairs_fit, triples_fit, pairs_few, triples_few}
 use Rattle.load.proofs.Tables.{all_ask_lem}
 use Rattle.load.proofs.Read.{NamedOk, named_ok, PageIn, page_in, page_at_in, ChangeOk, ReadingOk, reading_ok}
+use Rattle.value.specs.declared.Version.{Version}
 
 -- ---- what holds of it
 
@@ -146,10 +140,10 @@ all_wipes_lem d p =
 
 module _ (d : Desk) (s : State) (n : ℕ) where
   -- ---- primaries
-  pub named_deed : (k : Kind) (x : Named) → NamedOk d k x → Deed d s n (named_ask k x)
+  pub named_deed : (k : Kind) (x : Result Key Fault) → NamedOk d k x → Deed d s n (named_ask k x)
   unfolding named_ask
-  named_deed k (Refused f) h = skipping (Dropped f) h (dropped_idles f)
-  named_deed k (Accepted y) h = opening k y h
+  named_deed k (Err f) h = skipping (Dropped f) h (dropped_idles f)
+  named_deed k (Ok y) h = opening k y h
 
   pub primary_deed : (k : Kind) (w : Word) (ws : List Word) → Deed d s n (primary_ask d k w ws)
   unfolding primary_ask
@@ -160,11 +154,11 @@ module _ (d : Desk) (s : State) (n : ℕ) where
       (λ e. skipping (Dropped f) (unsupported_fits k) (dropped_idles f))
 
   -- ---- CLEAR
-  paged_deed : (limit : ℕ) (w : Word) (x : Paged) → PageIn every_page limit x → (f : ℕ → List Wipe) → ((p : ℕ) → p ≤ limit → WipesFit d (f p))
+  paged_deed : (limit : ℕ) (w : Word) (x : Option ℕ) → PageIn every_page limit x → (f : ℕ → List Wipe) → ((p : ℕ) → p ≤ limit → WipesFit d (f p))
       → Deed d s n (paged_ask w x f)
   unfolding paged_ask
-  paged_deed limit w Bad h f g = resting (Dropped _) (lit< tt)
-  paged_deed limit w (IsPage p) h f g = clearing (f p) (g p h.1)
+  paged_deed limit w None h f g = resting (Dropped _) (lit< tt)
+  paged_deed limit w (Some p) h f g = clearing (f p) (g p h.1)
 
   at_deed : (limit : ℕ) (ws : List Word) (f : ℕ → List Wipe) → ((p : ℕ) → p ≤ limit → WipesFit d (f p))
       → Deed d s n (paged_ask (head_of ws) (page_at every_page limit ws) f)
@@ -194,26 +188,26 @@ module _ (d : Desk) (s : State) (n : ℕ) where
   item_deed LocalItem w ws = resting Obeyed tt
   item_deed Other w ws = resting (Dropped _) (lit< tt)
 
-  ident_deed : (w : Word) (v : Version) → Deed d s n (rests (ident_outcome w v))
+  ident_deed : (w : Word) (v : Option Version) → Deed d s n (rests (ident_outcome w v))
   unfolding ident_outcome
-  ident_deed w BadVersion = resting (Stopped _) (lit< tt)
-  ident_deed w (IsVersion a b) =
-      by_test (λ (o : Outcome). Deed d s n (rests o)) (is_three a b) Obeyed (Stopped (blame w ident_mismatch))
+  ident_deed w None = resting (Stopped _) (lit< tt)
+  ident_deed w (Some v) =
+      by_test (λ (o : Outcome). Deed d s n (rests o)) (is_three v.major v.minor) Obeyed (Stopped (blame w ident_mismatch))
       (λ e. resting Obeyed tt)
       (λ e. resting (Stopped (blame w ident_mismatch)) (lit< tt))
 
   -- ---- PATCH
-  patch_deed : (w : Word) (x : Paged) → PageIn 1 d.patch_pages x → (ws : List Word) → length ws ≤ n → Deed d s n (triples_ask d w x ws)
+  patch_deed : (w : Word) (x : Option ℕ) → PageIn 1 d.patch_pages x → (ws : List Word) → length ws ≤ n → Deed d s n (triples_ask d w x ws)
   unfolding triples_ask
-  patch_deed w Bad h ws l = resting (Dropped _) (lit< tt)
-  patch_deed w (IsPage p) h ws l = patching p h (triples_of d ws) (triples_fit d ws) (let f = triples_few d ws in omega arith)
+  patch_deed w None h ws l = resting (Dropped _) (lit< tt)
+  patch_deed w (Some p) h ws l = patching p h (triples_of d ws) (triples_fit d ws) (let f = triples_few d ws in omega arith)
 
 -- ---- secondaries
 module _ (d : Desk) (s : State) (ws : List Word) where
-  changed_deed : (k : Kind) → s.«open» ≡ Memory k → (x : Reading) → ReadingOk k x → Deed d s (length ws) (change_ask (name k s.key) x)
+  changed_deed : (k : Kind) → s.«open» ≡ Memory k → (x : Result Edit Fault) → ReadingOk k x → Deed d s (length ws) (change_ask (name k s.key) x)
   unfolding change_ask
-  changed_deed k h (Misread f) o = resting (Dropped f) o
-  changed_deed k h (Change e) o = editing k h e o
+  changed_deed k h (Err f) o = resting (Dropped f) o
+  changed_deed k h (Ok e) o = editing k h e o
 
   obeyed_deed : (k : Kind) → s.«open» ≡ Memory k → (e : Secondary) → augments k e ≡ true → Deed d s (length ws) (obeyed_ask d (name k s.key) e ws)
   unfolding obeyed_ask

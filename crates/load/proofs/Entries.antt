@@ -2,6 +2,7 @@
 -- two fields at least make one.
 -- By cases on each field.
 -- Assumes nothing.
+use Rattle.std.specs.Prelude.{Err, None, Ok, Option, Result, Some}
 use mathlib.Core.Path.{refl}
 use mathlib.Core.List.{List, [], ◌∷◌}
 use Prim.Native.Nat.{ℕ, suc, ◌+◌, ◌*◌, ◌≤◌, ◌<◌}
@@ -15,39 +16,35 @@ use Rattle.store_desk.specs.Size.{Within as InLimits}
 use Rattle.store_desk.proofs.Size.{within}
 use Rattle.text_records.specs.Cleaning.{has}
 use Rattle.text_fields.specs.Words.{Word, missing}
-use Rattle.value.specs.declared.Integer.{Integer}
-use Rattle.value.specs.declared.Integer.TheVariants.{Malformed, Value}
 use Rattle.value.specs.Integer.{integer_of}
-use Rattle.value_level.specs.declared.Leveled.{Leveled}
-use Rattle.value_level.specs.declared.Leveled.TheVariants.{NotPercent, NotHex, Value as IsLevel}
 use Rattle.value_level.specs.Level.{level_of}
 use Rattle.value_level.proofs.Levels.{LevelOk, level_ok}
 use Rattle.load.specs.declared.Entry.{Entry}
 use Rattle.load.specs.declared.Entry.TheVariants.{Level, Patch, Faulty}
-use Rattle.load.specs.declared.Ranged.{Ranged}
-use Rattle.load.specs.declared.Ranged.TheVariants.{Within, Wrong}
 use Rattle.load.specs.Condition.{malformed_integer, bad_hex, bad_channel, bad_dimmer, bad_percent, blames_keyword, blames_none}
 use Rattle.load.specs.Item.{blame, ranged_of, dimmer_of, on_ranged, on_level, pair_of, triple_of, pairs_of, triples_of, faults_of}
 use Rattle.load.specs.Fits.{EntryFits, AllFit}
 use Rattle.load.proofs.Faulted.{Blamed, FieldOf, Fields, missing_field, field_blamed}
+use Rattle.value_level.specs.declared.LevelError.{LevelError}
+use Rattle.value_level.specs.declared.LevelError.TheVariants.{NotPercent, NotHex}
 
 -- ---- a field in its range
-ranged_fits : (P : Entry → Type 0) (limit beyond : ℕ) (w : Word) (i : Integer) (f : ℕ → Entry)
+ranged_fits : (P : Entry → Type 0) (limit beyond : ℕ) (w : Word) (i : Option ℕ) (f : ℕ → Entry)
     → P (Faulty (blame w malformed_integer)) → P (Faulty (blame w beyond)) → ((n : ℕ) → InLimits 1 n limit → P (f n))
     → P (on_ranged w (ranged_of limit beyond i) f)
 unfolding ranged_of on_ranged
-ranged_fits P limit beyond w Malformed f bad high good = bad
-ranged_fits P limit beyond w (Value n) f bad high good =
-    by_test (λ (r : Ranged). P (on_ranged w r f)) (is_within 1 n limit) (Within n) (Wrong beyond)
+ranged_fits P limit beyond w None f bad high good = bad
+ranged_fits P limit beyond w (Some n) f bad high good =
+    by_test (λ (r : Result ℕ ℕ). P (on_ranged w r f)) (is_within 1 n limit) (Ok n) (Err beyond)
     (λ e. good n (within 1 n limit e))
     (λ e. high)
 
-level_fits : (P : Entry → Type 0) (w : Word) (x : Leveled) → LevelOk x → (f : ℕ → Entry)
+level_fits : (P : Entry → Type 0) (w : Word) (x : Result ℕ LevelError) → LevelOk x → (f : ℕ → Entry)
     → P (Faulty (blame w bad_percent)) → P (Faulty (blame w bad_hex)) → ((v : ℕ) → v < 256 → P (f v)) → P (on_level w x f)
 unfolding on_level
-level_fits P w NotPercent h f percent hex good = percent
-level_fits P w NotHex h f percent hex good = hex
-level_fits P w (IsLevel v) h f percent hex good = good v h
+level_fits P w (Err NotPercent) h f percent hex good = percent
+level_fits P w (Err NotHex) h f percent hex good = hex
+level_fits P w (Ok v) h f percent hex good = good v h
 
 -- a fault blames one of a record's fields
 abbrev EntryTold : List Word → Entry → Type 0

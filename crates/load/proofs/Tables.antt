@@ -1,6 +1,7 @@
 -- CLEAR ALL: which tables have a page, and that some table has it exactly where it is not beyond the highest page of all. By cases on the
 -- tables, and on the field.
 -- Assumes nothing.
+use Rattle.std.specs.Prelude.{None, Option, Some}
 use mathlib.Core.Path.{◌≡◌, refl, ap, ◌∙◌}
 use mathlib.Core.List.{List, [], ◌∷◌}
 use Prim.Native.Nat.{ℕ, ◌≤◌, ◌<◌}
@@ -12,8 +13,6 @@ use Rattle.store_desk.specs.declared.Desk.{Desk}
 use Rattle.store_desk.specs.declared.Kind.{Kind}
 use Rattle.store_desk.specs.declared.Kind.TheVariants.{Cue, Group, Sub}
 use Rattle.text_fields.specs.Words.{Word, missing, head_of}
-use Rattle.value.specs.declared.Integer.{Integer}
-use Rattle.value.specs.declared.Integer.TheVariants.{Malformed, Value}
 use Rattle.value.specs.Integer.{cap, integer_of, AtMost}
 use Rattle.value.specs.Field.{paged_of, page_of}
 use Rattle.value.proofs.Digits.{integer_capped}
@@ -76,11 +75,11 @@ wipes_some d w p h =
     (λ e. absurd (omega arith)))))
 
 -- ---- so that CLEAR ALL's page is one up to the highest
-paged_ask_lem : (d : Desk) (w : Word) (i : Integer) → AtMost cap i
+paged_ask_lem : (d : Desk) (w : Word) (i : Option ℕ) → AtMost cap i
     → tables_ask d w (paged_of cap i) ≡ paged_ask w (paged_of (highest_page d) i) (all_wipes d)
 unfolding paged_of tables_ask paged_ask
-paged_ask_lem d w Malformed h = refl
-paged_ask_lem d w (Value v) h =
+paged_ask_lem d w None h = refl
+paged_ask_lem d w (Some v) h =
     by_bool (eqb v 0)
     (λ e. rw e refl)
     (λ e.

@@ -2,6 +2,7 @@
 -- fault that is reported has a condition above 0 and blames a field of the record, or none. By what the keyword begins, and by cases on each
 -- field.
 -- Assumes nothing.
+use Rattle.std.specs.Prelude.{Err, None, Ok, Option, Result, Some}
 use mathlib.Core.Path.{◌≡◌, refl, sym, ap, ◌∙◌, subst}
 use mathlib.Core.Bool.{Bool, true, false}
 use mathlib.Core.List.{List, [], ◌∷◌}
@@ -24,18 +25,8 @@ use Rattle.text_records.specs.Cleaning.{is_high, is_control, has}
 use Rattle.text_fields.specs.Words.{Word, words_of, fields_of, head_of, tail_of}
 use Rattle.text_fields.specs.Keywords.{keyword_of, item_of}
 use Rattle.text_fields.proofs.Placed.{place_within}
-use Rattle.value.specs.declared.Integer.{Integer}
-use Rattle.value.specs.declared.Integer.TheVariants.{Malformed, Value}
-use Rattle.value.specs.declared.Numbered.{Numbered}
-use Rattle.value.specs.declared.Numbered.TheVariants.{Malformed as BadNumber, TooLarge, Value as IsNumber}
-use Rattle.value.specs.declared.Timed.{Timed}
-use Rattle.value.specs.declared.Timed.TheVariants.{Malformed as BadTime, Value as IsTime}
-use Rattle.value.specs.declared.Version.{Version}
-use Rattle.value.specs.declared.Version.TheVariants.{Malformed as BadVersion, Value as IsVersion}
-use Rattle.value.specs.declared.Paged.{Paged}
-use Rattle.value.specs.declared.Paged.TheVariants.{Bad, Value as IsPage}
 use Rattle.value.specs.Integer.{cap, integer_of}
-use Rattle.value.specs.Number.{number_of}
+use Rattle.value.specs.Number.{number_of, number}
 use Rattle.value.specs.Time.{time_of}
 use Rattle.value.specs.Field.{version_of, page_of}
 use Rattle.store.specs.declared.Edit.{Edit}
@@ -53,13 +44,7 @@ use Rattle.load.specs.declared.Secondary.TheVariants.{Chan, Up, Down, Followon, 
 use Rattle.load.specs.declared.Family.{Family}
 use Rattle.load.specs.declared.Family.TheVariants.{Primary, Augments, Basic as Basically}
 use Rattle.load.specs.declared.Basic.TheVariants.{Ident, Clear, Patch, Enddata, Passed as PassedOver, Local, Unknown}
-use Rattle.load.specs.declared.Named.{Named}
-use Rattle.load.specs.declared.Named.TheVariants.{Refused as NotNamed, Name as IsNamed}
 use Rattle.load.specs.declared.Numbers.{Numbers}
-use Rattle.load.specs.declared.Numeral.{Numeral}
-use Rattle.load.specs.declared.Numeral.TheVariants.{Wrong, Number}
-use Rattle.load.specs.declared.Reading.{Reading}
-use Rattle.load.specs.declared.Reading.TheVariants.{Wrong as Misread, Change}
 use Rattle.load.specs.Condition.{bad_number, number_too_large, bad_page, bad_sub, malformed_sub, bad_time, bad_patch_page, full_of, ignored_high, ignored_control}
 use Rattle.load.specs.Condition.{unsupported_of, wrong_secondary, ident_mismatch, over_long_record, unknown_keyword, blames_keyword, blames_none}
 use Rattle.load.specs.Item.{blame, blame_none, faults_of}
@@ -75,6 +60,10 @@ use Rattle.load.proofs.Entries.{EntriesTold, pairs_told, triples_told}
 use Rattle.load.specs.Translated.{step_in}
 use Rattle.load.specs.Fits.{Near, text_step}
 use Rattle.load.proofs.Steps.{said_by}
+use Rattle.value.specs.declared.Number.{Number}
+use Rattle.value.specs.declared.NumberError.{NumberError}
+use Rattle.value.specs.declared.Version.{Version}
+use Rattle.value.specs.declared.NumberError.TheVariants.{Malformed as BadNumber, TooLarge}
 
 -- ---- what holds of it
 
@@ -96,21 +85,21 @@ AskTold d fs (clears ws) = Unit {0}
 
 module _ (d : Desk) (fs : List Word) where
   -- ---- primaries
-  abbrev NumeralTold : Numeral → Type 0
-  NumeralTold (Wrong f) = Blamed fs f
-  NumeralTold (Number whole fraction) = Unit {0}
+  abbrev NumeralTold : Result Number Fault → Type 0
+  NumeralTold (Err f) = Blamed fs f
+  NumeralTold (Ok n) = Unit {0}
 
-  numbered_told : (w : Word) (x : Numbered) → FieldOf fs w → NumeralTold (numbered_by w x)
+  numbered_told : (w : Word) (x : Result Number NumberError) → FieldOf fs w → NumeralTold (numbered_by w x)
   unfolding numbered_by blames_keyword blames_none has
-  numbered_told w BadNumber o = field_blamed fs w bad_number o (lit< tt, refl, refl)
-  numbered_told w TooLarge o = field_blamed fs w number_too_large o (lit< tt, refl, refl)
-  numbered_told w (IsNumber n) o = tt
+  numbered_told w (Err BadNumber) o = field_blamed fs w bad_number o (lit< tt, refl, refl)
+  numbered_told w (Err TooLarge) o = field_blamed fs w number_too_large o (lit< tt, refl, refl)
+  numbered_told w (Ok n) o = tt
 
-  sub_told : (w : Word) (i : Integer) → FieldOf fs w → NumeralTold (sub_by d w i)
+  sub_told : (w : Word) (i : Option ℕ) → FieldOf fs w → NumeralTold (sub_by d w i)
   unfolding sub_by blames_keyword blames_none has
-  sub_told w Malformed o = field_blamed fs w malformed_sub o (lit< tt, refl, refl)
-  sub_told w (Value n) o =
-      by_test NumeralTold (is_within 1 n d.subs) (Number n 0) (Wrong (blame w bad_sub))
+  sub_told w None o = field_blamed fs w malformed_sub o (lit< tt, refl, refl)
+  sub_told w (Some n) o =
+      by_test NumeralTold (is_within 1 n d.subs) (Ok (number n 0)) (Err (blame w bad_sub))
       (λ e. tt)
       (λ e. field_blamed fs w bad_sub o (lit< tt, refl, refl))
 
@@ -124,39 +113,39 @@ module _ (d : Desk) (fs : List Word) where
   unfolding blames_keyword blames_none has
   page_blamed w o = field_blamed fs w bad_page o (lit< tt, refl, refl)
 
-  named_told : (k : Kind) (n : Numeral) (w : Word) (p : Paged) → FieldOf fs w → NumeralTold n → AskTold d fs (named_ask k (named_by n w p))
+  named_told : (k : Kind) (n : Result Number Fault) (w : Word) (p : Option ℕ) → FieldOf fs w → NumeralTold n → AskTold d fs (named_ask k (named_by n w p))
   unfolding named_by named_ask
-  named_told k (Wrong f) w p o h = λ c. h
-  named_told k (Number whole fraction) w Bad o h = λ c. page_blamed w o
-  named_told k (Number whole fraction) w (IsPage p) o h = tt
+  named_told k (Err f) w p o h = λ c. h
+  named_told k (Ok n) w None o h = λ c. page_blamed w o
+  named_told k (Ok n) w (Some p) o h = tt
 
   -- ---- secondaries
-  abbrev ReadingTold : Reading → Type 0
-  ReadingTold (Misread f) = Blamed fs f
-  ReadingTold (Change e) = Unit {0}
+  abbrev ReadingTold : Result Edit Fault → Type 0
+  ReadingTold (Err f) = Blamed fs f
+  ReadingTold (Ok e) = Unit {0}
 
-  time_told : (w : Word) (x : Timed) (f : ℕ → Reading) → FieldOf fs w → ((t : ℕ) → ReadingTold (f t)) → ReadingTold (on_time w x f)
+  time_told : (w : Word) (x : Option ℕ) (f : ℕ → Result Edit Fault) → FieldOf fs w → ((t : ℕ) → ReadingTold (f t)) → ReadingTold (on_time w x f)
   unfolding on_time blames_keyword blames_none has
-  time_told w BadTime f o h = field_blamed fs w bad_time o (lit< tt, refl, refl)
-  time_told w (IsTime t) f o h = h t
+  time_told w None f o h = field_blamed fs w bad_time o (lit< tt, refl, refl)
+  time_told w (Some t) f o h = h t
 
   fade_told : (f : ℕ → ℕ → Edit) (ws : List Word) → Fields fs ws → ReadingTold (fade_of f ws)
   unfolding fade_of
   fade_told f ws o =
-      time_told (head_of ws) (time_of (head_of ws).chars) (λ fade. on_time (head_of (tail_of ws)) (delay_of (tail_of ws)) (λ delay. Change (f fade delay)))
+      time_told (head_of ws) (time_of (head_of ws).chars) (λ fade. on_time (head_of (tail_of ws)) (delay_of (tail_of ws)) (λ delay. Ok (f fade delay)))
       (head_field fs ws o)
       (λ fade.
-      time_told (head_of (tail_of ws)) (delay_of (tail_of ws)) (λ delay. Change (f fade delay)) (head_field fs (tail_of ws) (tail_fields fs ws o)) (λ delay. tt))
+      time_told (head_of (tail_of ws)) (delay_of (tail_of ws)) (λ delay. Ok (f fade delay)) (head_field fs (tail_of ws) (tail_fields fs ws o)) (λ delay. tt))
 
-  link_told : (n : Numeral) → NumeralTold n → ReadingTold (link_by n)
+  link_told : (n : Result Number Fault) → NumeralTold n → ReadingTold (link_by n)
   unfolding link_by
-  link_told (Wrong f) h = h
-  link_told (Number whole fraction) h = tt
+  link_told (Err f) h = h
+  link_told (Ok n) h = tt
 
-  change_told : (n : Name) (x : Reading) → ReadingTold x → AskTold d fs (change_ask n x)
+  change_told : (n : Name) (x : Result Edit Fault) → ReadingTold x → AskTold d fs (change_ask n x)
   unfolding change_ask
-  change_told n (Misread f) h = λ c. h
-  change_told n (Change e) h = tt
+  change_told n (Err f) h = λ c. h
+  change_told n (Ok e) h = tt
 
   obeyed_told : (n : Name) (e : Secondary) (ws : List Word) → Fields fs ws → AskTold d fs (obeyed_ask d n e ws)
   unfolding obeyed_ask times_of
@@ -170,10 +159,10 @@ module _ (d : Desk) (fs : List Word) where
       (link_told (numbered_by (head_of ws) (number_of (head_of ws).chars)) (numbered_told (head_of ws) (number_of (head_of ws).chars) (head_field fs ws o)))
 
   -- ---- CLEAR
-  paged_told : (w : Word) (x : Paged) (f : ℕ → List Wipe) → FieldOf fs w → AskTold d fs (paged_ask w x f)
+  paged_told : (w : Word) (x : Option ℕ) (f : ℕ → List Wipe) → FieldOf fs w → AskTold d fs (paged_ask w x f)
   unfolding paged_ask
-  paged_told w Bad f o = λ c. page_blamed w o
-  paged_told w (IsPage p) f o = tt
+  paged_told w None f o = λ c. page_blamed w o
+  paged_told w (Some p) f o = tt
 
   kind_told : (k : Kind) (ws : List Word) → Fields fs ws → AskTold d fs (kind_ask d k ws)
   unfolding kind_ask
@@ -187,26 +176,26 @@ module _ (d : Desk) (fs : List Word) where
   wipes_told w [] o = λ c. page_blamed w o
   wipes_told w (x ∷ xs) o = tt
 
-  tables_told : (w : Word) (x : Paged) → FieldOf fs w → AskTold d fs (tables_ask d w x)
+  tables_told : (w : Word) (x : Option ℕ) → FieldOf fs w → AskTold d fs (tables_ask d w x)
   unfolding tables_ask
-  tables_told w Bad o = λ c. page_blamed w o
-  tables_told w (IsPage p) o = wipes_told w (all_wipes d p) o
+  tables_told w None o = λ c. page_blamed w o
+  tables_told w (Some p) o = wipes_told w (all_wipes d p) o
 
   -- ---- PATCH, IDENT
-  triples_ask_told : (w : Word) (x : Paged) (ws : List Word) → FieldOf fs w → Fields fs ws → AskTold d fs (triples_ask d w x ws)
+  triples_ask_told : (w : Word) (x : Option ℕ) (ws : List Word) → FieldOf fs w → Fields fs ws → AskTold d fs (triples_ask d w x ws)
   unfolding triples_ask blames_keyword blames_none has
-  triples_ask_told w Bad ws o g = λ c. field_blamed fs w bad_patch_page o (lit< tt, refl, refl)
-  triples_ask_told w (IsPage p) ws o g = triples_told d fs ws g
+  triples_ask_told w None ws o g = λ c. field_blamed fs w bad_patch_page o (lit< tt, refl, refl)
+  triples_ask_told w (Some p) ws o g = triples_told d fs ws g
 
   ident_blamed : (w : Word) → FieldOf fs w → Blamed fs (blame w ident_mismatch)
   unfolding blames_keyword blames_none has
   ident_blamed w o = field_blamed fs w ident_mismatch o (lit< tt, refl, refl)
 
-  ident_told : (w : Word) (v : Version) → FieldOf fs w → OutcomeTold d fs (ident_outcome w v)
+  ident_told : (w : Word) (v : Option Version) → FieldOf fs w → OutcomeTold d fs (ident_outcome w v)
   unfolding ident_outcome
-  ident_told w BadVersion o = λ c. ident_blamed w o
-  ident_told w (IsVersion a b) o =
-      by_test (OutcomeTold d fs) (is_three a b) Obeyed (Stopped (blame w ident_mismatch)) (λ e. tt) (λ e c. ident_blamed w o)
+  ident_told w None o = λ c. ident_blamed w o
+  ident_told w (Some v) o =
+      by_test (OutcomeTold d fs) (is_three v.major v.minor) Obeyed (Stopped (blame w ident_mismatch)) (λ e. tt) (λ e c. ident_blamed w o)
 
 -- ---- what is blamed on the keyword
 module _ (d : Desk) (w : Word) (ws : List Word) where
@@ -241,7 +230,7 @@ module _ (d : Desk) (w : Word) (ws : List Word) where
       let y : Key = next_key d k (accepted_of b k) in
       by_test (AskTold d (w ∷ ws)) (supported d k) (named_ask k (next_named d b k ws)) (skips (Dropped (blame w (unsupported_of k))))
       (λ e.
-      by_test (λ (x : Named). AskTold d (w ∷ ws) (named_ask k x)) (leb y.page (pages_of d k)) (IsNamed y) (NotNamed (beyond_of k (head_of ws)))
+      by_test (λ (x : Result Key Fault). AskTold d (w ∷ ws) (named_ask k x)) (leb y.page (pages_of d k)) (Ok y) (Err (beyond_of k (head_of ws)))
       (λ h. tt)
       (λ h c. beyond_told k))
       (λ e. unsupported_told k e)

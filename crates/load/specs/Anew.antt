@@ -1,7 +1,7 @@
 -- What a record asks for in a load with translation, and what is heard of it beside that (paper 02, C-13; §6.4). Cues, groups and submasters are
 -- numbered anew as they are accepted; every other record is as ever.
 -- Assumes nothing.
-use Rattle.std.specs.Prelude.{Bool, true, false, cond, ◌&&◌, List, [], ◌∷◌, ℕ, ◌+◌, ◌/◌, ◌%◌, leb}
+use Rattle.std.specs.Prelude.{Bool, true, false, cond, ◌&&◌, List, [], ◌∷◌, ℕ, ◌+◌, ◌/◌, ◌%◌, leb, Err, Ok, Result}
 use Rattle.store_desk.specs.declared.Desk.{Desk}
 use Rattle.store_desk.specs.declared.Key.{Key}
 use Rattle.store_desk.specs.declared.Kind.{Kind}
@@ -18,8 +18,6 @@ use Rattle.load.specs.declared.Family.TheVariants.{Primary, Augments, Basic as B
 use Rattle.load.specs.declared.Fault.{Fault}
 use Rattle.load.specs.declared.Heard.{Heard}
 use Rattle.load.specs.declared.Heard.TheVariants.{Other, Accepted, Refused, Link as Asked}
-use Rattle.load.specs.declared.Named.{Named}
-use Rattle.load.specs.declared.Named.TheVariants.{Refused as NotNamed, Name as IsNamed}
 use Rattle.load.specs.declared.Numbers.{Numbers}
 use Rattle.load.specs.declared.Open.{Open}
 use Rattle.load.specs.declared.Open.TheVariants.{Nothing, Skipping, Memory}
@@ -64,10 +62,10 @@ beyond_of Group w = blame_none (full_of Group)
 beyond_of Sub w = blame w bad_sub
 
 -- CUE, GROUP, SUB: their fields do not name them
-unfoldable pub next_named : Desk → Numbers → Kind → List Word → Named
+unfoldable pub next_named : Desk → Numbers → Kind → List Word → Result Key Fault
 next_named d n k ws =
     let key = next_key d k (accepted_of n k) in
-    cond (leb key.page (pages_of d k)) (IsNamed key) (NotNamed (beyond_of k (head_of ws)))
+    cond (leb key.page (pages_of d k)) (Ok key) (Err (beyond_of k (head_of ws)))
 
 unfoldable pub anew_primary_ask : Desk → Numbers → Kind → Word → List Word → Ask
 anew_primary_ask d n k w ws = cond (supported d k) (named_ask k (next_named d n k ws)) (skips (Dropped (blame w (unsupported_of k))))

@@ -2,7 +2,7 @@
 -- the outcome that it comes to then (paper 01, "Keywords and conditions"; §6.3, §8 to §10). Fields are tested left to right, and the first
 -- fault is the one reported.
 -- Assumes nothing.
-use Rattle.std.specs.Prelude.{Bool, true, cond, ◌&&◌, List, [], ◌∷◌, ◌++◌, ℕ, eqb, ltb, leb, length}
+use Rattle.std.specs.Prelude.{Bool, true, cond, ◌&&◌, List, [], ◌∷◌, ◌++◌, ℕ, eqb, ltb, leb, length, Err, None, Ok, Option, Result, Some}
 use Rattle.store_desk.specs.declared.Desk.{Desk}
 use Rattle.store_desk.specs.declared.Key.{Key}
 use Rattle.store_desk.specs.declared.Kind.{Kind}
@@ -16,18 +16,8 @@ use Rattle.text_fields.specs.declared.Item.{Item}
 use Rattle.text_fields.specs.declared.Item.TheVariants.{All, Cues, Groups, Patch as Patches, Subs, Local as LocalItem, Other}
 use Rattle.text_fields.specs.Words.{Word, fields_of, head_of, tail_of}
 use Rattle.text_fields.specs.Keywords.{keyword_of, item_of}
-use Rattle.value.specs.declared.Integer.{Integer}
-use Rattle.value.specs.declared.Integer.TheVariants.{Malformed, Value}
-use Rattle.value.specs.declared.Numbered.{Numbered}
-use Rattle.value.specs.declared.Numbered.TheVariants.{Malformed as BadNumber, TooLarge, Value as IsNumber}
-use Rattle.value.specs.declared.Timed.{Timed}
-use Rattle.value.specs.declared.Timed.TheVariants.{Malformed as BadTime, Value as IsTime}
-use Rattle.value.specs.declared.Version.{Version}
-use Rattle.value.specs.declared.Version.TheVariants.{Malformed as BadVersion, Value as IsVersion}
-use Rattle.value.specs.declared.Paged.{Paged}
-use Rattle.value.specs.declared.Paged.TheVariants.{Bad, Value as IsPage}
 use Rattle.value.specs.Integer.{cap, integer_of}
-use Rattle.value.specs.Number.{number_of}
+use Rattle.value.specs.Number.{number_of, number}
 use Rattle.value.specs.Time.{time_of}
 use Rattle.value.specs.Field.{version_of, page_of}
 use Rattle.store.specs.declared.Edit.{Edit}
@@ -47,15 +37,14 @@ use Rattle.load.specs.declared.Family.{Family}
 use Rattle.load.specs.declared.Family.TheVariants.{Primary, Augments, Basic as Basically}
 use Rattle.load.specs.declared.Basic.{Basic}
 use Rattle.load.specs.declared.Basic.TheVariants.{Ident, Clear, Patch, Enddata, Passed as PassedOver, Local, Unknown}
-use Rattle.load.specs.declared.Numeral.{Numeral}
-use Rattle.load.specs.declared.Numeral.TheVariants.{Wrong, Number}
-use Rattle.load.specs.declared.Named.{Named}
-use Rattle.load.specs.declared.Named.TheVariants.{Refused, Name as Accepted}
-use Rattle.load.specs.declared.Reading.{Reading}
-use Rattle.load.specs.declared.Reading.TheVariants.{Wrong as Misread, Change}
 use Rattle.load.specs.Condition.{bad_number, number_too_large, bad_page, bad_sub, malformed_sub, unsupported_of}
 use Rattle.load.specs.Condition.{over_long_record, ident_mismatch, unknown_keyword, unknown_item, wrong_secondary, bad_patch_page}
 use Rattle.load.specs.Condition.{bad_time}
+use Rattle.load.specs.declared.Fault.{Fault}
+use Rattle.value.specs.declared.Number.{Number}
+use Rattle.value.specs.declared.NumberError.{NumberError}
+use Rattle.value.specs.declared.Version.{Version}
+use Rattle.value.specs.declared.NumberError.TheVariants.{Malformed as BadNumber, TooLarge}
 
 -- ---- the asks
 
@@ -84,37 +73,37 @@ pub data Ask : Type 0 where
 -- ---- primaries: support, then number, page; room is the store's to tell
 
 -- §7.4
-unfoldable pub numbered_by : Word → Numbered → Numeral
-numbered_by w BadNumber = Wrong (blame w bad_number)
-numbered_by w TooLarge = Wrong (blame w number_too_large)
-numbered_by w (IsNumber n) = Number n.whole n.fraction
+unfoldable pub numbered_by : Word → Result Number NumberError → Result Number Fault
+numbered_by w (Err BadNumber) = Err (blame w bad_number)
+numbered_by w (Err TooLarge) = Err (blame w number_too_large)
+numbered_by w (Ok n) = Ok n
 
 -- §9.3: a submaster is 1 to the highest
-unfoldable pub sub_by : Desk → Word → Integer → Numeral
-sub_by d w Malformed = Wrong (blame w malformed_sub)
-sub_by d w (Value n) = cond (is_within 1 n d.subs) (Number n 0) (Wrong (blame w bad_sub))
+unfoldable pub sub_by : Desk → Word → Option ℕ → Result Number Fault
+sub_by d w None = Err (blame w malformed_sub)
+sub_by d w (Some n) = cond (is_within 1 n d.subs) (Ok (number n 0)) (Err (blame w bad_sub))
 
-unfoldable pub numeral_of : Desk → Kind → Word → Numeral
+unfoldable pub numeral_of : Desk → Kind → Word → Result Number Fault
 numeral_of d Cue w = numbered_by w (number_of w.chars)
 numeral_of d Group w = numbered_by w (number_of w.chars)
 numeral_of d Sub w = sub_by d w (integer_of w.chars)
 
 -- the page of the next field, or another where there is none
-unfoldable pub page_at : ℕ → ℕ → List Word → Paged
-page_at other limit [] = IsPage other
+unfoldable pub page_at : ℕ → ℕ → List Word → Option ℕ
+page_at other limit [] = Some other
 page_at other limit (w ∷ ws) = page_of limit w.chars
 
-unfoldable pub named_by : Numeral → Word → Paged → Named
-named_by (Wrong f) w p = Refused f
-named_by (Number whole fraction) w Bad = Refused (blame w bad_page)
-named_by (Number whole fraction) w (IsPage p) = Accepted (record { page = p; whole = whole; fraction = fraction })
+unfoldable pub named_by : Result Number Fault → Word → Option ℕ → Result Key Fault
+named_by (Err f) w p = Err f
+named_by (Ok n) w None = Err (blame w bad_page)
+named_by (Ok n) w (Some p) = Ok (record { page = p; whole = n.whole; fraction = n.fraction })
 
-unfoldable pub named_of : Desk → Kind → List Word → Named
+unfoldable pub named_of : Desk → Kind → List Word → Result Key Fault
 named_of d k ws = named_by (numeral_of d k (head_of ws)) (head_of (tail_of ws)) (page_at 1 (pages_of d k) (tail_of ws))
 
-unfoldable pub named_ask : Kind → Named → Ask
-named_ask k (Refused f) = skips (Dropped f)
-named_ask k (Accepted key) = opens k key
+unfoldable pub named_ask : Kind → Result Key Fault → Ask
+named_ask k (Err f) = skips (Dropped f)
+named_ask k (Ok key) = opens k key
 
 -- a refused primary starts skipping; what the desk has none of is blamed on the keyword
 unfoldable pub primary_ask : Desk → Kind → Word → List Word → Ask
@@ -130,36 +119,36 @@ augments k Down = has_times k
 augments k Followon = has_link k
 augments k Link = has_link k
 
-unfoldable pub on_time : Word → Timed → (ℕ → Reading) → Reading
-on_time w BadTime f = Misread (blame w bad_time)
-on_time w (IsTime t) f = f t
+unfoldable pub on_time : Word → Option ℕ → (ℕ → Result Edit Fault) → Result Edit Fault
+on_time w None f = Err (blame w bad_time)
+on_time w (Some t) f = f t
 
 -- the optional delay, else 0
-unfoldable pub delay_of : List Word → Timed
-delay_of [] = IsTime 0
+unfoldable pub delay_of : List Word → Option ℕ
+delay_of [] = Some 0
 delay_of (w ∷ ws) = time_of w.chars
 
 -- UP, DOWN: fade, optional delay
-unfoldable pub fade_of : (ℕ → ℕ → Edit) → List Word → Reading
+unfoldable pub fade_of : (ℕ → ℕ → Edit) → List Word → Result Edit Fault
 fade_of f ws =
     on_time (head_of ws) (time_of (head_of ws).chars)
-    (λ fade. on_time (head_of (tail_of ws)) (delay_of (tail_of ws)) (λ delay. Change (f fade delay)))
+    (λ fade. on_time (head_of (tail_of ws)) (delay_of (tail_of ws)) (λ delay. Ok (f fade delay)))
 
-unfoldable pub link_by : Numeral → Reading
-link_by (Wrong f) = Misread f
-link_by (Number whole fraction) = Change (SetLink whole fraction)
+unfoldable pub link_by : Result Number Fault → Result Edit Fault
+link_by (Err f) = Err f
+link_by (Ok n) = Ok (SetLink n.whole n.fraction)
 
 -- UP, DOWN, FOLLOWON, LINK: the change that the fields ask for. CHAN asks for items, and never comes here
-unfoldable pub times_of : Secondary → List Word → Reading
-times_of Chan ws = Misread (blame_none 0)
+unfoldable pub times_of : Secondary → List Word → Result Edit Fault
+times_of Chan ws = Err (blame_none 0)
 times_of Up ws = fade_of (λ fade delay. SetUp fade delay) ws
 times_of Down ws = fade_of (λ fade delay. SetDown fade delay) ws
-times_of Followon ws = on_time (head_of ws) (time_of (head_of ws).chars) (λ t. Change (SetFollowon t))
+times_of Followon ws = on_time (head_of ws) (time_of (head_of ws).chars) (λ t. Ok (SetFollowon t))
 times_of Link ws = link_by (numbered_by (head_of ws) (number_of (head_of ws).chars))
 
-unfoldable pub change_ask : Name → Reading → Ask
-change_ask n (Misread f) = rests (Dropped f)
-change_ask n (Change e) = edits n e
+unfoldable pub change_ask : Name → Result Edit Fault → Ask
+change_ask n (Err f) = rests (Dropped f)
+change_ask n (Ok e) = edits n e
 
 unfoldable pub obeyed_ask : Desk → Name → Secondary → List Word → Ask
 obeyed_ask d n Chan ws = items (memory n) (pairs_of d ws)
@@ -178,9 +167,9 @@ secondary_ask d key (Memory k) e w ws =
 -- ---- CLEAR
 
 -- a page that is malformed, 0 or beyond the table's drops the record
-unfoldable pub paged_ask : Word → Paged → (ℕ → List Wipe) → Ask
-paged_ask w Bad f = rests (Dropped (blame w bad_page))
-paged_ask w (IsPage p) f = clears (f p)
+unfoldable pub paged_ask : Word → Option ℕ → (ℕ → List Wipe) → Ask
+paged_ask w None f = rests (Dropped (blame w bad_page))
+paged_ask w (Some p) f = clears (f p)
 
 -- clearing an unsupported kind does nothing, and its page is not looked at
 unfoldable pub kind_ask : Desk → Kind → List Word → Ask
@@ -209,9 +198,9 @@ unfoldable pub wipes_ask : Word → List Wipe → Ask
 wipes_ask w [] = rests (Dropped (blame w bad_page))
 wipes_ask w (x ∷ xs) = clears (x ∷ xs)
 
-unfoldable pub tables_ask : Desk → Word → Paged → Ask
-tables_ask d w Bad = rests (Dropped (blame w bad_page))
-tables_ask d w (IsPage p) = wipes_ask w (all_wipes d p)
+unfoldable pub tables_ask : Desk → Word → Option ℕ → Ask
+tables_ask d w None = rests (Dropped (blame w bad_page))
+tables_ask d w (Some p) = wipes_ask w (all_wipes d p)
 
 -- a page of any size: which tables have it is then asked
 unfoldable pub all_ask : Desk → List Word → Ask
@@ -232,9 +221,9 @@ clear_ask d w ws = item_ask d (item_of (head_of ws).chars) w (tail_of ws)
 
 -- ---- PATCH, IDENT
 
-unfoldable pub triples_ask : Desk → Word → Paged → List Word → Ask
-triples_ask d w Bad ws = rests (Dropped (blame w bad_patch_page))
-triples_ask d w (IsPage p) ws = items (page p) (triples_of d ws)
+unfoldable pub triples_ask : Desk → Word → Option ℕ → List Word → Ask
+triples_ask d w None ws = rests (Dropped (blame w bad_patch_page))
+triples_ask d w (Some p) ws = items (page p) (triples_of d ws)
 
 abbrev pub patch_ask : Desk → List Word → Ask
 patch_ask d ws = triples_ask d (head_of ws) (page_of d.patch_pages (head_of ws).chars) (tail_of ws)
@@ -243,9 +232,9 @@ patch_ask d ws = triples_ask d (head_of ws) (page_of d.patch_pages (head_of ws).
 abbrev pub is_three : ℕ → ℕ → Bool
 is_three major minor = eqb major 3 && eqb minor 0
 
-unfoldable pub ident_outcome : Word → Version → Outcome
-ident_outcome w BadVersion = Stopped (blame w ident_mismatch)
-ident_outcome w (IsVersion major minor) = cond (is_three major minor) Obeyed (Stopped (blame w ident_mismatch))
+unfoldable pub ident_outcome : Word → Option Version → Outcome
+ident_outcome w None = Stopped (blame w ident_mismatch)
+ident_outcome w (Some v) = cond (is_three v.major v.minor) Obeyed (Stopped (blame w ident_mismatch))
 
 -- ---- the keywords
 

@@ -1,7 +1,7 @@
 -- What holds of an item that is read: an obeyed one names a channel, and a dimmer, that the desk has, and its level is a byte; a fault's
 -- condition fits a report. For laws and for private functions; no promise names these.
 -- Assumes nothing.
-use Rattle.std.specs.Prelude.{Bool, cond, ◌&&◌, List, [], ◌∷◌, ℕ, ◌+◌, ◌*◌, ◌/◌, ◌%◌, ◌≤◌, ◌<◌, max}
+use Rattle.std.specs.Prelude.{Bool, cond, ◌&&◌, List, [], ◌∷◌, ℕ, ◌+◌, ◌*◌, ◌/◌, ◌%◌, ◌≤◌, ◌<◌, max, Result}
 use Rattle.store_desk.specs.declared.Desk.{Desk}
 use Rattle.store_desk.specs.declared.Kind.{Kind}
 use Rattle.store_desk.specs.declared.Kind.TheVariants.{Cue, Group, Sub}
@@ -14,7 +14,6 @@ use Rattle.load.specs.declared.Fault.{Fault}
 use Rattle.load.specs.declared.Entry.{Entry}
 use Rattle.load.specs.declared.Entry.TheVariants.{Level, Patch, Faulty}
 use Rattle.load.specs.declared.Basic.{Basic}
-use Rattle.load.specs.declared.Named.{Named}
 use Rattle.load.specs.declared.Numbers.{Numbers}
 use Rattle.load.specs.declared.Outcome.TheVariants.{Obeyed}
 use Rattle.load.specs.declared.Secondary.{Secondary}
@@ -23,6 +22,7 @@ use Rattle.load.specs.Ask.{Ask, rests, named_of, primary_ask, secondary_ask, tab
 use Rattle.load.specs.Anew.{next_named, anew_primary_ask, asks_link, is_clear, fields_ask_in}
 use Rattle.load.specs.Step.{Step, acted}
 use Rattle.load.specs.Run.{condition_span}
+use Rattle.store_desk.specs.declared.Key.{Key}
 
 -- a field as the code has it is blamed
 abbrev pub blame_field : Field → ℕ → Fault
@@ -70,7 +70,7 @@ pub record NumbersFit (n : Numbers) : Type 0 where
   pub groups : n.groups ≤ most_records
   pub subs : n.subs ≤ most_records
 
-abbrev pub named_in : Desk → Numbers → Kind → List Word → Named
+abbrev pub named_in : Desk → Numbers → Kind → List Word → Result Key Fault
 named_in d n k ws = cond n.anew (next_named d n k ws) (named_of d k ws)
 
 abbrev pub primary_ask_in : Desk → Numbers → Kind → Word → List Word → Ask

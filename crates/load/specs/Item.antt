@@ -2,14 +2,10 @@
 -- its item; fields are tested left to right and the first fault is reported; an incomplete last item is dropped like one with a
 -- malformed field.
 -- Assumes nothing.
-use Rattle.std.specs.Prelude.{cond, List, [], ◌∷◌, ℕ}
+use Rattle.std.specs.Prelude.{cond, List, [], ◌∷◌, ℕ, Err, None, Ok, Option, Result, Some}
 use Rattle.store_desk.specs.declared.Desk.{Desk}
 use Rattle.store_desk.specs.Size.{is_within}
 use Rattle.store_desk.specs.Name.{Name}
-use Rattle.value.specs.declared.Integer.{Integer}
-use Rattle.value.specs.declared.Integer.TheVariants.{Malformed, Value}
-use Rattle.value_level.specs.declared.Leveled.{Leveled}
-use Rattle.value_level.specs.declared.Leveled.TheVariants.{NotPercent, NotHex, Value as IsLevel}
 use Rattle.value.specs.Integer.{integer_of}
 use Rattle.value_level.specs.Level.{level_of}
 use Rattle.text_fields.specs.Words.{Word, missing}
@@ -18,9 +14,9 @@ use Rattle.store.specs.Change.{edited, patched}
 use Rattle.load.specs.declared.Fault.{Fault}
 use Rattle.load.specs.declared.Entry.{Entry}
 use Rattle.load.specs.declared.Entry.TheVariants.{Level, Patch, Faulty}
-use Rattle.load.specs.declared.Ranged.{Ranged}
-use Rattle.load.specs.declared.Ranged.TheVariants.{Within, Wrong}
 use Rattle.load.specs.Condition.{malformed_integer, bad_hex, bad_channel, bad_dimmer, bad_percent}
+use Rattle.value_level.specs.declared.LevelError.{LevelError}
+use Rattle.value_level.specs.declared.LevelError.TheVariants.{NotPercent, NotHex}
 
 -- a field is blamed, by its place in the record's text; or none is
 abbrev pub blame : Word → ℕ → Fault
@@ -30,27 +26,27 @@ abbrev pub blame_none : ℕ → Fault
 blame_none c = record { condition = c; place = 0 }
 
 -- an integer from 1 to a limit, and the condition of one beyond it
-unfoldable pub ranged_of : ℕ → ℕ → Integer → Ranged
-ranged_of limit beyond Malformed = Wrong malformed_integer
-ranged_of limit beyond (Value n) = cond (is_within 1 n limit) (Within n) (Wrong beyond)
+unfoldable pub ranged_of : ℕ → ℕ → Option ℕ → Result ℕ ℕ
+ranged_of limit beyond None = Err malformed_integer
+ranged_of limit beyond (Some n) = cond (is_within 1 n limit) (Ok n) (Err beyond)
 
 -- §7.3: a channel is 1 to C
-abbrev pub channel_of : Desk → Word → Ranged
+abbrev pub channel_of : Desk → Word → Result ℕ ℕ
 channel_of d w = ranged_of d.channels bad_channel (integer_of w.chars)
 
 -- §8.6: a dimmer is 1 to D
-abbrev pub dimmer_of : Desk → Word → Ranged
+abbrev pub dimmer_of : Desk → Word → Result ℕ ℕ
 dimmer_of d w = ranged_of d.dimmers bad_dimmer (integer_of w.chars)
 
 -- go on with what a field gives, or blame the field
-unfoldable pub on_ranged : Word → Ranged → (ℕ → Entry) → Entry
-on_ranged w (Within n) f = f n
-on_ranged w (Wrong condition) f = Faulty (blame w condition)
+unfoldable pub on_ranged : Word → Result ℕ ℕ → (ℕ → Entry) → Entry
+on_ranged w (Ok n) f = f n
+on_ranged w (Err condition) f = Faulty (blame w condition)
 
-unfoldable pub on_level : Word → Leveled → (ℕ → Entry) → Entry
-on_level w NotPercent f = Faulty (blame w bad_percent)
-on_level w NotHex f = Faulty (blame w bad_hex)
-on_level w (IsLevel v) f = f v
+unfoldable pub on_level : Word → Result ℕ LevelError → (ℕ → Entry) → Entry
+on_level w (Err NotPercent) f = Faulty (blame w bad_percent)
+on_level w (Err NotHex) f = Faulty (blame w bad_hex)
+on_level w (Ok v) f = f v
 
 -- CHAN: channel, level
 unfoldable pub pair_of : Desk → Word → Word → Entry

@@ -51,11 +51,12 @@ pub fn blamed(f: Field, condition: u32) -> Fault
     ensures { result ≡ blame_field f condition }
 {
     if text_fields::is_missing(f) {
-        return blameless(condition);
-    }
-    Fault {
-        condition,
-        place: f.start + 1,
+        blameless(condition)
+    } else {
+        Fault {
+            condition,
+            place: f.start + 1,
+        }
     }
 }
 
@@ -66,12 +67,13 @@ pub fn blamed_at(text: &[u8], at: usize, condition: u32) -> Fault
 {
     let start = text_fields::field_start(text, at);
     if start < text.len() {
-        return Fault {
+        Fault {
             condition,
             place: start + 1,
-        };
+        }
+    } else {
+        blameless(condition)
     }
-    blameless(condition)
 }
 
 // A record's outcome. Stopped carries condition 0 for ENDDATA, else 91 or 99.
@@ -114,40 +116,12 @@ pub enum Basic {
     Unknown,
 }
 
-// A primary's number: its whole number and fraction, or what is wrong with it.
-#[derive(Clone, Copy)]
-pub enum Numeral {
-    Wrong(Fault),
-    Number(u32, u32),
-}
-
-// A primary's name: its key, or why it is refused.
-#[derive(Clone, Copy)]
-pub enum Named {
-    Refused(Fault),
-    Name(Key),
-}
-
-// A secondary's fields: the change they ask for, or what is wrong with them.
-#[derive(Clone, Copy)]
-pub enum Reading {
-    Wrong(Fault),
-    Change(Edit),
-}
-
 // What an item of a record comes to: a channel's level, a dimmer's channel and level, or a fault.
 #[derive(Clone, Copy)]
 pub enum Entry {
     Level(u32, u8),
     Patch(u32, u32, u8),
     Faulty(Fault),
-}
-
-// A channel or dimmer: in its range, or the condition that it is reported under.
-#[derive(Clone, Copy)]
-pub enum Ranged {
-    Within(u32),
-    Wrong(u32),
 }
 
 // How a load names its memories: by the numbers that the stream has; or anew, after how many that it accepted of each kind (C-13).

@@ -1,50 +1,10 @@
--- A bit of a byte: as the code divides it out, and set by adding its weight where it is not set. By cases on the eight bits, and by induction on
--- the bit.
+-- A bit of a byte, as the code shifts it out and sets it. By induction on the bit, and bit by bit.
 -- Assumes nothing.
-use mathlib.Core.Path.{◌≡◌, refl, sym, ap, ◌∙◌, subst}
-use Prim.Native.Nat.{ℕ, zero, suc, ◌+◌, ◌/◌, ◌%◌, ◌≤◌, ◌<◌, zero-le}
-use native.Mathlib.Omega.{arith}
-use Rattle.load_hear.specs.Marks.{power, bit_of, with_bit}
-
-by_eight {ℓ} : (P : ℕ → Type ℓ) (b : ℕ) → b < 8 → P 0 → P 1 → P 2 → P 3 → P 4 → P 5 → P 6 → P 7 → P b
-by_eight P zero h p q r s t u v w = p
-by_eight P (suc zero) h p q r s t u v w = q
-by_eight P (suc (suc zero)) h p q r s t u v w = r
-by_eight P (suc (suc (suc zero))) h p q r s t u v w = s
-by_eight P (suc (suc (suc (suc zero)))) h p q r s t u v w = t
-by_eight P (suc (suc (suc (suc (suc zero))))) h p q r s t u v w = u
-by_eight P (suc (suc (suc (suc (suc (suc zero)))))) h p q r s t u v w = v
-by_eight P (suc (suc (suc (suc (suc (suc (suc zero))))))) h p q r s t u v w = w
-by_eight P (suc (suc (suc (suc (suc (suc (suc (suc b)))))))) h p q r s t u v w = absurd (omega arith)
-
--- ---- the weight of a bit
-past : {n k : ℕ} → n ≤ k → (k ≡ n → ⊥) → n + 1 ≤ k
-past h e = omega arith
-
-last_is : {b : ℕ} → b < 8 → 7 ≤ b → 7 ≡ b
-last_is h g = omega arith
-
-pub power_some : (b : ℕ) → 0 < power b
-unfolding power
-power_some zero = omega arith
-power_some (suc b) = let h : 0 < power b = power_some b in omega arith
-
--- the last one, where it is none of the others
-module _ (b : ℕ) (h : b < 8) where
-  pub power_last : (b ≡ 0 → ⊥) → (b ≡ 1 → ⊥) → (b ≡ 2 → ⊥) → (b ≡ 3 → ⊥) → (b ≡ 4 → ⊥) → (b ≡ 5 → ⊥) → (b ≡ 6 → ⊥) → 128 ≡ power b
-  unfolding power
-  power_last p q r s t u v =
-      ap power (last_is h (past (past (past (past (past (past (past zero-le p) q) r) s) t) u) v))
-
--- ---- a bit divided out
-bit_divides : (b c : ℕ) → b < 8 → c / power b % 2 ≡ bit_of b c
-unfolding power bit_of
-bit_divides b c h =
-    by_eight (λ (k : ℕ). c / power k % 2 ≡ bit_of k c) b h
-    (omega arith) (omega arith) (omega arith) (omega arith) (omega arith) (omega arith) (omega arith) (omega arith)
-
-pub bit_is : (b c : ℕ) → b < 8 → {w : ℕ} → w ≡ power b → c / w % 2 ≡ bit_of b c
-bit_is b c h e = ap (λ (w : ℕ). c / w % 2) e ∙ bit_divides b c h
+use Rattle.std.proofs.Common.{◌≡◌, ℕ, zero, suc, ◌+◌, ◌*◌, ◌/◌, ◌%◌, ◌^◌, ◌<◌, bit_and, bit_or, refl, sym, ap, ◌∙◌, arith}
+use Rattle.std.specs.Int.{bit_at, w8}
+use Rattle.std.proofs.lemmas.Nat.Bits.{bit_at_lowest, bit_at-suc, shr_and_one, bit_at_set_same, bit_at_set_other, same_from_bits}
+use Rattle.cells.proofs.Split.{by_eq}
+use Rattle.load_hear.specs.Marks.{bit_of, with_bit}
 
 -- 0 has none
 pub no_bit : (b : ℕ) → bit_of b 0 ≡ 0
@@ -52,31 +12,43 @@ unfolding bit_of
 no_bit zero = refl
 no_bit (suc b) = no_bit b
 
--- ---- a bit that is set stays as it is; else its weight is added
-with_set : (b c : ℕ) → bit_of b c ≡ 1 → with_bit b c ≡ c
+-- ---- the bit that is set, and the others
+pub bit_same : (b c : ℕ) → bit_of b (with_bit b c) ≡ 1
 unfolding bit_of with_bit
-with_set zero c e = omega arith
-with_set (suc b) c e = let h : with_bit b (c / 2) ≡ c / 2 = with_set b (c / 2) e in omega arith
+bit_same zero c = omega arith
+bit_same (suc b) c =
+    let e : (with_bit b (c / 2) * 2 + c % 2) / 2 ≡ with_bit b (c / 2) = omega arith in
+    ap (λ (k : ℕ). bit_of b k) e ∙ bit_same b (c / 2)
 
-with_new : (b c : ℕ) → (bit_of b c ≡ 1 → ⊥) → with_bit b c ≡ c + power b
-unfolding bit_of with_bit power
-with_new zero c n = omega arith
-with_new (suc b) c n = let h : with_bit b (c / 2) ≡ c / 2 + power b = with_new b (c / 2) n in omega arith
+pub bit_other : (a b c : ℕ) → (a ≡ b → ⊥) → bit_of a (with_bit b c) ≡ bit_of a c
+unfolding bit_of with_bit
+bit_other zero zero c n = absurd (n refl)
+bit_other zero (suc b) c n = omega arith
+bit_other (suc a) zero c n =
+    let e : (c / 2 * 2 + 1) / 2 ≡ c / 2 = omega arith in
+    ap (λ (k : ℕ). bit_of a k) e
+bit_other (suc a) (suc b) c n =
+    let e : (with_bit b (c / 2) * 2 + c % 2) / 2 ≡ with_bit b (c / 2) = omega arith in
+    ap (λ (k : ℕ). bit_of a k) e ∙ bit_other a b (c / 2) (λ f. n (ap suc f))
 
-with_room : (b c : ℕ) → b < 8 → c < 256 → (bit_of b c ≡ 1 → ⊥) → c + power b < 256
-unfolding bit_of power
-with_room b c h =
-    by_eight (λ (k : ℕ). c < 256 → (bit_of k c ≡ 1 → ⊥) → c + power k < 256) b h
-    (λ f n. omega arith) (λ f n. omega arith) (λ f n. omega arith) (λ f n. omega arith)
-    (λ f n. omega arith) (λ f n. omega arith) (λ f n. omega arith) (λ f n. omega arith)
+-- ---- as the library has them
+bit_is : (b c : ℕ) → bit_of b c ≡ bit_at c b
+unfolding bit_of
+bit_is zero c = sym (bit_at_lowest c)
+bit_is (suc b) c = bit_is b (c / 2) ∙ sym (bit_at-suc c b)
 
-module _ (b c : ℕ) {r : ℕ} (e : r ≡ bit_of b c) where
-  pub set_stays : r ≡ 1 → c ≡ with_bit b c
-  set_stays f = sym (with_set b c (sym e ∙ f))
+pub bit_shifted : (b c : ℕ) → bit_and (c / 2 ^ b) 1 ≡ bit_of b c
+bit_shifted b c = shr_and_one c b ∙ sym (bit_is b c)
 
-  module _ (n : r ≡ 1 → ⊥) {w : ℕ} (f : w ≡ power b) where
-    pub new_is : c + w ≡ with_bit b c
-    new_is = ap (λ (k : ℕ). c + k) f ∙ sym (with_new b c (λ g. n (e ∙ g)))
-
-    pub new_room : b < 8 → c < 256 → c + w < 256
-    new_room h g = subst (λ (k : ℕ). c + k < 256) (sym f) (with_room b c h g (λ q. n (e ∙ q)))
+pub bit_set : (b c : ℕ) → b < 8 → bit_or c (1 * 2 ^ b % 2 ^ 8) ≡ with_bit b c
+bit_set b c h =
+    same_from_bits _ _
+    (λ i.
+    by_eq i b
+    (λ e.
+    ap (bit_at (bit_or c (1 * 2 ^ b % 2 ^ 8))) e
+    ∙ bit_at_set_same w8 c b h
+    ∙ sym (bit_same b c)
+    ∙ bit_is b (with_bit b c)
+    ∙ sym (ap (bit_at (with_bit b c)) e))
+    (λ n. bit_at_set_other w8 c b h i n ∙ sym (bit_is i c) ∙ sym (bit_other i b c n) ∙ bit_is i (with_bit b c)))

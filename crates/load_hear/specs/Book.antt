@@ -1,64 +1,57 @@
--- The lent lists of a load with translation, and what they hold after a record: how many of each kind were accepted, and how many CUE records there
--- were; the marks; what the cue of each slot asked for (paper 02, C-13). In a normal load the first is shorter, and none changes. No promise above
--- the load names these.
+-- The book of a load with translation, and what it holds after a record: how many of each kind were accepted, and how many CUE records there were; the
+-- marks; what the cue of each slot asked for (paper 02, C-13). No promise above the load names these.
 -- Assumes nothing.
-use Rattle.std.specs.Prelude.{Bool, cond, List, [], ◌∷◌, ℕ, ◌+◌, ◌≤◌, ltb, length, get_or, set}
+use Rattle.std.specs.Prelude.{true, ℕ, ◌+◌, ◌≤◌, replicate}
 use Rattle.store_desk.specs.declared.Kind.TheVariants.{Cue, Group, Sub}
 use Rattle.load.specs.declared.Heard.{Heard}
 use Rattle.load.specs.declared.Heard.TheVariants.{Other, Accepted, Refused, Link as Asked}
 use Rattle.load.specs.declared.Numbers.{Numbers}
-use Rattle.load.specs.Fits.{most_records, NumbersFit}
-use Rattle.load.specs.Translated.{Note, asked_at}
+use Rattle.load.specs.Translated.{asked_at, most_cues}
+use Rattle.load_hear.specs.declared.Book.{Book}
+use Rattle.load_hear.specs.declared.Counts.{Counts}
 use Rattle.load_hear.specs.Marks.{marked_at}
 
--- ---- the counters: cues, groups, submasters, CUE records
+-- ---- the counts: cues, groups, submasters, CUE records
 
-unfoldable pub is_anew : List ℕ → Bool
-is_anew l = ltb 3 (length l)
+unfoldable pub counted_at : Counts → Heard → Counts
+counted_at c Other = c
+counted_at c (Accepted Cue) = record { cues = c.cues + 1; groups = c.groups; subs = c.subs; tried = c.tried + 1 }
+counted_at c (Accepted Group) = record { cues = c.cues; groups = c.groups + 1; subs = c.subs; tried = c.tried }
+counted_at c (Accepted Sub) = record { cues = c.cues; groups = c.groups; subs = c.subs + 1; tried = c.tried }
+counted_at c (Refused Cue) = record { cues = c.cues; groups = c.groups; subs = c.subs; tried = c.tried + 1 }
+counted_at c (Refused Group) = c
+counted_at c (Refused Sub) = c
+counted_at c (Asked m) = c
 
-unfoldable pub numbers_in : List ℕ → Numbers
-numbers_in l = record { anew = is_anew l; cues = get_or l 0 0; groups = get_or l 1 0; subs = get_or l 2 0 }
+-- no count is above n
+pub record CountsWithin (c : Counts) (n : ℕ) : Type 0 where
+  pub cues : c.cues ≤ n
+  pub groups : c.groups ≤ n
+  pub subs : c.subs ≤ n
+  pub tried : c.tried ≤ n
 
-unfoldable pub tried_in : List ℕ → ℕ
-tried_in l = get_or l 3 0
+-- ---- the book
 
-abbrev pub one_more_at : List ℕ → ℕ → List ℕ
-one_more_at l i = set l i (get_or l i 0 + 1)
+abbrev pub book_numbers : Book → Numbers
+book_numbers b = record { anew = true; cues = b.counts.cues; groups = b.counts.groups; subs = b.counts.subs }
 
-unfoldable pub counted_at : List ℕ → Heard → List ℕ
-counted_at l Other = l
-counted_at l (Accepted Cue) = one_more_at (one_more_at l 0) 3
-counted_at l (Accepted Group) = one_more_at l 1
-counted_at l (Accepted Sub) = one_more_at l 2
-counted_at l (Refused Cue) = one_more_at l 3
-counted_at l (Refused Group) = l
-counted_at l (Refused Sub) = l
-counted_at l (Asked m) = l
-
--- of all the records that were read
-unfoldable pub counts_by : List ℕ → List Note → List ℕ
-counts_by l [] = l
-counts_by l (n ∷ ns) = counts_by (counted_at l n.heard) ns
-
--- counters that can grow
-pub record CountersFit (l : List ℕ) : Type 0 where
-  pub numbers : NumbersFit (numbers_in l)
-  pub tried : tried_in l ≤ most_records
-
--- ---- all three lists
-
-pub record Book : Type 0 where
-  pub numbers : List ℕ
-  pub marks : List ℕ
-  pub asked : List ℕ
-
-abbrev pub booking : List ℕ → List ℕ → List ℕ → Book
-booking l ms qs = record { numbers = l; marks = ms; asked = qs }
-
--- a normal load hears nothing
-abbrev pub heard_by : List ℕ → Heard → Heard
-heard_by l h = cond (is_anew l) h Other
+abbrev pub BookWithin : Book → ℕ → Type 0
+BookWithin b n = CountsWithin b.counts n
 
 -- after a record, with the slot of the memory that is open after it
-abbrev pub booked_at : List ℕ → List ℕ → List ℕ → Heard → ℕ → Book
-booked_at l ms qs h slot = booking (counted_at l h) (marked_at ms (tried_in l) h) (asked_at qs slot h)
+abbrev pub booked_at : Book → Heard → ℕ → Book
+booked_at b h slot =
+    record {
+      counts = counted_at b.counts h;
+      marks = marked_at b.marks b.counts.tried h;
+      asked = asked_at b.asked slot h;
+    }
+
+-- of no kind was one accepted, and no CUE was tried
+abbrev pub new_book : Book
+new_book =
+    record {
+      counts = record { cues = 0; groups = 0; subs = 0; tried = 0 };
+      marks = replicate 8192 0;
+      asked = replicate most_cues 0;
+    }

@@ -1,2 +1,5 @@
 pub mod Marks
+pub mod Naming
+pub mod Given
 pub mod Book
+pub mod Kept

@@ -9,10 +9,6 @@ use Rattle.load.specs.Translated.{Note}
 
 -- ---- bits of a byte, the lowest first
 
-unfoldable pub power : ℕ → ℕ
-power zero = 1
-power (suc b) = power b * 2
-
 unfoldable pub bit_of : ℕ → ℕ → ℕ
 bit_of zero c = c % 2
 bit_of (suc b) c = bit_of b (c / 2)

@@ -1,5 +1,6 @@
 -- CLEAR: its page, the tables that have it, what is left open, and the item by which it goes. By cases on the page and the item.
 -- Assumes nothing.
+use Rattle.std.specs.Prelude.{None, Option, Some}
 use mathlib.Core.Path.{◌≡◌, sym, ap, ◌∙◌, subst}
 use mathlib.Core.Bool.{Bool, true, false, cond}
 use mathlib.Core.List.{List, [], ◌∷◌, ◌++◌}
@@ -22,8 +23,6 @@ use Rattle.text_fields.specs.Places.{words_from, start_at, end_at}
 use Rattle.text_fields.specs.Keywords.{item_of}
 use Rattle.text_fields.specs.Tables.{said_item_at}
 use Rattle.text_fields.proofs.Words.{start_from, start_within, end_within, words_none, words_tail, said_item_head}
-use Rattle.value.specs.declared.Paged.{Paged}
-use Rattle.value.specs.declared.Paged.TheVariants.{Bad, Value as IsPage}
 use Rattle.store.specs.Change.{every_page, cleared, cleared_patch}
 use Rattle.load.specs.declared.Fault.{Fault}
 use Rattle.load.specs.declared.State.{State}
@@ -43,12 +42,12 @@ use Rattle.load_held.specs.Held.{stepping, stepped_of}
 use Rattle.load_held.specs.Parts.{keyword_in}
 
 -- ---- pages within a table's fit the page's six bits
-pub page_le : (limit : ℕ) (ws : List Word) {x : Paged} {p : ℕ} → x ≡ page_at every_page limit ws → x ≡ IsPage p → p ≤ limit
+pub page_le : (limit : ℕ) (ws : List Word) {x : Option ℕ} {p : ℕ} → x ≡ page_at every_page limit ws → x ≡ Some p → p ≤ limit
 page_le limit ws e g =
-    (subst (λ (x : Paged). PageIn 0 limit x) (sym e ∙ g) (page_at_in 0 every_page limit (omega arith) (omega arith) ws)).1
+    (subst (λ (x : Option ℕ). PageIn 0 limit x) (sym e ∙ g) (page_at_in 0 every_page limit (omega arith) (omega arith) ws)).1
 
-pub kind_page : (d : Desk) (k : Kind) → InRange d → (ws : List Word) {limit : ℕ} {x : Paged} {p : ℕ} → limit ≡ pages_of d k
-    → x ≡ page_at every_page limit ws → x ≡ IsPage p → p < most_pages + 1
+pub kind_page : (d : Desk) (k : Kind) → InRange d → (ws : List Word) {limit : ℕ} {x : Option ℕ} {p : ℕ} → limit ≡ pages_of d k
+    → x ≡ page_at every_page limit ws → x ≡ Some p → p < most_pages + 1
 kind_page d k r ws {limit} l e g =
     let a = page_le limit ws e g in
     let b = pages_le d r k in
@@ -62,14 +61,14 @@ table_page d k r {n} {p} e h =
     omega arith
 
 -- ---- what is asked: a page that is wrong, and one that is right
-module _ (w : Word) (g : ℕ → List Wipe) {x : Paged} where
-  pub paged_bad : x ≡ Bad → {f : Fault} → f ≡ blame w bad_page → rests (Dropped f) ≡ paged_ask w x g
+module _ (w : Word) (g : ℕ → List Wipe) {x : Option ℕ} where
+  pub paged_bad : x ≡ None → {f : Fault} → f ≡ blame w bad_page → rests (Dropped f) ≡ paged_ask w x g
   unfolding paged_ask
-  paged_bad e h = ap (λ (y : Fault). rests (Dropped y)) h ∙ sym (ap (λ (y : Paged). paged_ask w y g) e)
+  paged_bad e h = ap (λ (y : Fault). rests (Dropped y)) h ∙ sym (ap (λ (y : Option ℕ). paged_ask w y g) e)
 
-  pub paged_good : {p : ℕ} → x ≡ IsPage p → clears (g p) ≡ paged_ask w x g
+  pub paged_good : {p : ℕ} → x ≡ Some p → clears (g p) ≡ paged_ask w x g
   unfolding paged_ask
-  paged_good e = sym (ap (λ (y : Paged). paged_ask w y g) e)
+  paged_good e = sym (ap (λ (y : Option ℕ). paged_ask w y g) e)
 
 -- a kind
 abbrev pub one_table : Kind → ℕ → List Wipe
@@ -80,26 +79,26 @@ module _ (d : Desk) (k : Kind) (ws : List Word) {b : Bool} (s : b ≡ supported 
   unfolding kind_ask
   kind_unsupported e = sym (cond-false (supported d k) _ _ (sym s ∙ e))
 
-  pub kind_as : b ≡ true → {limit : ℕ} {x : Paged} → limit ≡ pages_of d k → x ≡ page_at every_page limit ws
+  pub kind_as : b ≡ true → {limit : ℕ} {x : Option ℕ} → limit ≡ pages_of d k → x ≡ page_at every_page limit ws
       → paged_ask (head_of ws) x (one_table k) ≡ kind_ask d k ws
   unfolding kind_ask
   kind_as e l g =
-      ap (λ (y : Paged). paged_ask (head_of ws) y (one_table k)) (g ∙ ap (λ (y : ℕ). page_at every_page y ws) l)
+      ap (λ (y : Option ℕ). paged_ask (head_of ws) y (one_table k)) (g ∙ ap (λ (y : ℕ). page_at every_page y ws) l)
       ∙ sym (cond-true (supported d k) _ _ (sym s ∙ e))
 
 -- the patch, all tables
 abbrev pub one_patch_of : ℕ → List Wipe
 one_patch_of p = dimmers p ∷ []
 
-pub dimmers_as : (d : Desk) (ws : List Word) {x : Paged} → x ≡ page_at every_page d.patch_pages ws
+pub dimmers_as : (d : Desk) (ws : List Word) {x : Option ℕ} → x ≡ page_at every_page d.patch_pages ws
     → paged_ask (head_of ws) x one_patch_of ≡ dimmers_ask d ws
 unfolding dimmers_ask
-dimmers_as d ws g = ap (λ (y : Paged). paged_ask (head_of ws) y one_patch_of) g
+dimmers_as d ws g = ap (λ (y : Option ℕ). paged_ask (head_of ws) y one_patch_of) g
 
-pub all_as : (d : Desk) (ws : List Word) {limit : ℕ} {x : Paged} → limit ≡ highest_page d → x ≡ page_at every_page limit ws
+pub all_as : (d : Desk) (ws : List Word) {limit : ℕ} {x : Option ℕ} → limit ≡ highest_page d → x ≡ page_at every_page limit ws
     → paged_ask (head_of ws) x (all_wipes d) ≡ all_ask d ws
 all_as d ws l g =
-    ap (λ (y : Paged). paged_ask (head_of ws) y (all_wipes d)) (g ∙ ap (λ (y : ℕ). page_at every_page y ws) l) ∙ sym (all_ask_lem d ws)
+    ap (λ (y : Option ℕ). paged_ask (head_of ws) y (all_wipes d)) (g ∙ ap (λ (y : ℕ). page_at every_page y ws) l) ∙ sym (all_ask_lem d ws)
 
 -- ---- what the store does with it
 module _ (d : Desk) (s : State) (t : List ℕ) {u : List ℕ} {r : Stepped} (z : stepping r u ≡ stepped_of d (ended (settle d s u) Obeyed u)) where

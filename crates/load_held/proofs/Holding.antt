@@ -1,6 +1,7 @@
 -- What is open, with its slot: a slot that stays where the store finds each memory as before, and what is left open after CLEAR. By cases on
 -- what is open.
 -- Assumes nothing.
+use Rattle.std.specs.Prelude.{None, Option, Some}
 use mathlib.Core.Path.{◌≡◌, refl, sym, ap, ◌∙◌, subst}
 use mathlib.Core.List.{List}
 use Prim.Native.Nat.{ℕ, ◌<◌}
@@ -12,8 +13,6 @@ use Rattle.store_desk.specs.declared.Key.{Key}
 use Rattle.store_desk.specs.declared.Kind.{Kind}
 use Rattle.store_desk.specs.Size.{slots_of}
 use Rattle.store_desk.specs.Name.{Name, KeyFits}
-use Rattle.store.specs.declared.Place.{Place}
-use Rattle.store.specs.declared.Place.TheVariants.{At, Nowhere}
 use Rattle.store.specs.declared.Edit.{Edit}
 use Rattle.store.specs.Slots.{find, on_found, place_of}
 use Rattle.store.specs.Change.{edited}
@@ -90,8 +89,8 @@ module _ (d : Desk) (t : List ℕ) (s : State) where
   settle_skipping e =
       sym (ap (λ (o : Open). held_of d t (settle_by d s o t)) e ∙ (λ i. record { state = s; slot = slot_by d t s.key (e i) }))
 
-  module _ {k : Kind} (e : s.«open» ≡ Memory k) {p : Place} (g : p ≡ place_of (find d t (name k s.key))) where
-    pub settle_found : {i : ℕ} → p ≡ At i → ◌≡◌ {A = Held} (record { state = s; slot = i }) (held_of d t (settle d s t))
+  module _ {k : Kind} (e : s.«open» ≡ Memory k) {p : Option ℕ} (g : p ≡ place_of (find d t (name k s.key))) where
+    pub settle_found : {i : ℕ} → p ≡ Some i → ◌≡◌ {A = Held} (record { state = s; slot = i }) (held_of d t (settle d s t))
     unfolding held_of settle_by slot_by on_found
     settle_found {i} h =
         let f : find d t (name k s.key) ≡ at i = place_at g h in
@@ -100,7 +99,7 @@ module _ (d : Desk) (t : List ℕ) (s : State) where
         ∙ (λ j. record { state = s; slot = slot_by d t s.key (e j) })
         ∙ (λ j. record { state = s; slot = on_found (f j) (λ x. x) 0 }))
 
-    pub settle_gone : p ≡ Nowhere → {h : Held} → h ≡ resting Nothing → h ≡ held_of d t (settle d s t)
+    pub settle_gone : p ≡ None → {h : Held} → h ≡ resting Nothing → h ≡ held_of d t (settle d s t)
     unfolding held_of settle_by slot_by on_found
     settle_gone h q =
         let f : find d t (name k s.key) ≡ nowhere = place_nowhere g h in

@@ -8,16 +8,14 @@ ghost use Rattle.text_fields.specs.Places.{words_from};
 ghost use Rattle.store_code.specs.Fits.{Fitting};
 ghost use Rattle.load.specs.Ask.{kind_ask, dimmers_ask, kind_wipes, dimmer_wipes, all_wipes, all_ask};
 ghost use Rattle.load.specs.Fits.{clear_ask_in};
-ghost use Rattle.load.specs.Step.{ended as endedStep, settle, wiped, acted};
+ghost use Rattle.load.specs.Step.{ended as ended_step, settle, wiped, acted};
 ghost use Rattle.load_naming.specs.Line.{Line};
 ghost use Rattle.load_held.specs.Held.{held_of, HeldReady, stepping, stepped_of};
-ghost use Rattle.load_held.specs.Parts.{keyword_in, resting as restingAs, ended_as, did_as, with_held};
+ghost use Rattle.load_held.specs.Parts.{keyword_in, resting as resting_as, ended_as, did_as, with_held};
 
 use load::{Open, Outcome, State};
-use store::Place;
 use store_desk::{Desk, Key, Kind};
 use text_fields::Item;
-use value::Paged;
 
 // What is open, with the slot where the store keeps it (0 where nothing is open).
 #[derive(Clone, Copy)]
@@ -68,17 +66,16 @@ pub fn answered(outcome: Outcome) -> Did
 pub fn with_held(held: Held, d: Did) -> Stepped
     ensures { result ≡ with_held held d }
 {
-    let outcome = d.outcome;
     Stepped {
         held,
-        outcome,
+        outcome: d.outcome,
         faults: d.faults,
     }
 }
 
 // With no memory open.
 pub fn resting(open: Open) -> Held
-    ensures { result ≡ restingAs «open» }
+    ensures { result ≡ resting_as «open» }
 {
     let key = Key {
         page: 0,
@@ -97,13 +94,11 @@ fn settled(desk: Desk, state: State, store: &[u8]) -> Held
     requires key_fits { KeyFits state.key }
     ensures { result ≡ held_of desk store.now (settle desk state store.now) }
 {
-    let open = state.open;
-    match open {
-        Open::Nothing => Held { state, slot: 0 },
-        Open::Skipping => Held { state, slot: 0 },
+    match state.open {
+        Open::Nothing | Open::Skipping => Held { state, slot: 0 },
         Open::Memory(kind) => match store_code::find(desk, store, kind, state.key) {
-            Place::At(slot) => Held { state, slot },
-            Place::Nowhere => resting(Open::Nothing),
+            Some(slot) => Held { state, slot },
+            None => resting(Open::Nothing),
         },
     }
 }
@@ -111,7 +106,7 @@ fn settled(desk: Desk, state: State, store: &[u8]) -> Held
 fn cleared(desk: Desk, state: State, store: &[u8]) -> Stepped
     requires fitting { Fitting desk store.now }
     requires key_fits { KeyFits state.key }
-    ensures { stepping result store.now ≡ stepped_of desk (endedStep (settle desk state store.now) Outcome.Obeyed store.now) }
+    ensures { stepping result store.now ≡ stepped_of desk (ended_step (settle desk state store.now) Outcome.Obeyed store.now) }
 {
     ended(settled(desk, state, store), Outcome::Obeyed)
 }
@@ -130,19 +125,15 @@ fn clear_kind(
     requires held_ready { HeldReady desk store.old held }
     ensures { stepping result store.new ≡ stepped_of desk (acted desk held.state store.old (kind_ask desk kind (words_from text.now at))) }
 {
-    if store_desk::supports(desk, kind) {
-        match load_naming::page_at(EVERY_PAGE, store_desk::pages(desk, kind), text, at) {
-            Paged::Bad => {
-                return ended(held, Outcome::Dropped(load::blamed_at(text, at, BAD_PAGE)));
-            }
-            Paged::Value(page) => {
-                store_code::clear_kind(desk, &mut *store, kind, page);
-                let state = held.state;
-                return cleared(desk, state, store);
-            }
-        }
+    if !store_desk::supports(desk, kind) {
+        return ended(held, Outcome::Obeyed);
     }
-    ended(held, Outcome::Obeyed)
+    let Some(page) = load_naming::page_at(EVERY_PAGE, store_desk::pages(desk, kind), text, at)
+    else {
+        return ended(held, Outcome::Dropped(load::blamed_at(text, at, BAD_PAGE)));
+    };
+    store_code::clear_kind(desk, store, kind, page);
+    cleared(desk, held.state, store)
 }
 
 fn clear_patch(desk: Desk, held: Held, text: &[u8], at: usize, store: &mut [u8]) -> Stepped
@@ -151,14 +142,11 @@ fn clear_patch(desk: Desk, held: Held, text: &[u8], at: usize, store: &mut [u8])
     requires held_ready { HeldReady desk store.old held }
     ensures { stepping result store.new ≡ stepped_of desk (acted desk held.state store.old (dimmers_ask desk (words_from text.now at))) }
 {
-    match load_naming::page_at(EVERY_PAGE, desk.patch_pages, text, at) {
-        Paged::Bad => ended(held, Outcome::Dropped(load::blamed_at(text, at, BAD_PAGE))),
-        Paged::Value(page) => {
-            store_code::clear_patch(desk, &mut *store, page);
-            let state = held.state;
-            cleared(desk, state, store)
-        }
-    }
+    let Some(page) = load_naming::page_at(EVERY_PAGE, desk.patch_pages, text, at) else {
+        return ended(held, Outcome::Dropped(load::blamed_at(text, at, BAD_PAGE)));
+    };
+    store_code::clear_patch(desk, store, page);
+    cleared(desk, held.state, store)
 }
 
 // A table without that page is left alone.
@@ -184,10 +172,10 @@ fn clear_tables(desk: Desk, page: u32, store: &mut [u8])
     requires { Fitting desk store.old }
     ensures { store.new ≡ wiped desk (all_wipes desk page) store.old }
 {
-    clear_dimmers(desk, page, &mut *store);
-    clear_table(desk, Kind::Cue, page, &mut *store);
-    clear_table(desk, Kind::Group, page, &mut *store);
-    clear_table(desk, Kind::Sub, page, &mut *store);
+    clear_dimmers(desk, page, store);
+    clear_table(desk, Kind::Cue, page, store);
+    clear_table(desk, Kind::Group, page, store);
+    clear_table(desk, Kind::Sub, page, store);
 }
 
 fn clear_all(desk: Desk, held: Held, text: &[u8], at: usize, store: &mut [u8]) -> Stepped
@@ -196,14 +184,12 @@ fn clear_all(desk: Desk, held: Held, text: &[u8], at: usize, store: &mut [u8]) -
     requires held_ready { HeldReady desk store.old held }
     ensures { stepping result store.new ≡ stepped_of desk (acted desk held.state store.old (all_ask desk (words_from text.now at))) }
 {
-    match load_naming::page_at(EVERY_PAGE, load_naming::most_pages(desk), text, at) {
-        Paged::Bad => ended(held, Outcome::Dropped(load::blamed_at(text, at, BAD_PAGE))),
-        Paged::Value(page) => {
-            clear_tables(desk, page, &mut *store);
-            let state = held.state;
-            cleared(desk, state, store)
-        }
-    }
+    let Some(page) = load_naming::page_at(EVERY_PAGE, load_naming::most_pages(desk), text, at)
+    else {
+        return ended(held, Outcome::Dropped(load::blamed_at(text, at, BAD_PAGE)));
+    };
+    clear_tables(desk, page, store);
+    cleared(desk, held.state, store)
 }
 
 // Where CLEAR looks for a page: behind its item, or nowhere where pages are ignored.
@@ -212,10 +198,7 @@ fn page_place(text: &[u8], end: usize, every: bool) -> usize
     ensures result_value { words_from text.now result ≡ cond every [] (words_from text.now end) }
     ensures upper_bound { result ≤ length text.now }
 {
-    if every {
-        return text.len();
-    }
-    end
+    if every { text.len() } else { end }
 }
 
 // `every`: whatever page it names, every page is cleared.
@@ -234,8 +217,7 @@ pub fn clear(
 {
     let said = text_fields::item_at(text, text_fields::field_start(text, at));
     let end = page_place(text, said.end, every);
-    let item = said.item;
-    match item {
+    match said.item {
         Item::All => clear_all(desk, held, text, end, store),
         Item::Cues => clear_kind(desk, held, Kind::Cue, text, end, store),
         Item::Groups => clear_kind(desk, held, Kind::Group, text, end, store),

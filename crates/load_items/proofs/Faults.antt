@@ -1,14 +1,13 @@
 -- Faults as words in a lent list: one behind the other, read back as they were, and the list's length kept. By the laws of a part
 -- replaced, and by induction on the faults.
 -- Assumes nothing.
-use mathlib.Core.Path.{◌≡◌, refl, sym, ap, ◌∙◌, subst}
+use mathlib.Core.Path.{◌≡◌, refl, sym, ap, ◌∙◌}
 use mathlib.Core.List.{List, [], ◌∷◌, ◌++◌, map, append-nil, map-append}
 use Prim.Native.Nat.{ℕ, ◌+◌, ◌/◌, ◌%◌, ◌<◌, ◌≤◌}
 use native.Mathlib.Omega.{arith}
 use lib.ListN.{length, set, take, length-append, length-map}
 use Rattle.cells.specs.Put.{put}
 use Rattle.cells.proofs.Put.{put_nil, put_push, part_same, length-put}
-use Rattle.text_records.specs.Received.{longest}
 use Rattle.load.specs.declared.Entry.{Entry}
 use Rattle.load.specs.declared.Entry.TheVariants.{Level, Patch, Faulty}
 use Rattle.load.specs.declared.Fault.{Fault}
@@ -16,7 +15,6 @@ use Rattle.load.specs.Item.{faults_of}
 use Rattle.load.specs.Run.{condition_span}
 use Rattle.load.specs.Fits.{fault_word, fault_in, Small}
 use Rattle.load_items.specs.Done.{faults_in, noted, noted_in}
-use Rattle.load_items.specs.Each.{PlaceFits}
 
 abbrev words : List Fault → List ℕ
 words xs = map (λ (f : Fault). fault_word f) xs
@@ -88,24 +86,3 @@ module _ (fs : List ℕ) (xs : List Fault) {n : ℕ} {gs : List ℕ} (c : n ≡ 
   noted_more (Faulty f) =
       let a : n + 1 ≡ length (xs ++ (f ∷ [])) = ap (λ (k : ℕ). k + 1) c ∙ sym (length-append xs (f ∷ [])) in
       λ i. noted (a i) (one_more f i)
-
--- as the code stores it: it fits a word
-module _ {e : Entry} {f : Fault} (q : e ≡ Faulty f) (h : PlaceFits e) where
-  pub fault_place : f.place ≤ longest
-  fault_place = (subst PlaceFits q h).0
-
-  pub fault_condition : f.condition < condition_span
-  fault_condition = (subst PlaceFits q h).1
-
-module _ (n : ℕ) (gs : List ℕ) {e : Entry} where
-  pub note_level : {k v : ℕ} → e ≡ Level k v → noted n gs ≡ noted_in n gs e
-  unfolding noted_in
-  note_level q = ap (noted_in n gs) (sym q)
-
-  pub note_patch : {k m v : ℕ} → e ≡ Patch k m v → noted n gs ≡ noted_in n gs e
-  unfolding noted_in
-  note_patch q = ap (noted_in n gs) (sym q)
-
-  pub note_fault : {f : Fault} → e ≡ Faulty f → noted (n + 1) (set gs n (fault_word f)) ≡ noted_in n gs e
-  unfolding noted_in
-  note_fault q = ap (noted_in n gs) (sym q)

@@ -1,19 +1,20 @@
 -- A field read in the scan that finds its end: where it ends with its digits, or with its level, these are its value; where it goes on, it is
 -- malformed. By the laws of runs of a word's characters, and by cases on the tests.
 -- Assumes nothing.
+use Rattle.std.specs.Prelude.{Err, None, Ok, Option, Result, Some}
 use mathlib.Core.Path.{◌≡◌, refl, sym, ap, ◌∙◌, subst}
 use mathlib.Core.Bool.{Bool, true, false, cond, not, ◌||◌}
 use mathlib.Core.List.{List}
 use Prim.Native.Nat.{ℕ, ◌+◌, ◌-◌, ◌<◌, ◌≤◌}
 use native.Mathlib.Omega.{arith}
-use lib.Dec.{eqb, leb}
+use lib.Dec.{eqb}
 use lib.ListN.{length, get_or, take, drop, length-drop}
 use lib.Seq.{drop-drop, get_or-drop}
-use borrow.Author.Tests.{eqb-true, le-leb, lt-leb}
+use borrow.Author.Tests.{eqb-true}
 use Rattle.cells.specs.Scan.{span}
 use Rattle.cells.specs.Table.{tab}
 use Rattle.cells.proofs.Scan.{span_le, span_within, span_past}
-use Rattle.cells.proofs.Split.{by_or, cond-true, cond-false, and_true, and_false_left, and_false_right}
+use Rattle.cells.proofs.Split.{by_or, cond-true, cond-false}
 use Rattle.cells.proofs.Table.{tab_same}
 use Rattle.store_desk.specs.Size.{is_within}
 use Rattle.text_records.specs.Cleaning.{has}
@@ -22,24 +23,19 @@ use Rattle.text_fields.specs.Places.{end_from}
 use Rattle.text_fields.specs.Tables.{chars_at, ends_at}
 use Rattle.text_fields.proofs.Runs.{ends_none, ends_some, run_end, run_whole, run_ends, run_less}
 use Rattle.value.specs.declared.DigitRun.{DigitRun}
-use Rattle.value.specs.declared.Integer.{Integer}
-use Rattle.value.specs.declared.Integer.TheVariants.{Malformed, Value}
 use Rattle.value.specs.Integer.{digit_of, integer_of}
 use Rattle.value.specs.Digits.{is_digit, digits_at}
 use Rattle.value.proofs.Runs.{run_end as digits-end, run_value as digits_value, by_digit, decimal_hex, integer_exact, integer_none, integer_longer}
-use Rattle.value_level.specs.declared.Leveled.{Leveled}
-use Rattle.value_level.specs.declared.Leveled.TheVariants.{NotPercent, NotHex, Value as IsLevel}
 use Rattle.value_level.specs.declared.Leveling.{Leveling}
 use Rattle.value_level.specs.Level.{is_hex_mark, level_of}
 use Rattle.value_level.specs.Run.{level_span, leveling_at}
 use Rattle.value_level.proofs.Spans.{level_span_le, level_chars, level_longer}
-use Rattle.load.specs.declared.Ranged.{Ranged}
-use Rattle.load.specs.declared.Ranged.TheVariants.{Within, Wrong}
-use Rattle.load.specs.Condition.{malformed_integer, bad_hex, bad_percent}
+use Rattle.load.specs.Condition.{malformed_integer}
 use Rattle.load.specs.Item.{ranged_of}
 use Rattle.load_items.specs.declared.Lit.{Lit}
 use Rattle.load_items.specs.declared.Read.{Read}
 use Rattle.load_items.specs.Each.{wrong_at, ranged_read, ranged_at, lit_by, lit_at, unlit_at}
+use Rattle.value_level.specs.declared.LevelError.TheVariants.{NotHex, NotPercent}
 
 -- ---- digits, and the mark of hexadecimal ones, are no delimiters
 abbrev plain : ℕ → Bool
@@ -71,13 +67,13 @@ module _ (text : List ℕ) (at : ℕ) where
     digits_within h = subst (λ (k : ℕ). k ≤ length text) (sym (digits-end 10 text at e)) (span_within (is_digit 10) text at h)
 
 module _ (limit beyond : ℕ) (text : List ℕ) (at : ℕ) where
-  read_by : {i : Integer} {k : ℕ} → integer_of (chars_at text at) ≡ i → end_from text at ≡ k
+  read_by : {i : Option ℕ} {k : ℕ} → integer_of (chars_at text at) ≡ i → end_from text at ≡ k
       → ranged_read (ranged_of limit beyond i) k ≡ ranged_at limit beyond text at
   unfolding ranged_at
   read_by e f = sym (λ j. ranged_read (ranged_of limit beyond (e j)) (f j))
 
   module _ {d : DigitRun} (e : d ≡ digits_at 10 text at) where
-    malformed_by : {x : Read} → integer_of (chars_at text at) ≡ Malformed → x ≡ wrong_at text d.end malformed_integer → x ≡ ranged_at limit beyond text at
+    malformed_by : {x : Read} → integer_of (chars_at text at) ≡ None → x ≡ wrong_at text d.end malformed_integer → x ≡ ranged_at limit beyond text at
     unfolding ranged_of ranged_read
     malformed_by {x} m q =
         let g : end_from text d.end ≡ end_from text at =
@@ -105,35 +101,27 @@ module _ (limit beyond : ℕ) (text : List ℕ) (at : ℕ) where
             let z : digits text at ≡ 0 = omega arith in
             malformed_by (ap integer_of whole_chars ∙ integer_none (drop at text) z) q
 
-        module _ (h : at < d.end) where
-          whole_value : integer_of (chars_at text at) ≡ Value d.value
+        module _ (h : at ≡ d.end → ⊥) where
+          whole_value : integer_of (chars_at text at) ≡ Some d.value
           whole_value =
               let g : d.end ≡ at + digits text at = digits-end 10 text at e in
               let n : 0 < digits text at = omega arith in
-              ap integer_of whole_chars ∙ integer_exact (drop at text) n ∙ ap Value (sym (digits_value 10 text at e))
+              ap integer_of whole_chars ∙ integer_exact (drop at text) n ∙ ap Some (sym (digits_value 10 text at e))
 
-          whole_read : ranged_read (ranged_of limit beyond (Value d.value)) d.end ≡ ranged_at limit beyond text at
+          whole_read : ranged_read (ranged_of limit beyond (Some d.value)) d.end ≡ ranged_at limit beyond text at
           whole_read = read_by whole_value (run_ends (is_digit 10) decimal_word text at (ends_is t) ∙ sym (digits-end 10 text at e))
 
-          outside : is_within 1 d.value limit ≡ false
+          pub ranged_outside : is_within 1 d.value limit ≡ false
               → ◌≡◌ {A = Read} (record { value = 0; condition = beyond; end = d.end }) (ranged_at limit beyond text at)
           unfolding ranged_of ranged_read
-          outside w =
-              sym (ap (λ (r : Ranged). ranged_read r d.end) (cond-false (is_within 1 d.value limit) (Within d.value) (Wrong beyond) w)) ∙ whole_read
+          ranged_outside w =
+              sym (ap (λ (r : Result ℕ ℕ). ranged_read r d.end) (cond-false (is_within 1 d.value limit) (Ok d.value) (Err beyond) w)) ∙ whole_read
 
-          pub ranged_zero : d.value ≡ 0 → ◌≡◌ {A = Read} (record { value = 0; condition = beyond; end = d.end }) (ranged_at limit beyond text at)
-          ranged_zero z = outside (and_false_left (leb 1 d.value) (leb d.value limit) (lt-leb 1 d.value (omega arith)))
-
-          pub ranged_high : limit < d.value → ◌≡◌ {A = Read} (record { value = 0; condition = beyond; end = d.end }) (ranged_at limit beyond text at)
-          ranged_high g = outside (and_false_right (leb 1 d.value) (leb d.value limit) (lt-leb d.value limit g))
-
-          pub ranged_within : (d.value ≡ 0 → ⊥) → d.value ≤ limit
+          pub ranged_within : is_within 1 d.value limit ≡ true
               → ◌≡◌ {A = Read} (record { value = d.value; condition = 0; end = d.end }) (ranged_at limit beyond text at)
           unfolding ranged_of ranged_read
-          ranged_within nz g =
-              let w : is_within 1 d.value limit ≡ true =
-              and_true (leb 1 d.value) (leb d.value limit) (le-leb 1 d.value (omega arith)) (le-leb d.value limit g) in
-              sym (ap (λ (r : Ranged). ranged_read r d.end) (cond-true (is_within 1 d.value limit) (Within d.value) (Wrong beyond) w)) ∙ whole_read
+          ranged_within w =
+              sym (ap (λ (r : Result ℕ ℕ). ranged_read r d.end) (cond-true (is_within 1 d.value limit) (Ok d.value) (Err beyond) w)) ∙ whole_read
 
 -- ---- a level
 module _ (text : List ℕ) (at : ℕ) where
@@ -188,36 +176,9 @@ module _ (text : List ℕ) (at : ℕ) where
           let z : 0 < span is_word (drop (at + run) text) = ends_some text (at + run) (level_ends t) in
           let n : span is_word (drop at text) ≡ run + span is_word (drop (at + run) text) = level_then in
           let k : run < span is_word (drop at text) = omega arith in
-          let v : level_of (chars_at text at) ≡ cond (is_hex_mark (get_or text at 0)) NotHex NotPercent =
+          let v : level_of (chars_at text at) ≡ cond (is_hex_mark (get_or text at 0)) (Err NotHex) (Err NotPercent) =
           level_longer (drop at text) (span is_word (drop at text)) k (span_le is_word (drop at text))
-          ∙ ap (λ (c : ℕ). cond (is_hex_mark c) NotHex NotPercent) first_is in
+          ∙ ap (λ (c : ℕ). cond (is_hex_mark c) (Err NotHex) (Err NotPercent)) first_is in
           let y : end_from text (at + run) ≡ end_from text at = omega arith in
           let w : end_from text l.end ≡ end_from text at = ap (λ (x : ℕ). end_from text x) leveling_end ∙ y in
           q ∙ (λ j. lit_by (sym v j) (w j))
-
-  -- as the code tells the format
-  module _ (end : ℕ) {last x : ℕ} {b : Bool} (g : last ≡ end_from text end) (q : x ≡ get_or text at 0) (f : b ≡ is_hex_mark x) where
-    mark_is : {v : Bool} → b ≡ v → is_hex_mark (get_or text at 0) ≡ v
-    mark_is t = ap (λ (c : ℕ). is_hex_mark c) (sym q) ∙ sym f ∙ t
-
-    pub unlit_hex : b ≡ true → ◌≡◌ {A = Lit} (record { level = 0; condition = bad_hex; end = last }) (unlit_at text at end)
-    unfolding lit_by
-    unlit_hex t = (λ j. lit_by (sym (cond-true (is_hex_mark (get_or text at 0)) NotHex NotPercent (mark_is t)) j) (g j))
-
-    pub unlit_percent : b ≡ false → ◌≡◌ {A = Lit} (record { level = 0; condition = bad_percent; end = last }) (unlit_at text at end)
-    unfolding lit_by
-    unlit_percent t = (λ j. lit_by (sym (cond-false (is_hex_mark (get_or text at 0)) NotHex NotPercent (mark_is t)) j) (g j))
-
--- what a level is
-module _ {x : Leveled} (end : ℕ) where
-  pub lit_percent : x ≡ NotPercent → ◌≡◌ {A = Lit} (record { level = 0; condition = bad_percent; end = end }) (lit_by x end)
-  unfolding lit_by
-  lit_percent e = ap (λ (y : Leveled). lit_by y end) (sym e)
-
-  pub lit_hex : x ≡ NotHex → ◌≡◌ {A = Lit} (record { level = 0; condition = bad_hex; end = end }) (lit_by x end)
-  unfolding lit_by
-  lit_hex e = ap (λ (y : Leveled). lit_by y end) (sym e)
-
-  pub lit_level : {v : ℕ} → x ≡ IsLevel v → ◌≡◌ {A = Lit} (record { level = v; condition = 0; end = end }) (lit_by x end)
-  unfolding lit_by
-  lit_level e = ap (λ (y : Leveled). lit_by y end) (sym e)

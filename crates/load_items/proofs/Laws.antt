@@ -1,6 +1,7 @@
 -- The items of a record taken one by one: the item at a place is the first of those from there on, the first field at fault from the left is
 -- the one that is blamed, and the faults go behind one another; by the laws of fields at a place, and by cases on the words that are left.
 -- Assumes nothing.
+use Rattle.std.specs.Prelude.{Err, None, Ok, Option, Result, Some}
 use mathlib.Core.Path.{◌≡◌, refl, sym, ap, ◌∙◌, subst}
 use mathlib.Core.Bool.{true}
 use mathlib.Core.List.{List, [], ◌∷◌, ◌++◌, append-nil, append_assoc}
@@ -11,11 +12,7 @@ use borrow.Author.Tests.{lt-ltb, le-ltb, ltb-true}
 use Rattle.cells.proofs.Split.{by_bool, by_test, cond-true, cond-false}
 use Rattle.store_desk.specs.declared.Desk.{Desk}
 use Rattle.store_desk.specs.Size.{is_within}
-use Rattle.value.specs.declared.Integer.{Integer}
-use Rattle.value.specs.declared.Integer.TheVariants.{Malformed, Value}
 use Rattle.value.specs.Integer.{integer_of}
-use Rattle.value_level.specs.declared.Leveled.{Leveled}
-use Rattle.value_level.specs.declared.Leveled.TheVariants.{NotPercent, NotHex, Value as IsLevel}
 use Rattle.value_level.specs.Level.{level_of}
 use Rattle.text_records.specs.Received.{longest}
 use Rattle.text_fields.specs.Words.{Word, head_of, tail_of}
@@ -24,13 +21,9 @@ use Rattle.text_fields.specs.Tables.{Ended}
 use Rattle.text_fields.proofs.Runs.{end_ended}
 use Rattle.text_fields.proofs.Words.{words_some, words_none, words_head, words_tail, words_start, start_from, start_within, start_start, end_from_lem, end_within, end_forward, missing_some, missing_none, end_of_start, chars_of_start}
 use Rattle.text_fields.proofs.Counts.{words_few}
-use Rattle.store.specs.declared.Edit.TheVariants.{Level as SetLevel}
-use Rattle.store.specs.Change.{edit_at, patched}
 use Rattle.load.specs.declared.Entry.{Entry}
 use Rattle.load.specs.declared.Entry.TheVariants.{Level, Patch, Faulty}
 use Rattle.load.specs.declared.Fault.{Fault}
-use Rattle.load.specs.declared.Ranged.{Ranged}
-use Rattle.load.specs.declared.Ranged.TheVariants.{Within, Wrong}
 use Rattle.load.specs.Condition.{bad_channel, bad_dimmer}
 use Rattle.load.specs.Item.{blame, ranged_of, on_ranged, on_level, pair_of, triple_of, pairs_of, triples_of, faults_of}
 use Rattle.load.specs.Fits.{EntryFits}
@@ -38,7 +31,6 @@ use Rattle.load.proofs.Entries.{pair_fits, triple_fits, pairs_few, triples_few}
 use Rattle.load_items.specs.declared.Group.{Group}
 use Rattle.load_items.specs.declared.Group.TheVariants.{Pair, Triple}
 use Rattle.load_items.specs.declared.Aim.{Aim}
-use Rattle.load_items.specs.declared.Aim.TheVariants.{Slot, Page}
 use Rattle.load_items.specs.declared.Item.{Item}
 use Rattle.load_items.specs.declared.Lit.{Lit}
 use Rattle.load_items.specs.declared.Read.{Read}
@@ -46,42 +38,44 @@ use Rattle.load_items.specs.Done.{entries_in, done_at, all_done_at, most_faults,
 use Rattle.load_items.specs.Take.{ItemsReady, taken_as, taken_of}
 use Rattle.load_items.specs.Each.{PlaceFits, ranged_read, lit_by, ranged_at, lit_at, between_at, entry_of, item_at}
 use Rattle.load_items.proofs.Faults.{faults_none, faults_length, faults_cons, faults_one, noted_more}
+use Rattle.value_level.specs.declared.LevelError.{LevelError}
+use Rattle.value_level.specs.declared.LevelError.TheVariants.{NotPercent, NotHex}
 
 -- ---- a field that is read goes on, or is blamed; no condition is 0
 module _ (w : Word) (f : ℕ → Entry) where
-  ranged_good : (limit beyond : ℕ) (i : Integer) (k : ℕ) → (beyond ≡ 0 → ⊥) → (ranged_read (ranged_of limit beyond i) k).condition ≡ 0
+  ranged_good : (limit beyond : ℕ) (i : Option ℕ) (k : ℕ) → (beyond ≡ 0 → ⊥) → (ranged_read (ranged_of limit beyond i) k).condition ≡ 0
       → on_ranged w (ranged_of limit beyond i) f ≡ f (ranged_read (ranged_of limit beyond i) k).value
   unfolding ranged_of ranged_read on_ranged
-  ranged_good limit beyond Malformed k nz e = absurd (omega (arith, e))
-  ranged_good limit beyond (Value n) k nz e =
-      by_test (λ (r : Ranged). (ranged_read r k).condition ≡ 0 → on_ranged w r f ≡ f (ranged_read r k).value) (is_within 1 n limit) (Within n) (Wrong beyond)
+  ranged_good limit beyond None k nz e = absurd (omega (arith, e))
+  ranged_good limit beyond (Some n) k nz e =
+      by_test (λ (r : Result ℕ ℕ). (ranged_read r k).condition ≡ 0 → on_ranged w r f ≡ f (ranged_read r k).value) (is_within 1 n limit) (Ok n) (Err beyond)
       (λ t h. refl)
       (λ t h. absurd (nz h))
       e
 
-  ranged_bad : (limit beyond : ℕ) (i : Integer) (k : ℕ) → ((ranged_read (ranged_of limit beyond i) k).condition ≡ 0 → ⊥)
+  ranged_bad : (limit beyond : ℕ) (i : Option ℕ) (k : ℕ) → ((ranged_read (ranged_of limit beyond i) k).condition ≡ 0 → ⊥)
       → on_ranged w (ranged_of limit beyond i) f ≡ Faulty (blame w (ranged_read (ranged_of limit beyond i) k).condition)
   unfolding ranged_of ranged_read on_ranged
-  ranged_bad limit beyond Malformed k ne = refl
-  ranged_bad limit beyond (Value n) k ne =
+  ranged_bad limit beyond None k ne = refl
+  ranged_bad limit beyond (Some n) k ne =
       by_test
-      (λ (r : Ranged). ((ranged_read r k).condition ≡ 0 → ⊥) → on_ranged w r f ≡ Faulty (blame w (ranged_read r k).condition))
-      (is_within 1 n limit) (Within n) (Wrong beyond)
+      (λ (r : Result ℕ ℕ). ((ranged_read r k).condition ≡ 0 → ⊥) → on_ranged w r f ≡ Faulty (blame w (ranged_read r k).condition))
+      (is_within 1 n limit) (Ok n) (Err beyond)
       (λ t h. absurd (h refl))
       (λ t h. refl)
       ne
 
-  level_good : (x : Leveled) (k : ℕ) → (lit_by x k).condition ≡ 0 → on_level w x f ≡ f (lit_by x k).level
+  level_good : (x : Result ℕ LevelError) (k : ℕ) → (lit_by x k).condition ≡ 0 → on_level w x f ≡ f (lit_by x k).level
   unfolding lit_by on_level
-  level_good NotPercent k e = absurd (omega (arith, e))
-  level_good NotHex k e = absurd (omega (arith, e))
-  level_good (IsLevel v) k e = refl
+  level_good (Err NotPercent) k e = absurd (omega (arith, e))
+  level_good (Err NotHex) k e = absurd (omega (arith, e))
+  level_good (Ok v) k e = refl
 
-  level_bad : (x : Leveled) (k : ℕ) → ((lit_by x k).condition ≡ 0 → ⊥) → on_level w x f ≡ Faulty (blame w (lit_by x k).condition)
+  level_bad : (x : Result ℕ LevelError) (k : ℕ) → ((lit_by x k).condition ≡ 0 → ⊥) → on_level w x f ≡ Faulty (blame w (lit_by x k).condition)
   unfolding lit_by on_level
-  level_bad NotPercent k ne = refl
-  level_bad NotHex k ne = refl
-  level_bad (IsLevel v) k ne = absurd (ne refl)
+  level_bad (Err NotPercent) k ne = refl
+  level_bad (Err NotHex) k ne = refl
+  level_bad (Ok v) k ne = absurd (ne refl)
 
 -- the first field from a place on, read where it starts
 module _ (text : List ℕ) (p : ℕ) {s : ℕ} (q : s ≡ start_at text p) where
@@ -94,9 +88,9 @@ module _ (text : List ℕ) (p : ℕ) {s : ℕ} (q : s ≡ start_at text p) where
     unfolding ranged_read
     number_end = ap (λ (x : Read). x.end) number_is ∙ ends (ranged_of limit beyond (integer_of (word_at text p).chars))
       where
-        ends : (x : Ranged) → (ranged_read x (end_at text p)).end ≡ end_at text p
-        ends (Within n) = refl
-        ends (Wrong c) = refl
+        ends : (x : Result ℕ ℕ) → (ranged_read x (end_at text p)).end ≡ end_at text p
+        ends (Ok n) = refl
+        ends (Err c) = refl
 
     number_good : (f : ℕ → Entry) → (beyond ≡ 0 → ⊥) → r.condition ≡ 0
         → on_ranged (word_at text p) (ranged_of limit beyond (integer_of (word_at text p).chars)) f ≡ f r.value
@@ -120,10 +114,10 @@ module _ (text : List ℕ) (p : ℕ) {s : ℕ} (q : s ≡ start_at text p) where
     unfolding lit_by
     level_end = ap (λ (x : Lit). x.end) level_is ∙ ends (level_of (word_at text p).chars)
       where
-        ends : (x : Leveled) → (lit_by x (end_at text p)).end ≡ end_at text p
-        ends NotPercent = refl
-        ends NotHex = refl
-        ends (IsLevel v) = refl
+        ends : (x : Result ℕ LevelError) → (lit_by x (end_at text p)).end ≡ end_at text p
+        ends (Err NotPercent) = refl
+        ends (Err NotHex) = refl
+        ends (Ok v) = refl
 
     lit_good : (f : ℕ → Entry) → l.condition ≡ 0 → on_level (word_at text p) (level_of (word_at text p).chars) f ≡ f l.level
     lit_good f z =
@@ -272,26 +266,6 @@ module _ (limit beyond : ℕ) (text : List ℕ) (at : ℕ) (s : start_at text at
       middle_ended Triple p w =
           subst (λ (k : ℕ). Ended text k) (sym (number_end text p refl d.dimmers bad_dimmer refl)) (end_ended text p w.within)
 
--- by what stands between channel and level, and by what an item is made of
-module _ (d : Desk) (text : List ℕ) (place : ℕ) {g : Group} where
-  pub between_none : g ≡ Pair → ◌≡◌ {A = Read} (record { value = 0; condition = 0; end = place }) (between_at d g text place)
-  unfolding between_at
-  between_none e = ap (λ (x : Group). between_at d x text place) (sym e)
-
-  pub between_dimmer : {r : Read} {s : ℕ} → g ≡ Triple → s ≡ start_at text place → r ≡ ranged_at d.dimmers bad_dimmer text s → r ≡ between_at d g text place
-  unfolding between_at
-  between_dimmer e q h =
-      h ∙ ap (λ (k : ℕ). ranged_at d.dimmers bad_dimmer text k) q ∙ ap (λ (x : Group). between_at d x text place) (sym e)
-
-module _ (n k v : ℕ) {g : Group} where
-  pub entry_pair : g ≡ Pair → Level n v ≡ entry_of g n k v
-  unfolding entry_of
-  entry_pair e = ap (λ (x : Group). entry_of x n k v) (sym e)
-
-  pub entry_triple : g ≡ Triple → Patch n k v ≡ entry_of g n k v
-  unfolding entry_of
-  entry_triple e = ap (λ (x : Group). entry_of x n k v) (sym e)
-
 -- ---- items that are obeyed are in range, and faults fit a word
 abbrev Placed : Entry → Type 0
 Placed (Level n v) = Unit {0}
@@ -299,16 +273,16 @@ Placed (Patch n k v) = Unit {0}
 Placed (Faulty f) = f.place ≤ longest
 
 module _ (w : Word) (h : w.place ≤ longest) where
-  ranged_placed : (r : Ranged) (f : ℕ → Entry) → ((n : ℕ) → Placed (f n)) → Placed (on_ranged w r f)
+  ranged_placed : (r : Result ℕ ℕ) (f : ℕ → Entry) → ((n : ℕ) → Placed (f n)) → Placed (on_ranged w r f)
   unfolding on_ranged
-  ranged_placed (Within n) f g = g n
-  ranged_placed (Wrong c) f g = h
+  ranged_placed (Ok n) f g = g n
+  ranged_placed (Err c) f g = h
 
-  level_placed : (x : Leveled) (f : ℕ → Entry) → ((n : ℕ) → Placed (f n)) → Placed (on_level w x f)
+  level_placed : (x : Result ℕ LevelError) (f : ℕ → Entry) → ((n : ℕ) → Placed (f n)) → Placed (on_level w x f)
   unfolding on_level
-  level_placed NotPercent f g = h
-  level_placed NotHex f g = h
-  level_placed (IsLevel v) f g = g v
+  level_placed (Err NotPercent) f g = h
+  level_placed (Err NotHex) f g = h
+  level_placed (Ok v) f g = g v
 
 fits_place : (d : Desk) (e : Entry) → EntryFits d e → Placed e → PlaceFits e
 fits_place d (Level n v) h p = tt
@@ -457,35 +431,6 @@ entries_few d g text place h =
     let c : length (drop place text) ≡ length text - place = length-drop place text in
     omega arith
 
--- ---- one item's work, by what it is and where it goes
-pub aimed_as : (d : Desk) (s : List ℕ) (e : Entry) {a b : Aim} {t : List ℕ} → a ≡ b → t ≡ done_at d b s e → t ≡ done_at d a s e
-aimed_as d s e h g = g ∙ ap (λ (x : Aim). done_at d x s e) (sym h)
-
-module _ (d : Desk) (i : ℕ) (s : List ℕ) {e : Entry} where
-  pub slot_level : {n v : ℕ} {t : List ℕ} → e ≡ Level n v → t ≡ edit_at d s i (SetLevel n v) → t ≡ done_at d (Slot i) s e
-  unfolding done_at
-  slot_level h g = g ∙ ap (done_at d (Slot i) s) (sym h)
-
-  pub slot_patch : {n k v : ℕ} → e ≡ Patch n k v → s ≡ done_at d (Slot i) s e
-  unfolding done_at
-  slot_patch h = ap (done_at d (Slot i) s) (sym h)
-
-  pub slot_fault : {f : Fault} → e ≡ Faulty f → s ≡ done_at d (Slot i) s e
-  unfolding done_at
-  slot_fault h = ap (done_at d (Slot i) s) (sym h)
-
-  pub page_level : {n v : ℕ} → e ≡ Level n v → s ≡ done_at d (Page i) s e
-  unfolding done_at
-  page_level h = ap (done_at d (Page i) s) (sym h)
-
-  pub page_patch : {n k v : ℕ} {t : List ℕ} → e ≡ Patch n k v → t ≡ patched d s i k n v → t ≡ done_at d (Page i) s e
-  unfolding done_at
-  page_patch h g = g ∙ ap (done_at d (Page i) s) (sym h)
-
-  pub page_fault : {f : Fault} → e ≡ Faulty f → s ≡ done_at d (Page i) s e
-  unfolding done_at
-  page_fault h = ap (done_at d (Page i) s) (sym h)
-
 -- ---- the loop: the faults so far with those from here on are those from the start on, and what is done likewise
 pub record Going (d : Desk) (g : Group) (text : List ℕ) (place : ℕ) (aim : Aim) (s₀ fs₀ : List ℕ) (i : ℕ) (s : List ℕ) (n : ℕ) (fs : List ℕ)
     : Type 0 where
@@ -589,20 +534,6 @@ pub starts_start : (text : List ℕ) (at : ℕ) {i : ℕ} → i ≡ start_at tex
 starts_start text at e = ap (λ (k : ℕ). start_at text k) e ∙ start_start text at ∙ sym e
 
 module _ (d : Desk) (text : List ℕ) (at : ℕ) (aim : Aim) (s fs : List ℕ) {i : ℕ} (e : i ≡ start_at text at) where
-  none_taken : (g : Group) → length text ≤ i → taken_as 0 s fs ≡ taken_of d aim s fs (entries_from d g text at)
-  unfolding taken_of all_done_at faults_of
-  none_taken g h =
-      let n : [] ≡ entries_from d g text at = sym (entries_none d g text i h) ∙ entries_start d g text at e in
-      (λ j. taken_as 0 s (sym (faults_none fs) j)) ∙ ap (λ (es : List Entry). taken_of d aim s fs es) n
-
-  pub pairs_none : length text ≤ i → taken_as 0 s fs ≡ taken_of d aim s fs (pairs_of d (words_from text at))
-  unfolding entries_in
-  pairs_none h = none_taken Pair h
-
-  pub triples_none : length text ≤ i → taken_as 0 s fs ≡ taken_of d aim s fs (triples_of d (words_from text at))
-  unfolding entries_in
-  triples_none h = none_taken Triple h
-
   pub pairs_taken : {n : ℕ} {t gs : List ℕ} → taken_as n t gs ≡ taken_of d aim s fs (entries_in Pair d (words_from text i))
       → taken_as n t gs ≡ taken_of d aim s fs (pairs_of d (words_from text at))
   unfolding entries_in

@@ -1,19 +1,15 @@
 -- One item as the code takes it: what its fields come to, each read in the scan that finds its end, and what they make together. No promise above
 -- this crate names these.
 -- Assumes nothing.
-use Rattle.std.specs.Prelude.{◌≡◌, cond, List, ℕ, ◌≤◌, ◌<◌, length, get_or}
+use Rattle.std.specs.Prelude.{◌≡◌, cond, List, ℕ, ◌≤◌, ◌<◌, length, get_or, Err, Ok, Result}
 use Rattle.store_desk.specs.declared.Desk.{Desk}
 use Rattle.text_records.specs.Received.{longest}
 use Rattle.text_fields.specs.Places.{end_from, start_at, end_at, word_at}
 use Rattle.text_fields.specs.Tables.{chars_at}
 use Rattle.value.specs.Integer.{integer_of}
-use Rattle.value_level.specs.declared.Leveled.{Leveled}
-use Rattle.value_level.specs.declared.Leveled.TheVariants.{NotPercent, NotHex, Value as IsLevel}
 use Rattle.value_level.specs.Level.{is_hex_mark, level_of}
 use Rattle.load.specs.declared.Entry.{Entry}
 use Rattle.load.specs.declared.Entry.TheVariants.{Level, Patch, Faulty}
-use Rattle.load.specs.declared.Ranged.{Ranged}
-use Rattle.load.specs.declared.Ranged.TheVariants.{Within, Wrong}
 use Rattle.load.specs.Condition.{bad_hex, bad_percent, bad_dimmer}
 use Rattle.load.specs.Run.{condition_span}
 use Rattle.load.specs.Item.{ranged_of, pair_of, triple_of}
@@ -22,6 +18,8 @@ use Rattle.load_items.specs.declared.Group.TheVariants.{Pair, Triple}
 use Rattle.load_items.specs.declared.Item.{Item}
 use Rattle.load_items.specs.declared.Lit.{Lit}
 use Rattle.load_items.specs.declared.Read.{Read}
+use Rattle.value_level.specs.declared.LevelError.{LevelError}
+use Rattle.value_level.specs.declared.LevelError.TheVariants.{NotPercent, NotHex}
 
 -- a place in a record's text where a field starts, or its end
 pub record On (text : List ℕ) (place : ℕ) : Type 0 where
@@ -34,14 +32,14 @@ pub record On (text : List ℕ) (place : ℕ) : Type 0 where
 abbrev pub wrong_at : List ℕ → ℕ → ℕ → Read
 wrong_at text place c = record { value = 0; condition = c; end = end_from text place }
 
-unfoldable pub ranged_read : Ranged → ℕ → Read
-ranged_read (Within n) end = record { value = n; condition = 0; end = end }
-ranged_read (Wrong c) end = record { value = 0; condition = c; end = end }
+unfoldable pub ranged_read : Result ℕ ℕ → ℕ → Read
+ranged_read (Ok n) end = record { value = n; condition = 0; end = end }
+ranged_read (Err c) end = record { value = 0; condition = c; end = end }
 
-unfoldable pub lit_by : Leveled → ℕ → Lit
-lit_by NotPercent end = record { level = 0; condition = bad_percent; end = end }
-lit_by NotHex end = record { level = 0; condition = bad_hex; end = end }
-lit_by (IsLevel v) end = record { level = v; condition = 0; end = end }
+unfoldable pub lit_by : Result ℕ LevelError → ℕ → Lit
+lit_by (Err NotPercent) end = record { level = 0; condition = bad_percent; end = end }
+lit_by (Err NotHex) end = record { level = 0; condition = bad_hex; end = end }
+lit_by (Ok v) end = record { level = v; condition = 0; end = end }
 
 unfoldable pub ranged_at : ℕ → ℕ → List ℕ → ℕ → Read
 ranged_at limit beyond text place = ranged_read (ranged_of limit beyond (integer_of (chars_at text place))) (end_from text place)
@@ -51,7 +49,7 @@ lit_at text place = lit_by (level_of (chars_at text place)) (end_from text place
 
 -- a level from a place on that goes on behind another with what no level has
 abbrev pub unlit_at : List ℕ → ℕ → ℕ → Lit
-unlit_at text place end = lit_by (cond (is_hex_mark (get_or text place 0)) NotHex NotPercent) (end_from text end)
+unlit_at text place end = lit_by (cond (is_hex_mark (get_or text place 0)) (Err NotHex) (Err NotPercent)) (end_from text end)
 
 -- a triple's dimmer; a pair has none
 unfoldable pub between_at : Desk → Group → List ℕ → ℕ → Read

@@ -15,7 +15,7 @@ ghost use Rattle.load_items.specs.Each.{On, PlaceFits, wrong_at, ranged_at, unli
 use load::Entry;
 use store::Edit;
 use store_desk::Desk;
-use value_level::Leveled;
+use value_level::LevelError;
 
 // How many fields an item has.
 #[derive(Clone, Copy)]
@@ -74,30 +74,22 @@ fn ranged(text: &[u8], at: usize, limit: u32, beyond: u32) -> Read
     let d = value::digits_at(text, at);
     let end = d.end;
     let value = d.value;
-    if text_fields::ends(text, end) {
-        if at < end {
-            if value == 0 {
-                return Read {
-                    value: 0,
-                    condition: beyond,
-                    end,
-                };
-            }
-            if limit < value {
-                return Read {
-                    value: 0,
-                    condition: beyond,
-                    end,
-                };
-            }
-            return Read {
-                value,
-                condition: 0,
-                end,
-            };
+    if !text_fields::ends(text, end) || at == end {
+        return wrong(text, end, MALFORMED_INTEGER);
+    }
+    if (1..=limit).contains(&value) {
+        Read {
+            value,
+            condition: 0,
+            end,
+        }
+    } else {
+        Read {
+            value: 0,
+            condition: beyond,
+            end,
         }
     }
-    wrong(text, end, MALFORMED_INTEGER)
 }
 
 // What a level comes to, and where it ends.
@@ -109,40 +101,38 @@ struct Lit {
 }
 
 // A level that goes on with what no level has is malformed in the format that it begins with.
+#[tactic(auto, unfolding(crate::specs::Each::lit_by))]
 fn unlit(text: &[u8], at: usize, end: usize) -> Lit
     requires { end ≤ length text.now }
     ensures { result ≡ unlit_at text.now at end }
 {
-    let last = text_fields::field_end(text, end);
-    if value_level::hex_mark(cells::byte(text, at)) {
-        return Lit {
-            level: 0,
-            condition: BAD_HEX,
-            end: last,
-        };
-    }
     Lit {
         level: 0,
-        condition: BAD_PERCENT,
-        end: last,
+        condition: if value_level::hex_mark(cells::byte(text, at)) {
+            BAD_HEX
+        } else {
+            BAD_PERCENT
+        },
+        end: text_fields::field_end(text, end),
     }
 }
 
-fn lit_by(level: Leveled, end: usize) -> Lit
+#[tactic(auto, unfolding(crate::specs::Each::lit_by))]
+fn lit_by(level: Result<u8, LevelError>, end: usize) -> Lit
     ensures { result ≡ lit_by level end }
 {
     match level {
-        Leveled::NotPercent => Lit {
+        Err(LevelError::NotPercent) => Lit {
             level: 0,
             condition: BAD_PERCENT,
             end,
         },
-        Leveled::NotHex => Lit {
+        Err(LevelError::NotHex) => Lit {
             level: 0,
             condition: BAD_HEX,
             end,
         },
-        Leveled::Value(v) => Lit {
+        Ok(v) => Lit {
             level: v,
             condition: 0,
             end,
@@ -158,9 +148,10 @@ fn level(text: &[u8], at: usize) -> Lit
     let end = l.end;
     let level = l.level;
     if text_fields::ends(text, end) {
-        return lit_by(level, end);
+        lit_by(level, end)
+    } else {
+        unlit(text, at, end)
     }
-    unlit(text, at, end)
 }
 
 // ---- an item
@@ -173,6 +164,7 @@ struct Item {
 }
 
 // PATCH has a dimmer between channel and level; CHAN has nothing there.
+#[tactic(auto, unfolding(crate::specs::Each::between_at))]
 fn between(desk: Desk, group: Group, text: &[u8], at: usize) -> Read
     requires { Ended text.now at }
     ensures { result ≡ between_at desk group text.now at }
@@ -192,6 +184,7 @@ fn between(desk: Desk, group: Group, text: &[u8], at: usize) -> Read
     }
 }
 
+#[tactic(auto, unfolding(crate::specs::Each::entry_of))]
 fn entry(group: Group, channel: u32, dimmer: u32, level: u8) -> Entry
     ensures { result ≡ entry_of group channel dimmer level }
 {
@@ -238,60 +231,37 @@ fn item_at(desk: Desk, group: Group, text: &[u8], at: usize) -> Item
 
 // ---- what it does
 
-fn set_level(desk: Desk, store: &mut [u8], slot: usize, e: Entry)
-    requires fitting { Fitting desk store.old }
-    requires aim_fits { AimFits desk (Aim.Slot slot) }
-    requires entry_fits { EntryFits desk e }
-    ensures { store.new ≡ done_at desk (Aim.Slot slot) store.old e }
-{
-    match e {
-        Entry::Level(channel, v) => store_code::edit(desk, store, slot, Edit::Level(channel, v)),
-        Entry::Patch(_, _, _) => {}
-        Entry::Faulty(_) => {}
-    }
-}
-
-fn set_patch(desk: Desk, store: &mut [u8], page: u32, e: Entry)
-    requires fitting { Fitting desk store.old }
-    requires aim_fits { AimFits desk (Aim.Page page) }
-    requires entry_fits { EntryFits desk e }
-    ensures { store.new ≡ done_at desk (Aim.Page page) store.old e }
-{
-    match e {
-        Entry::Level(_, _) => {}
-        Entry::Patch(channel, dimmer, v) => {
-            store_code::patch_dimmer(desk, store, page, dimmer, channel, v)
-        }
-        Entry::Faulty(_) => {}
-    }
-}
-
+// A level into a slot, a dimmer onto a page; an item at fault does nothing.
+#[tactic(auto, unfolding(crate::specs::Done::done_at))]
 fn apply(desk: Desk, store: &mut [u8], aim: Aim, e: Entry)
     requires fitting { Fitting desk store.old }
     requires aim_fits { AimFits desk aim }
     requires entry_fits { EntryFits desk e }
     ensures { store.new ≡ done_at desk aim store.old e }
 {
-    match aim {
-        Aim::Slot(slot) => set_level(desk, store, slot, e),
-        Aim::Page(page) => set_patch(desk, store, page, e),
+    match (aim, e) {
+        (Aim::Slot(slot), Entry::Level(channel, v)) => {
+            store_code::edit(desk, store, slot, Edit::Level(channel, v))
+        }
+        (Aim::Page(page), Entry::Patch(channel, dimmer, v)) => {
+            store_code::patch_dimmer(desk, store, page, dimmer, channel, v)
+        }
+        _ => {}
     }
 }
 
 // An item's fault goes behind the n before it; answers how many there are then.
+#[tactic(auto, unfolding(crate::specs::Done::noted_in))]
 fn note(faults: &mut [u32], n: usize, e: Entry) -> usize
     requires n_in_bounds { n < length faults.old }
     requires place_fits { PlaceFits e }
     ensures { noted result faults.new ≡ noted_in n faults.old e }
 {
-    match e {
-        Entry::Level(_, _) => n,
-        Entry::Patch(_, _, _) => n,
-        Entry::Faulty(f) => {
-            faults[n] = (f.place as u32) * CONDITION_SPAN + f.condition;
-            n + 1
-        }
-    }
+    let Entry::Faulty(f) = e else {
+        return n;
+    };
+    faults[n] = (f.place as u32) * CONDITION_SPAN + f.condition;
+    n + 1
 }
 
 // The items from the start of a field on, one after the other.
@@ -333,18 +303,15 @@ pub fn take_pairs(
     ensures { taken_as result store.new faults.new ≡ taken_of desk (Aim.Slot slot) store.old faults.old (pairs_of desk (words_from text.now at)) }
 {
     let start = text_fields::field_start(text, at);
-    if start < text.len() {
-        return take_items(
-            desk,
-            Group::Pair,
-            text,
-            start,
-            store,
-            Aim::Slot(slot),
-            faults,
-        );
-    }
-    0
+    take_items(
+        desk,
+        Group::Pair,
+        text,
+        start,
+        store,
+        Aim::Slot(slot),
+        faults,
+    )
 }
 
 // PATCH's triples from `at` on, onto a page.
@@ -360,16 +327,13 @@ pub fn take_triples(
     ensures { taken_as result store.new faults.new ≡ taken_of desk (Aim.Page page) store.old faults.old (triples_of desk (words_from text.now at)) }
 {
     let start = text_fields::field_start(text, at);
-    if start < text.len() {
-        return take_items(
-            desk,
-            Group::Triple,
-            text,
-            start,
-            store,
-            Aim::Page(page),
-            faults,
-        );
-    }
-    0
+    take_items(
+        desk,
+        Group::Triple,
+        text,
+        start,
+        store,
+        Aim::Page(page),
+        faults,
+    )
 }

@@ -1,6 +1,7 @@
 -- The first field from a place on and the others after it, as the code finds them; an optional page and an optional delay. By the laws
 -- of fields at a place.
 -- Assumes nothing.
+use Rattle.std.specs.Prelude.{Option, Some}
 use mathlib.Core.Path.{◌≡◌, sym, ap, ◌∙◌, subst}
 use mathlib.Core.Bool.{Bool, true, false, not}
 use mathlib.Core.List.{List, [], ◌∷◌}
@@ -16,10 +17,6 @@ use Rattle.text_fields.specs.Keywords.{keyword_of}
 use Rattle.text_fields.specs.Places.{words_from, start_at, end_at, is_more, is_missing, field_at, word_in}
 use Rattle.text_fields.specs.Tables.{said_at}
 use Rattle.text_fields.proofs.Words.{end_within, words_none, words_some, words_head, words_tail, missing_is, field_fits, said_head}
-use Rattle.value.specs.declared.Paged.{Paged}
-use Rattle.value.specs.declared.Paged.TheVariants.{Value as IsPage}
-use Rattle.value.specs.declared.Timed.{Timed}
-use Rattle.value.specs.declared.Timed.TheVariants.{Value as IsTime}
 use Rattle.value.specs.Field.{page_of}
 use Rattle.value.specs.Time.{time_of}
 use Rattle.load.specs.Ask.{page_at, delay_of}
@@ -66,21 +63,21 @@ module _ (text : List ℕ) (at : ℕ) {f : Field} (e : f ≡ field_at text at) {
       words_some text at (not-false (is_more text at) (sym not_more ∙ t))
       ∙ ap (λ (g : Field). word_in text g ∷ words_from text g.end) (sym e)
 
-  pub page_none : (other limit : ℕ) → b ≡ true → IsPage other ≡ page_at other limit (words_from text at)
+  pub page_none : (other limit : ℕ) → b ≡ true → Some other ≡ page_at other limit (words_from text at)
   unfolding page_at
   page_none other limit t = sym (ap (λ (ws : List Word). page_at other limit ws) (none t))
 
-  pub delay_none : b ≡ true → IsTime 0 ≡ delay_of (words_from text at)
+  pub delay_none : b ≡ true → Some 0 ≡ delay_of (words_from text at)
   unfolding delay_of
   delay_none t = sym (ap (λ (ws : List Word). delay_of ws) (none t))
 
-  pub page_some : (other limit : ℕ) → b ≡ false → {w : List ℕ} {r : Paged}
+  pub page_some : (other limit : ℕ) → b ≡ false → {w : List ℕ} {r : Option ℕ}
       → w ≡ (word_in text f).chars → r ≡ page_of limit w → r ≡ page_at other limit (words_from text at)
   unfolding page_at
   page_some other limit t g h =
       h ∙ ap (λ (x : List ℕ). page_of limit x) g ∙ sym (ap (λ (ws : List Word). page_at other limit ws) (some t))
 
-  pub delay_some : b ≡ false → {r : Timed} → r ≡ time_of (word_in text f).chars → r ≡ delay_of (words_from text at)
+  pub delay_some : b ≡ false → {r : Option ℕ} → r ≡ time_of (word_in text f).chars → r ≡ delay_of (words_from text at)
   unfolding delay_of
   delay_some t h = h ∙ sym (ap (λ (ws : List Word). delay_of ws) (some t))
 

@@ -34,7 +34,7 @@ use Rattle.load.specs.Item.{blame_none}
 use Rattle.load.specs.Ask.{is_over_long}
 use Rattle.load.specs.Anew.{ask_in, fields_heard, heard_in}
 use Rattle.load.specs.Step.{Step, ended, acted, ignored_in, outcome_faults, reported_of}
-use Rattle.load.specs.Translated.{step_in, asked_at}
+use Rattle.load.specs.Translated.{step_in}
 use Rattle.load.specs.Run.{stops}
 use Rattle.load.specs.Fits.{Small, Near, most_records, text_step}
 use Rattle.load.proofs.Anew.{heard_empty, heard_long}
@@ -46,8 +46,7 @@ use Rattle.load_items.proofs.Faults.{faults_back}
 use Rattle.load_held.specs.declared.Held.{Held}
 use Rattle.load_held.specs.declared.Stepped.{Stepped}
 use Rattle.load_held.specs.Held.{held_of, HeldReady, Room, ResAll, stepping_all, stepped_of, stepped_all}
-use Rattle.load_hear.specs.Marks.{marked_at}
-use Rattle.load_hear.specs.Book.{Book, numbers_in, counted_at, booking, heard_by, booked_at}
+use Rattle.load_hear.specs.Naming.{NamingLaws, heard_by}
 use Rattle.load_tell.specs.declared.Count.{Count}
 use Rattle.load_run.specs.declared.Progress.{Progress}
 use Rattle.load_tell.specs.Count.{tallied, told, told_as, told_all, ignored_by, faults_as, Tellable, Countable}
@@ -77,10 +76,10 @@ module _ (d : Desk) (x : Step) (fs : List ℕ) {s : Stepped} {t ws : List ℕ} (
   stepped_count = ap (λ (r : ResAll). r.res.stepped.faults) e
 
   -- what is noted of it, as the code has it
-  pub step_booked : (text l ms qs : List ℕ) {h : Held} {b : Book} → h ≡ s.held
-      → b ≡ booked_at l ms qs (heard_by l (fields_heard (words_of 0 text) s.outcome)) s.held.slot
-      → b ≡ booked_at l ms qs (heard_by l (fields_heard (words_of 0 text) x.outcome)) h.slot
-  step_booked text l ms qs y v = v ∙ (λ i. booked_at l ms qs (heard_by l (fields_heard (words_of 0 text) (stepped_outcome i))) (sym y i).slot)
+  pub step_booked : {S : Type 0} (anew : Bool) (after : S → Heard → ℕ → S) (text : List ℕ) (b : S) {h : Held} {z : S} → h ≡ s.held
+      → z ≡ after b (heard_by anew (fields_heard (words_of 0 text) s.outcome)) s.held.slot
+      → z ≡ after b (heard_by anew (fields_heard (words_of 0 text) x.outcome)) h.slot
+  step_booked anew after text b y v = v ∙ (λ i. after b (heard_by anew (fields_heard (words_of 0 text) (stepped_outcome i))) (sym y i).slot)
 
   module _ (g : Small x.faults) (few : s.faults ≤ most_faults) (room : Room fs) where
     stepped_faults : faults_as (take s.faults ws) ≡ x.faults
@@ -211,11 +210,6 @@ module _ (s : List ℕ) (at end : ℕ) {plain : Bool} (w : Spans s at end plain)
       pub short_chars : length chars ≤ longest
       short_chars = omega (arith, chars-length, short_size)
 
--- ---- a record of which nothing is heard
-nothing_booked : (l ms qs : List ℕ) (slot : ℕ) {h : Heard} → h ≡ Other → booking l ms qs ≡ booked_at l ms qs h slot
-unfolding counted_at marked_at asked_at
-nothing_booked l ms qs slot e = ap (λ (x : Heard). booked_at l ms qs x slot) (sym e)
-
 -- ---- a record that is not over-long
 module _ {xs bytes : List ℕ} {n : ℕ} {high control : Bool} (w : Texted xs bytes n high control) where
   pub text_taken_lem : (d : Desk) (b : Numbers) (p : Progress) (t l : List ℕ) → is_over_long xs ≡ false
@@ -225,14 +219,6 @@ module _ {xs bytes : List ℕ} {n : ℕ} {high control : Bool} (w : Texted xs by
       rw o (λ i.
       let x = text_step d b p.held.state (words_of 0 (w.text i)) t in
       taken_by d p.count xs l x (ignored_by (w.highs i) (w.controls i) ++ said_by x))
-
-  pub text_booked_lem : (d : Desk) (p : Progress) (t l ms qs : List ℕ) (slot : ℕ) → is_over_long xs ≡ false
-      → text_booked d p (take n bytes) t l ms qs slot ≡ record_booked d p xs t l ms qs slot
-  unfolding step_in ask_in fields_of heard_in numbers_in
-  text_booked_lem d p t l ms qs slot o =
-      rw o (λ i.
-      let ws = words_of 0 (w.text i) in
-      booked_at l ms qs (heard_by l (fields_heard ws (text_step d (numbers_in l) p.held.state ws t).outcome)) slot)
 
   pub text_room_lem : {d : Desk} {p : Progress} {t : List ℕ} → length xs ≤ longest → Taking d p (length xs) t
       → TextOf xs (take n bytes) high control × Taking d p (length (take n bytes)) t
@@ -254,10 +240,6 @@ long_taken d b p r t l {n} {k} o h e =
     e ∙ none_told r _ over_long_record ∙ told_single r _ (blame_none over_long_record) in
     rw o (λ i. taken (record { held = h.same i; count = (q i).count; stopped = true }) t (q i).list)
 
-pub long_booked : (d : Desk) (p : Progress) (r t l ms qs : List ℕ) (slot : ℕ) → is_over_long r ≡ true
-    → booking l ms qs ≡ record_booked d p r t l ms qs slot
-long_booked d p r t l ms qs slot o = nothing_booked l ms qs slot (heard_long (numbers_in l) r _ o)
-
 -- ---- one with no character
 module _ (d : Desk) (p : Progress) (r t : List ℕ) (e : r ≡ []) where
   pub blank_taken_lem : (b : Numbers) (l : List ℕ) {q : Progress} → HeldReady d t p.held → q ≡ blank_taken p → taken q t l ≡ record_taken d b p r t l
@@ -271,11 +253,28 @@ module _ (d : Desk) (p : Progress) (r t : List ℕ) (e : r ≡ []) where
       ∙ (λ i. taken_by d p.count [] l (x i) (reported_of [] (x i)))
       ∙ (λ i. record_taken d b p (sym e i) t l)
 
-  pub blank_booked : (l ms qs : List ℕ) (slot : ℕ) → booking l ms qs ≡ record_booked d p r t l ms qs slot
-  blank_booked l ms qs slot =
-      let b = numbers_in l in
-      nothing_booked l ms qs slot (heard_empty b (step_in d b p.held.state [] t).outcome)
-      ∙ (λ i. record_booked d p (sym e i) t l ms qs slot)
+-- ---- what is noted, in either load
+module _ {S : Type 0} {anew : Bool} {numbers : S → Numbers} {within : S → ℕ → Type 0} {after : S → Heard → ℕ → S}
+    (laws : NamingLaws anew numbers within after) (d : Desk) (p : Progress) (t : List ℕ) (b : S) (slot : ℕ) where
+  -- where nothing is heard
+  nothing_booked : {h : Heard} → h ≡ Other → b ≡ after b h slot
+  nothing_booked e = sym (ap (λ (x : Heard). after b x slot) e ∙ laws.unheard b slot)
+
+  pub long_booked : (r : List ℕ) → is_over_long r ≡ true → b ≡ record_booked numbers after d p r t b slot
+  long_booked r o = nothing_booked (heard_long (numbers b) r _ o)
+
+  pub blank_booked : (r : List ℕ) → r ≡ [] → b ≡ record_booked numbers after d p r t b slot
+  blank_booked r e =
+      nothing_booked (heard_empty (numbers b) (step_in d (numbers b) p.held.state [] t).outcome)
+      ∙ (λ i. record_booked numbers after d p (sym e i) t b slot)
+
+  pub text_booked_lem : {xs bytes : List ℕ} {n : ℕ} {high control : Bool} → Texted xs bytes n high control → is_over_long xs ≡ false
+      → text_booked anew numbers after d p (take n bytes) t b slot ≡ record_booked numbers after d p xs t b slot
+  unfolding step_in ask_in fields_of heard_in
+  text_booked_lem w o =
+      rw o (λ i.
+      let ws = words_of 0 (w.text i) in
+      after b (heard_by (sym (laws.is_anew b) i) (fields_heard ws (text_step d (numbers b) p.held.state ws t).outcome)) slot)
 
 -- ---- where a record ends, looked for behind its plain characters
 module _ (stream : List ℕ) {at : ℕ} (h : at ≤ length stream) {first : ℕ} (e : first ≡ plain_end stream at) where

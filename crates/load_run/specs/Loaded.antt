@@ -1,15 +1,15 @@
 -- What the load answers: its totals, the store and the lent list (paper 01, "Reports, tallies, closing number").
 -- Assumes nothing.
-use Rattle.std.specs.Prelude.{Bool, false, cond, List, [], ◌≡◌, ℕ}
+use Rattle.std.specs.Prelude.{Bool, false, cond, List, [], ℕ}
 use Rattle.store_desk.specs.declared.Desk.{Desk}
 use Rattle.text_records.specs.Stream.{records_of}
+use Rattle.load.specs.declared.Heard.{Heard}
 use Rattle.load.specs.declared.Numbers.{Numbers}
 use Rattle.load.specs.declared.Totals.{Totals}
 use Rattle.load.specs.Condition.{no_enddata}
 use Rattle.load.specs.Step.{nothing_open}
-use Rattle.load.specs.Translated.{Note, run_in, notes_in, asked_by}
-use Rattle.load_hear.specs.Marks.{marks_by}
-use Rattle.load_hear.specs.Book.{numbers_in, tried_in, counts_by}
+use Rattle.load.specs.Translated.{Note, run_in, notes_in}
+use Rattle.load_hear.specs.Naming.{noted_by}
 use Rattle.load_tell.specs.declared.Count.{Count}
 use Rattle.load.specs.Run.{Run, all_reports, stored_in, totals_of}
 use Rattle.load_run.specs.declared.Progress.{Progress}
@@ -31,46 +31,31 @@ loaded_of x reps = run_loaded (totals_of x) x.store (stored_in reps (all_reports
 unfoldable pub nothing_begun : Progress
 nothing_begun = record { held = record { state = nothing_open; slot = 0 }; count = count_of [] []; stopped = false }
 
--- of no kind was one accepted
-pub record FromNoneOf (b : Numbers) : Type 0 where
-  pub cues : b.cues ≡ 0
-  pub groups : b.groups ≡ 0
-  pub subs : b.subs ≡ 0
-
--- and no CUE was tried
-pub record FromNone (l : List ℕ) : Type 0 where
-  pub numbers : FromNoneOf (numbers_in l)
-  pub tried : tried_in l ≡ 0
-
--- ---- the walk over the records: the counters and whether a record stopped it, the store and the lent lists
-pub record Walked : Type 0 where
+-- ---- the walk over the records: the counters and whether a record stopped it, the store, the lent list, and what was noted
+pub record Walked (S : Type 0) : Type 0 where
   pub count : Count
   pub stopped : Bool
   pub store : List ℕ
   pub reports : List ℕ
-  pub numbers : List ℕ
-  pub marks : List ℕ
-  pub asked : List ℕ
+  pub book : S
 
-abbrev pub walked : Progress → List ℕ → List ℕ → List ℕ → List ℕ → List ℕ → Walked
-walked p t reps l ms qs = record { count = p.count; stopped = p.stopped; store = t; reports = reps; numbers = l; marks = ms; asked = qs }
+abbrev pub walked : {S : Type 0} → Progress → List ℕ → List ℕ → S → Walked S
+walked p t reps s = record { count = p.count; stopped = p.stopped; store = t; reports = reps; book = s }
 
-unfoldable pub walked_by : Run → List Note → List ℕ → List ℕ → List ℕ → List ℕ → Walked
-walked_by x ns reps l ms qs =
+unfoldable pub walked_by : {S : Type 0} → (S → Heard → ℕ → S) → Run → List Note → List ℕ → S → Walked S
+walked_by after x ns reps s =
     record {
       count = count_of x.outcomes x.reports;
       stopped = x.stopped;
       store = x.store;
       reports = stored_in reps x.reports;
-      numbers = counts_by l ns;
-      marks = marks_by ms 0 ns;
-      asked = asked_by qs ns;
+      book = noted_by after s ns;
     }
 
-unfoldable pub walk_of : Desk → List ℕ → List ℕ → List ℕ → List ℕ → List ℕ → List ℕ → Walked
-walk_of d t stream reps l ms qs =
-    let b = numbers_in l in
-    walked_by (run_in d 0 b nothing_open t (records_of stream)) (notes_in d b nothing_open t (records_of stream)) reps l ms qs
+unfoldable pub walk_of : {S : Type 0} → (S → Numbers) → (S → Heard → ℕ → S) → Desk → List ℕ → List ℕ → List ℕ → S → Walked S
+walk_of numbers after d t stream reps s =
+    let b = numbers s in
+    walked_by after (run_in d 0 b nothing_open t (records_of stream)) (notes_in d b nothing_open t (records_of stream)) reps s
 
 -- ---- the end: 0100 where no record stopped the load
 pub record Closed : Type 0 where

@@ -12,9 +12,10 @@ use Rattle.load.specs.Anew.{fields_heard, heard_in}
 use Rattle.load.specs.Translated.{step_in}
 use Rattle.load.specs.declared.Numbers.{Numbers}
 use Rattle.load.specs.declared.Fault.{Fault}
+use Rattle.load.specs.declared.Heard.{Heard}
 use Rattle.load.specs.declared.Outcome.TheVariants.{Blank}
 use Rattle.load.specs.Run.{stops}
-use Rattle.load_hear.specs.Book.{Book, numbers_in, heard_by, booked_at}
+use Rattle.load_hear.specs.Naming.{heard_by}
 use Rattle.load_held.specs.Held.{held_of, HeldReady}
 use Rattle.load_tell.specs.declared.Count.{Count}
 use Rattle.load_run.specs.declared.Progress.{Progress}
@@ -47,14 +48,14 @@ text_taken d b p r text high control t reps =
     taken_by d p.count r reps x (ignored_by high control ++ (outcome_faults x.outcome ++ x.faults))
 
 -- what is noted beside it, with the slot of the memory that is open after it
-abbrev pub record_booked : Desk → Progress → List ℕ → List ℕ → List ℕ → List ℕ → List ℕ → ℕ → Book
-record_booked d p r t l ms qs slot =
-    let b = numbers_in l in
-    booked_at l ms qs (heard_in b r (step_in d b p.held.state r t).outcome) slot
+abbrev pub record_booked : {S : Type 0} → (S → Numbers) → (S → Heard → ℕ → S) → Desk → Progress → List ℕ → List ℕ → S → ℕ → S
+record_booked numbers after d p r t s slot =
+    let b = numbers s in
+    after s (heard_in b r (step_in d b p.held.state r t).outcome) slot
 
-abbrev pub text_booked : Desk → Progress → List ℕ → List ℕ → List ℕ → List ℕ → List ℕ → ℕ → Book
-text_booked d p text t l ms qs slot =
-    booked_at l ms qs (heard_by l (fields_heard (words_of 0 text) (text_step d (numbers_in l) p.held.state (words_of 0 text) t).outcome)) slot
+abbrev pub text_booked : {S : Type 0} → Bool → (S → Numbers) → (S → Heard → ℕ → S) → Desk → Progress → List ℕ → List ℕ → S → ℕ → S
+text_booked anew numbers after d p text t s slot =
+    after s (heard_by anew (fields_heard (words_of 0 text) (text_step d (numbers s) p.held.state (words_of 0 text) t).outcome)) slot
 
 -- after a record with no character
 abbrev pub blank_taken : Progress → Progress

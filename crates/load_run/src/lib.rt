@@ -9,11 +9,11 @@ ghost use Rattle.load.specs.Run.{load_of};
 ghost use Rattle.load_held.specs.Held.{Room};
 ghost use Rattle.load_tell.specs.Count.{Reportable, Countable};
 ghost use Rattle.load.specs.Fits.{most_records};
-ghost use Rattle.load_hear.specs.Book.{numbers_in, CountersFit, booking};
 ghost use Rattle.load_run.specs.Take.{taken, text_taken, record_taken, text_booked, record_booked, blank_taken, TextOf, Taking, Spans};
-ghost use Rattle.load_run.specs.Loaded.{run_loaded, loaded_of, nothing_begun, FromNone, walked, walk_of, closed, close_of};
+ghost use Rattle.load_run.specs.Loaded.{run_loaded, loaded_of, nothing_begun, walked, walk_of, closed, close_of};
 
 use load::{Open, Outcome, State, Totals};
+use load_hear::{AsGiven, Naming};
 use load_held::Held;
 use load_tell::Count;
 use store_desk::Desk;
@@ -36,21 +36,21 @@ fn parted(held: Held) -> Held
 {
     let state = held.state;
     let key = state.key;
-    let open = state.open;
-    let key = store_desk::Key {
-        page: key.page,
-        whole: key.whole,
-        fraction: key.fraction,
-    };
-    let state = State { open, key };
     Held {
-        state,
+        state: State {
+            open: state.open,
+            key: store_desk::Key {
+                page: key.page,
+                whole: key.whole,
+                fraction: key.fraction,
+            },
+        },
         slot: held.slot,
     }
 }
 
 // A record that is not over-long, from its text; where something is reported, its column is sought in the record as received. What its faults leave in the lent list is no one's to read afterwards.
-fn take_text(
+fn take_text<N: Naming>(
     desk: Desk,
     done: Progress,
     received: &[u8],
@@ -60,41 +60,34 @@ fn take_text(
     store: &mut [u8],
     reports: &mut [u64],
     faults: &mut [u32],
-    numbers: &mut [u32],
-    marks: &mut [u8],
-    asked: &mut [u32],
+    book: &mut N,
 ) -> Progress
     requires text_of { TextOf received.now text.now high control }
     requires taking { Taking desk done (length text.now) store.old }
     requires room { Room faults.old }
-    requires counters_fit { CountersFit numbers.old }
-    ensures reports_after { taken result store.new reports.new ≡ text_taken desk (numbers_in numbers.old) done received.now text.now high control store.old reports.old }
-    ensures asked_after { booking numbers.new marks.new asked.new ≡ text_booked desk done text.now store.old numbers.old marks.old asked.old result.held.slot }
+    requires counts_fit { N.within book.old most_records }
+    ensures reports_after { taken result store.new reports.new ≡ text_taken desk (N.numbers book.old) done received.now text.now high control store.old reports.old }
+    ensures book_after { book.new ≡ text_booked N.ANEW N.numbers N.after desk done text.now store.old book.old result.held.slot }
 {
-    let held = done.held;
-    let s = load_step::step(desk, held, text, store, &mut *faults, numbers, marks, asked);
-    let count = done.count;
-    let outcome = s.outcome;
-    let n = s.faults;
+    let s = load_step::step(desk, done.held, text, store, faults, book);
     let count = load_tell::tell(
         reports,
-        count,
+        done.count,
         received,
         high,
         control,
-        outcome,
-        &faults[..n],
+        s.outcome,
+        &faults[..s.faults],
     );
-    let held = parted(s.held);
     Progress {
-        held,
+        held: parted(s.held),
         count,
-        stopped: load_tell::stops(outcome),
+        stopped: load_tell::stops(s.outcome),
     }
 }
 
 // The record from `at` to `end`, of plain characters or of any. A plain one is its own text.
-fn take_record(
+fn take_record<N: Naming>(
     desk: Desk,
     done: Progress,
     stream: &[u8],
@@ -104,26 +97,22 @@ fn take_record(
     store: &mut [u8],
     reports: &mut [u64],
     faults: &mut [u32],
-    numbers: &mut [u32],
-    marks: &mut [u8],
-    asked: &mut [u32],
+    book: &mut N,
 ) -> Progress
     requires spans { Spans stream.now at end plain }
     requires taking { Taking desk done (end - at) store.old }
     requires room { Room faults.old }
-    requires counters_fit { CountersFit numbers.old }
-    ensures reports_after { taken result store.new reports.new ≡ record_taken desk (numbers_in numbers.old) done (take (end - at) (drop at stream.now)) store.old reports.old }
-    ensures asked_after { booking numbers.new marks.new asked.new ≡ record_booked desk done (take (end - at) (drop at stream.now)) store.old numbers.old marks.old asked.old result.held.slot }
+    requires counts_fit { N.within book.old most_records }
+    ensures reports_after { taken result store.new reports.new ≡ record_taken desk (N.numbers book.old) done (take (end - at) (drop at stream.now)) store.old reports.old }
+    ensures book_after { book.new ≡ record_booked N.numbers N.after desk done (take (end - at) (drop at stream.now)) store.old book.old result.held.slot }
 {
     let r = text_records::receive(stream, at, end);
     // Ahead of the test, so that both copies are made of what was just read, and none of what was just stored.
     let mut bytes = r.bytes;
     if text_records::over_long(r) {
-        let held = done.held;
-        let count = done.count;
         return Progress {
-            held,
-            count: load_tell::tell_long(reports, count),
+            held: done.held,
+            count: load_tell::tell_long(reports, done.count),
             stopped: true,
         };
     }
@@ -146,9 +135,7 @@ fn take_record(
         store,
         reports,
         faults,
-        numbers,
-        marks,
-        asked,
+        book,
     )
 }
 
@@ -157,11 +144,9 @@ fn take_blank(done: Progress) -> Progress
     requires { Countable done.count }
     ensures { result ≡ blank_taken done }
 {
-    let held = done.held;
-    let count = done.count;
     Progress {
-        held,
-        count: load_tell::tally(count, Outcome::Blank),
+        held: done.held,
+        count: load_tell::tally(done.count, Outcome::Blank),
         stopped: false,
     }
 }
@@ -172,40 +157,25 @@ fn take_blank(done: Progress) -> Progress
 fn begun() -> Progress
     ensures { result ≡ nothing_begun }
 {
-    let key = store_desk::Key {
-        page: 0,
-        whole: 0,
-        fraction: 0,
-    };
-    let state = State {
-        open: Open::Nothing,
-        key,
-    };
-    let held = Held { state, slot: 0 };
-    let count = load_tell::nothing_read();
     Progress {
-        held,
-        count,
+        held: load_held::resting(Open::Nothing),
+        count: load_tell::nothing_read(),
         stopped: false,
     }
 }
 
-// Every record of a stream in its turn, until one stops the load. In a load with translation what is accepted and every CUE record are counted,
-// CUE records are marked where they are accepted, and what the cue of each slot asked for is noted; in a normal load the three lists stay as they
-// are.
-pub fn walk(
+// Every record of a stream in its turn, until one stops the load; what a load of this naming notes of each is in its book.
+pub fn walk<N: Naming>(
     desk: Desk,
     store: &mut [u8],
     stream: &[u8],
     reports: &mut [u64],
-    numbers: &mut [u32],
-    marks: &mut [u8],
-    asked: &mut [u32],
+    book: &mut N,
 ) -> Progress
     requires fitting { Fitting desk store.old }
     requires stream_len_bound { length stream.now ≤ most_records }
-    requires from_none { FromNone numbers.old }
-    ensures { walked result store.new reports.new numbers.new marks.new asked.new ≡ walk_of desk store.old stream.now reports.old numbers.old marks.old asked.old }
+    requires from_none { N.within book.old 0 }
+    ensures { walked result store.new reports.new book.new ≡ walk_of N.numbers N.after desk store.old stream.now reports.old book.old }
 {
     let mut faults = [0u32; 40];
     let mut done = begun();
@@ -228,9 +198,7 @@ pub fn walk(
             store,
             reports,
             &mut faults,
-            numbers,
-            marks,
-            asked,
+            book,
         );
         if done.stopped {
             return done;
@@ -257,18 +225,6 @@ pub fn run(desk: Desk, store: &mut [u8], stream: &[u8], reports: &mut [u64]) -> 
     requires stream_len_bound { length stream.now ≤ most_records }
     ensures { run_loaded result store.new reports.new ≡ loaded_of (load_of desk store.old stream.now) reports.old }
 {
-    let mut marks = [0u8; 1];
-    let mut asked = [0u32; 1];
-    let mut numbers = [0u32; 1];
-    let done = walk(
-        desk,
-        store,
-        stream,
-        reports,
-        &mut numbers,
-        &mut marks,
-        &mut asked,
-    );
-    let count = done.count;
-    close(reports, count, done.stopped)
+    let done = walk(desk, store, stream, reports, &mut AsGiven);
+    close(reports, done.count, done.stopped)
 }

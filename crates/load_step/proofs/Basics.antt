@@ -1,5 +1,6 @@
 -- PATCH's triples, IDENT's version, what a keyword begins, and a record's first field. By cases on each.
 -- Assumes nothing.
+use Rattle.std.specs.Prelude.{None, Option, Some}
 use mathlib.Core.Path.{◌≡◌, refl, sym, ap, ◌∙◌, subst}
 use mathlib.Core.Bool.{Bool, true, false, cond, ◌&&◌}
 use mathlib.Core.List.{List, []}
@@ -21,10 +22,6 @@ use Rattle.text_fields.specs.Places.{words_from, start_at, end_at, is_more, fiel
 use Rattle.text_fields.specs.Keywords.{keyword_of, item_of}
 use Rattle.text_fields.specs.Tables.{said_at}
 use Rattle.text_fields.proofs.Words.{words_none, words_some, words_head}
-use Rattle.value.specs.declared.Paged.{Paged}
-use Rattle.value.specs.declared.Paged.TheVariants.{Bad, Value as IsPage}
-use Rattle.value.specs.declared.Version.{Version}
-use Rattle.value.specs.declared.Version.TheVariants.{Malformed as BadVersion, Value as IsVersion}
 use Rattle.value.specs.Field.{page_of, version_of}
 use Rattle.store_code.specs.Fits.{Fitting}
 use Rattle.load_naming.proofs.Fields.{keyword-said}
@@ -64,14 +61,15 @@ use Rattle.load_held.proofs.Holding.{held_stays}
 use Rattle.load_held.proofs.Answers.{step_all, asked_all, held_with}
 use Rattle.load_step.proofs.Primaries.{primary_all}
 use Rattle.load_step.proofs.Secondaries.{secondary_stays}
+use Rattle.value.specs.declared.Version.{Version}
 
 -- ---- PATCH
-pub patch_page : (limit : ℕ) (w : List ℕ) {x : Paged} {p : ℕ} → x ≡ page_of limit w → x ≡ IsPage p → Within 1 p limit
-patch_page limit w e g = subst (λ (x : Paged). PageIn 1 limit x) (sym e ∙ g) (page_in 1 limit (omega arith) w)
+pub patch_page : (limit : ℕ) (w : List ℕ) {x : Option ℕ} {p : ℕ} → x ≡ page_of limit w → x ≡ Some p → Within 1 p limit
+patch_page limit w e g = subst (λ (x : Option ℕ). PageIn 1 limit x) (sym e ∙ g) (page_in 1 limit (omega arith) w)
 
-module _ (d : Desk) {text : List ℕ} {place : ℕ} {f : Field} {w : List ℕ} {x : Paged} (l : Line text place)
+module _ (d : Desk) {text : List ℕ} {place : ℕ} {f : Field} {w : List ℕ} {x : Option ℕ} (l : Line text place)
     (e : f ≡ field_at text place) (g : w ≡ (word_in text f).chars) (h : x ≡ page_of d.patch_pages w) where
-  patch_as : {y : Paged} → x ≡ y → triples_ask d (word_in text f) y (words_from text f.end) ≡ patch_ask d (words_from text place)
+  patch_as : {y : Option ℕ} → x ≡ y → triples_ask d (word_in text f) y (words_from text f.end) ≡ patch_ask d (words_from text place)
   patch_as k =
       let a : page_of d.patch_pages w ≡ page_of d.patch_pages (head_of (words_from text place)).chars =
       ap (λ (v : List ℕ). page_of d.patch_pages v) g ∙ sym (ap (λ (v : Word). page_of d.patch_pages v.chars) (head_at l e)) in
@@ -79,11 +77,11 @@ module _ (d : Desk) {text : List ℕ} {place : ℕ} {f : Field} {w : List ℕ} {
       let c : word_in text f ≡ head_of (words_from text place) = sym (head_at l e) in
       λ i. triples_ask d (c i) ((sym k ∙ h ∙ a) i) (b i)
 
-  pub patch_bad : x ≡ Bad → {r : Fault} → r ≡ blame_field f bad_patch_page → rests (Dropped r) ≡ patch_ask d (words_from text place)
+  pub patch_bad : x ≡ None → {r : Fault} → r ≡ blame_field f bad_patch_page → rests (Dropped r) ≡ patch_ask d (words_from text place)
   unfolding triples_ask
   patch_bad k q = ap (λ (y : Fault). rests (Dropped y)) q ∙ patch_as k
 
-  pub patch_items : {p : ℕ} → x ≡ IsPage p → items (page p) (triples_of d (words_from text f.end)) ≡ patch_ask d (words_from text place)
+  pub patch_items : {p : ℕ} → x ≡ Some p → items (page p) (triples_of d (words_from text f.end)) ≡ patch_ask d (words_from text place)
   unfolding triples_ask
   patch_items k = patch_as k
 
@@ -98,22 +96,22 @@ patched_did d s t ws fs p {n} {u} {us} q =
     λ i. doing_all (record { outcome = Obeyed; faults = (q i).count }) (a i) (q i).faults
 
 -- what was open plays no part, and stays open in its slot
-triples_anew : (d : Desk) (s : State) (t fs : List ℕ) (w : Word) (x : Paged) (ws : List Word)
+triples_anew : (d : Desk) (s : State) (t fs : List ℕ) (w : Word) (x : Option ℕ) (ws : List Word)
     → did_all (acted d nothing_open t (triples_ask d w x ws)) fs ≡ did_all (acted d s t (triples_ask d w x ws)) fs
 unfolding acted did_all did_of triples_ask
-triples_anew d s t fs w Bad ws = refl
-triples_anew d s t fs w (IsPage p) ws = refl
+triples_anew d s t fs w None ws = refl
+triples_anew d s t fs w (Some p) ws = refl
 
 patch_anew : (d : Desk) (s : State) (t fs : List ℕ) (ws : List Word) {q : DeedsAll}
     → q ≡ did_all (acted d nothing_open t (patch_ask d ws)) fs → q ≡ did_all (acted d s t (patch_ask d ws)) fs
 patch_anew d s t fs ws z = z ∙ triples_anew d s t fs (head_of ws) (page_of d.patch_pages (head_of ws).chars) (tail_of ws)
 
 module _ (d : Desk) (t : List ℕ) {h : Held} (g : HeldReady d t h) (f : Fitting d t) where
-  triples_stay : (w : Word) (x : Paged) → PageIn 1 d.patch_pages x → (ws : List Word)
+  triples_stay : (w : Word) (x : Option ℕ) → PageIn 1 d.patch_pages x → (ws : List Word)
       → h ≡ held_of d (acted d h.state t (triples_ask d w x ws)).store (acted d h.state t (triples_ask d w x ws)).state
   unfolding acted triples_ask
-  triples_stay w Bad r ws = g.same
-  triples_stay w (IsPage p) r ws =
+  triples_stay w None r ws = g.same
+  triples_stay w (Some p) r ws =
       held_stays d t (all_done d (page p) t (triples_of d ws)) (page-find d t f p r (triples_of d ws) (triples_fit d ws)) g.same
 
   patch_stays : (ws : List Word) → h ≡ held_of d (acted d h.state t (patch_ask d ws)).store (acted d h.state t (patch_ask d ws)).state
@@ -121,29 +119,38 @@ module _ (d : Desk) (t : List ℕ) {h : Held} (g : HeldReady d t h) (f : Fitting
       triples_stay (head_of ws) (page_of d.patch_pages (head_of ws).chars) (page_in 1 d.patch_pages (omega arith) (head_of ws).chars) (tail_of ws)
 
 -- ---- IDENT
-module _ (w : Word) {v u : Version} (z : v ≡ u) {o : Outcome} where
-  pub ident_bad : v ≡ BadVersion → o ≡ Stopped (blame w ident_mismatch) → o ≡ ident_outcome w u
-  unfolding ident_outcome
-  ident_bad e k = k ∙ ap (λ (x : Version). ident_outcome w x) (sym e ∙ z)
+no_version : (v : Option Version) → ((x : Version) → v ≡ Some x → ⊥) → v ≡ None
+no_version None n = refl
+no_version (Some x) n = absurd (n x refl)
 
-  module _ {a b : ℕ} (e : v ≡ IsVersion a b) where
-    other : is_three a b ≡ false → o ≡ Stopped (blame w ident_mismatch) → o ≡ ident_outcome w u
+module _ (w : Word) {v u : Option Version} (z : v ≡ u) {o : Outcome} where
+  ident_bad : v ≡ None → o ≡ Stopped (blame w ident_mismatch) → o ≡ ident_outcome w u
+  unfolding ident_outcome
+  ident_bad e k = k ∙ ap (λ (x : Option Version). ident_outcome w x) (sym e ∙ z)
+
+  pub ident_none : ((x : Version) → v ≡ Some x → ⊥) → o ≡ Stopped (blame w ident_mismatch) → o ≡ ident_outcome w u
+  ident_none n k = ident_bad (no_version v n) k
+
+  module _ {x : Version} (e : v ≡ Some x) where
+    other : is_three x.major x.minor ≡ false → o ≡ Stopped (blame w ident_mismatch) → o ≡ ident_outcome w u
     unfolding ident_outcome
     other t k =
-        k ∙ sym (cond-false (is_three a b) Obeyed (Stopped (blame w ident_mismatch)) t) ∙ ap (λ (x : Version). ident_outcome w x) (sym e ∙ z)
+        k
+        ∙ sym (cond-false (is_three x.major x.minor) Obeyed (Stopped (blame w ident_mismatch)) t)
+        ∙ ap (λ (y : Option Version). ident_outcome w y) (sym e ∙ z)
 
-    pub ident_major : (a ≡ 3 → ⊥) → o ≡ Stopped (blame w ident_mismatch) → o ≡ ident_outcome w u
-    ident_major t k = other (and_false_left (eqb a 3) (eqb b 0) (ne_eqb a 3 t)) k
+    pub ident_major : (x.major ≡ 3 → ⊥) → o ≡ Stopped (blame w ident_mismatch) → o ≡ ident_outcome w u
+    ident_major t k = other (and_false_left (eqb x.major 3) (eqb x.minor 0) (ne_eqb x.major 3 t)) k
 
-    pub ident_minor : (b ≡ 0 → ⊥) → o ≡ Stopped (blame w ident_mismatch) → o ≡ ident_outcome w u
-    ident_minor t k = other (and_false_right (eqb a 3) (eqb b 0) (ne_eqb b 0 t)) k
+    pub ident_minor : (x.minor ≡ 0 → ⊥) → o ≡ Stopped (blame w ident_mismatch) → o ≡ ident_outcome w u
+    ident_minor t k = other (and_false_right (eqb x.major 3) (eqb x.minor 0) (ne_eqb x.minor 0 t)) k
 
-module _ (w : Word) {v u : Version} (z : v ≡ u) {a b : ℕ} (e : v ≡ IsVersion a b) where
-  pub ident_three : a ≡ 3 → b ≡ 0 → Obeyed ≡ ident_outcome w u
+module _ (w : Word) {v u : Option Version} (z : v ≡ u) {x : Version} (e : v ≡ Some x) where
+  pub ident_three : x.major ≡ 3 → x.minor ≡ 0 → Obeyed ≡ ident_outcome w u
   unfolding ident_outcome
   ident_three s t =
-      sym (cond-true (is_three a b) Obeyed (Stopped (blame w ident_mismatch)) (and_true (eqb a 3) (eqb b 0) (eq-eqb a 3 s) (eq-eqb b 0 t)))
-      ∙ ap (λ (x : Version). ident_outcome w x) (sym e ∙ z)
+      sym (cond-true (is_three x.major x.minor) Obeyed (Stopped (blame w ident_mismatch)) (and_true (eqb x.major 3) (eqb x.minor 0) (eq-eqb x.major 3 s) (eq-eqb x.minor 0 t)))
+      ∙ ap (λ (y : Option Version). ident_outcome w y) (sym e ∙ z)
 
 -- ---- a basic record
 module _ (d : Desk) (w : Word) (ws : List Word) where

@@ -1,6 +1,7 @@
 -- A primary in either load: its name; its memory started at a seat, no room; refused, not supported; what was open plays no part. By cases on the
 -- seat and the name.
 -- Assumes nothing.
+use Rattle.std.specs.Prelude.{Err, None, Ok, Option, Result, Some}
 use mathlib.Core.Path.{◌≡◌, refl, sym, ap, ◌∙◌, subst}
 use mathlib.Core.Bool.{Bool, true, false, cond}
 use mathlib.Core.List.{List}
@@ -13,8 +14,6 @@ use Rattle.store_desk.specs.declared.Kind.{Kind}
 use Rattle.store_desk.specs.Size.{InRange}
 use Rattle.store_desk.specs.Name.{Name, supported, ok_name}
 use Rattle.text_fields.specs.Words.{Word}
-use Rattle.store.specs.declared.Place.{Place}
-use Rattle.store.specs.declared.Place.TheVariants.{At, Nowhere}
 use Rattle.store.specs.Slots.{find, on_found, place_of}
 use Rattle.store.specs.Change.{seat, started}
 use Rattle.store.proofs.Start.{started_full, start_own}
@@ -22,8 +21,6 @@ use Rattle.store_code.specs.Fits.{Fitting}
 use Rattle.store_code.specs.Answer.{Started, started_as, start_of}
 use Rattle.store_code.proofs.Found.{place_at, place_nowhere}
 use Rattle.load.specs.declared.Fault.{Fault}
-use Rattle.load.specs.declared.Named.{Named}
-use Rattle.load.specs.declared.Named.TheVariants.{Refused, Name as Accepted}
 use Rattle.load.specs.declared.Numbers.{Numbers}
 use Rattle.load.specs.declared.State.{State}
 use Rattle.load.specs.declared.Open.TheVariants.{Skipping}
@@ -32,7 +29,7 @@ use Rattle.load.specs.Condition.{full_of, unsupported_of}
 use Rattle.load.specs.Item.{blame, blame_none}
 use Rattle.load.specs.Ask.{Ask, skips, opens, name, named_of, named_ask, primary_ask}
 use Rattle.load.specs.Anew.{next_named, anew_primary_ask}
-use Rattle.load.specs.Fits.{NumbersFit, named_in, primary_ask_in}
+use Rattle.load.specs.Fits.{named_in, primary_ask_in}
 use Rattle.load.specs.Step.{Step, ended, nothing_open, skipping, opened, slot_by, opened_by, acted}
 use Rattle.load.proofs.Read.{NamedOk, accepted_ok}
 use Rattle.load.proofs.Anew.{next_named_ok}
@@ -42,10 +39,9 @@ use Rattle.load_held.specs.declared.Stepped.{Stepped}
 use Rattle.load_held.specs.Held.{held_of, stepping, stepped_of, stepping_all, stepped_all}
 use Rattle.load_held.specs.Parts.{resting, ended_as}
 use Rattle.load_held.proofs.Answers.{ended_as_lem, step_all, skips_as}
-use Rattle.load_hear.specs.Book.{is_anew, numbers_in, CountersFit}
 
 -- ---- an accepted one
-module _ (d : Desk) (k : Kind) (key : Key) (t : List ℕ) {p : Place} {u : List ℕ} (s : started_as p u ≡ start_of d t (name k key)) where
+module _ (d : Desk) (k : Kind) (key : Key) (t : List ℕ) {p : Option ℕ} {u : List ℕ} (s : started_as p u ≡ start_of d t (name k key)) where
   seat_is : p ≡ place_of (seat d t (name k key))
   unfolding start_of
   seat_is = ap (λ (x : Started). x.place) s
@@ -58,7 +54,7 @@ module _ (d : Desk) (k : Kind) (key : Key) (t : List ℕ) {p : Place} {u : List 
   unfolding acted
   opened_by_lem e = sym (ap (λ (x : Found). opened_by d k key x t) e)
 
-  pub opened_at : Fitting d t → ok_name d (name k key) ≡ true → {i : ℕ} {r : Stepped} → p ≡ At i
+  pub opened_at : Fitting d t → ok_name d (name k key) ≡ true → {i : ℕ} {r : Stepped} → p ≡ Some i
       → r ≡ ended_as (record { state = opened k key; slot = i }) Obeyed → stepping r u ≡ stepped_of d (acted d nothing_open t (opens k key))
   unfolding opened_by on_found held_of slot_by
   opened_at f o {i} {r} h e =
@@ -71,7 +67,7 @@ module _ (d : Desk) (k : Kind) (key : Key) (t : List ℕ) {p : Place} {u : List 
       ∙ ended_as_lem d (started d t n) (opened k key) Obeyed e q
       ∙ ap (λ (x : Step). stepped_of d x) (opened_by_lem a)
 
-  pub opened_full : {c : ℕ} {f : Fault} {r : Stepped} → p ≡ Nowhere → c ≡ full_of k → f ≡ blame_none c
+  pub opened_full : {c : ℕ} {f : Fault} {r : Stepped} → p ≡ None → c ≡ full_of k → f ≡ blame_none c
       → r ≡ ended_as (resting Skipping) (Dropped f) → stepping r u ≡ stepped_of d (acted d nothing_open t (opens k key))
   unfolding opened_by acted
   opened_full {c} {f} {r} h g b e =
@@ -81,22 +77,9 @@ module _ (d : Desk) (k : Kind) (key : Key) (t : List ℕ) {p : Place} {u : List 
       ∙ ap (λ (x : Fault). stepped_of d (ended skipping (Dropped x) t)) (b ∙ ap (λ (x : ℕ). blame_none x) g)
       ∙ ap (λ (x : Step). stepped_of d x) (opened_by_lem a)
 
--- ---- the name, in either load
-pub counters_fit : {l : List ℕ} {n : Numbers} → n ≡ numbers_in l → CountersFit l → NumbersFit n
-counters_fit e f = subst (λ (x : Numbers). NumbersFit x) (sym e) f.numbers
-
-module _ (d : Desk) (l : List ℕ) (k : Kind) (ws : List Word) {b : Bool} (a : b ≡ is_anew l) {r : Named} where
-  pub name_anew : b ≡ true → {n : Numbers} → n ≡ numbers_in l → r ≡ next_named d n k ws → r ≡ named_in d (numbers_in l) k ws
-  unfolding numbers_in
-  name_anew t e z = z ∙ ap (λ (x : Numbers). next_named d x k ws) e ∙ sym (cond-true (is_anew l) _ _ (sym a ∙ t))
-
-  pub name_given : b ≡ false → r ≡ named_of d k ws → r ≡ named_in d (numbers_in l) k ws
-  unfolding numbers_in
-  name_given f z = z ∙ sym (cond-false (is_anew l) _ _ (sym a ∙ f))
-
 -- ---- support, then the name, in either load
 module _ (d : Desk) (m : Numbers) (k : Kind) (w : Word) (ws : List Word) where
-  abbrev by_name : Named → Ask
+  abbrev by_name : Result Key Fault → Ask
   by_name n = cond (supported d k) (named_ask k n) (skips (Dropped (blame w (unsupported_of k))))
 
   primary_is : by_name (named_in d m k ws) ≡ primary_ask_in d m k w ws
@@ -108,26 +91,26 @@ module _ (d : Desk) (m : Numbers) (k : Kind) (w : Word) (ws : List Word) where
     primary_unsupported h g e =
         ap (λ (x : Fault). skips (Dropped x)) (e ∙ ap (λ (x : ℕ). blame w x) g) ∙ sym (cond-false (supported d k) _ _ (sym s ∙ h)) ∙ primary_is
 
-    module _ (h : b ≡ true) {n : Named} (g : n ≡ named_in d m k ws) where
-      named_by : {x : Named} → n ≡ x → named_ask k x ≡ primary_ask_in d m k w ws
-      named_by e = ap (λ (x : Named). named_ask k x) (sym e ∙ g) ∙ sym (cond-true (supported d k) _ _ (sym s ∙ h)) ∙ primary_is
+    module _ (h : b ≡ true) {n : Result Key Fault} (g : n ≡ named_in d m k ws) where
+      named_by : {x : Result Key Fault} → n ≡ x → named_ask k x ≡ primary_ask_in d m k w ws
+      named_by e = ap (λ (x : Result Key Fault). named_ask k x) (sym e ∙ g) ∙ sym (cond-true (supported d k) _ _ (sym s ∙ h)) ∙ primary_is
 
-      pub primary_refused : {f : Fault} → n ≡ Refused f → skips (Dropped f) ≡ primary_ask_in d m k w ws
+      pub primary_refused : {f : Fault} → n ≡ Err f → skips (Dropped f) ≡ primary_ask_in d m k w ws
       unfolding named_ask
-      primary_refused {f} e = named_by {x = Refused f} e
+      primary_refused {f} e = named_by {x = Err f} e
 
-      pub primary_opened : {key : Key} → n ≡ Accepted key → opens k key ≡ primary_ask_in d m k w ws
+      pub primary_opened : {key : Key} → n ≡ Ok key → opens k key ≡ primary_ask_in d m k w ws
       unfolding named_ask
-      primary_opened {key} e = named_by {x = Accepted key} e
+      primary_opened {key} e = named_by {x = Ok key} e
 
 -- an accepted name is one that the desk can have
-module _ (d : Desk) (m : Numbers) (k : Kind) (ws : List Word) {b : Bool} (s : b ≡ supported d k) (h : b ≡ true) {n : Named}
+module _ (d : Desk) (m : Numbers) (k : Kind) (ws : List Word) {b : Bool} (s : b ≡ supported d k) (h : b ≡ true) {n : Result Key Fault}
     (g : n ≡ named_in d m k ws) where
-  pub primary_ok : InRange d → {key : Key} → n ≡ Accepted key → ok_name d (name k key) ≡ true
+  pub primary_ok : InRange d → {key : Key} → n ≡ Ok key → ok_name d (name k key) ≡ true
   primary_ok r {key} e =
-      let q : named_in d m k ws ≡ Accepted key = sym g ∙ e in
+      let q : named_in d m k ws ≡ Ok key = sym g ∙ e in
       by_bool m.anew
-      (λ a. subst (λ (x : Named). NamedOk d k x) (sym (cond-true m.anew _ _ a) ∙ q) (next_named_ok d k (sym s ∙ h) m ws) r)
+      (λ a. subst (λ (x : Result Key Fault). NamedOk d k x) (sym (cond-true m.anew _ _ a) ∙ q) (next_named_ok d k (sym s ∙ h) m ws) r)
       (λ a. accepted_ok d k r (sym s ∙ h) ws (sym (cond-false m.anew _ _ a) ∙ q))
 
 -- ---- what was open plays no part
@@ -135,12 +118,12 @@ module _ (d : Desk) (s : State) (t : List ℕ) (m : Numbers) (k : Kind) where
   abbrev Alike : Ask → Type 0
   Alike a = acted d nothing_open t a ≡ acted d s t a
 
-  named_alike : (n : Named) → Alike (named_ask k n)
+  named_alike : (n : Result Key Fault) → Alike (named_ask k n)
   unfolding named_ask acted
-  named_alike (Refused f) = refl
-  named_alike (Accepted key) = refl
+  named_alike (Err f) = refl
+  named_alike (Ok key) = refl
 
-  by_name_alike : (w : Word) (ws : List Word) (n : Named) → Alike (by_name d m k w ws n)
+  by_name_alike : (w : Word) (ws : List Word) (n : Result Key Fault) → Alike (by_name d m k w ws n)
   unfolding acted
   by_name_alike w ws n =
       by_test Alike (supported d k) (named_ask k n) (skips (Dropped (blame w (unsupported_of k)))) (λ e. named_alike n) (λ e. refl)

@@ -2,12 +2,13 @@
 -- LINK that is only heard.
 -- By cases on what the fields ask for and on what is open.
 -- Assumes nothing.
+use Rattle.std.specs.Prelude.{Err, Ok, Result}
 use mathlib.Core.Path.{◌≡◌, refl, sym, ap, ◌∙◌, subst}
 use mathlib.Core.Bool.{Bool, true, false, ◌&&◌, false≢true}
 use mathlib.Core.List.{List, []}
 use Prim.Native.Nat.{ℕ}
 use Rattle.cells.specs.Search.{at}
-use Rattle.cells.proofs.Split.{by_test, cond-true, cond-false, and_false_left, and_false_right, and_then}
+use Rattle.cells.proofs.Split.{by_test, cond-true, cond-false, and_false_left, and_then}
 use Rattle.store_desk.specs.declared.Desk.{Desk}
 use Rattle.store_desk.specs.declared.Kind.{Kind}
 use Rattle.store_desk.specs.declared.Kind.TheVariants.{Cue}
@@ -29,8 +30,6 @@ use Rattle.load.specs.declared.Outcome.{Outcome}
 use Rattle.load.specs.declared.Outcome.TheVariants.{Passed, Dropped, Obeyed}
 use Rattle.load.specs.declared.Secondary.{Secondary}
 use Rattle.load.specs.declared.Secondary.TheVariants.{Chan, Up, Down, Followon, Link}
-use Rattle.load.specs.declared.Reading.{Reading}
-use Rattle.load.specs.declared.Reading.TheVariants.{Wrong as Misread, Change}
 use Rattle.load.specs.Condition.{wrong_secondary}
 use Rattle.load.specs.Item.{blame, pairs_of, memory, all_done}
 use Rattle.load.specs.Ask.{Ask, rests, edits, name, augments, times_of, change_ask, obeyed_ask, secondary_ask}
@@ -61,9 +60,9 @@ change_editing d k e c = record { fits = in_time_fits e c.1; channel = on_desk e
     on_desk (SetLink whole fraction) h = tt
     on_desk (SetLevel channel v) h = absurd h
 
-reading_fits : (d : Desk) (k : Kind) (x : Reading) → ReadingOk k x → ReadingFits d x
-reading_fits d k (Misread c) h = tt
-reading_fits d k (Change e) h = change_editing d k e h
+reading_fits : (d : Desk) (k : Kind) (x : Result Edit Fault) → ReadingOk k x → ReadingFits d x
+reading_fits d k (Err c) h = tt
+reading_fits d k (Ok e) h = change_editing d k e h
 
 -- a cue has them all
 cue_has : (e : Secondary) → augments Cue e ≡ true
@@ -74,25 +73,25 @@ cue_has Down = refl
 cue_has Followon = refl
 cue_has Link = refl
 
-pub times_fit : (d : Desk) (e : Secondary) (ws : List Word) {x : Reading} → x ≡ times_of e ws → ReadingFits d x
-times_fit d e ws g = subst (λ (y : Reading). ReadingFits d y) (sym g) (reading_fits d Cue (times_of e ws) (reading_ok Cue e (cue_has e) ws))
+pub times_fit : (d : Desk) (e : Secondary) (ws : List Word) {x : Result Edit Fault} → x ≡ times_of e ws → ReadingFits d x
+times_fit d e ws g = subst (λ (y : Result Edit Fault). ReadingFits d y) (sym g) (reading_fits d Cue (times_of e ws) (reading_ok Cue e (cue_has e) ws))
 
-pub change_fits : (d : Desk) {x : Reading} {e : Edit} → ReadingFits d x → x ≡ Change e → Editing d e
-change_fits d f g = subst (λ (y : Reading). ReadingFits d y) g f
+pub change_fits : (d : Desk) {x : Result Edit Fault} {e : Edit} → ReadingFits d x → x ≡ Ok e → Editing d e
+change_fits d f g = subst (λ (y : Result Edit Fault). ReadingFits d y) g f
 
 -- ---- UP, DOWN, FOLLOWON, LINK: what is asked
-pub change_wrong : (n : Name) {x : Reading} {f : Fault} → x ≡ Misread f → rests (Dropped f) ≡ change_ask n x
+pub change_wrong : (n : Name) {x : Result Edit Fault} {f : Fault} → x ≡ Err f → rests (Dropped f) ≡ change_ask n x
 unfolding change_ask
-change_wrong n e = sym (ap (λ (y : Reading). change_ask n y) e)
+change_wrong n e = sym (ap (λ (y : Result Edit Fault). change_ask n y) e)
 
-pub change_edits : (n : Name) {x : Reading} {e : Edit} → x ≡ Change e → edits n e ≡ change_ask n x
+pub change_edits : (n : Name) {x : Result Edit Fault} {e : Edit} → x ≡ Ok e → edits n e ≡ change_ask n x
 unfolding change_ask
-change_edits n e = sym (ap (λ (y : Reading). change_ask n y) e)
+change_edits n e = sym (ap (λ (y : Result Edit Fault). change_ask n y) e)
 
-change_faults : (d : Desk) (s : State) (t : List ℕ) (n : Name) (x : Reading) → (acted d s t (change_ask n x)).faults ≡ []
+change_faults : (d : Desk) (s : State) (t : List ℕ) (n : Name) (x : Result Edit Fault) → (acted d s t (change_ask n x)).faults ≡ []
 unfolding change_ask acted
-change_faults d s t n (Misread f) = refl
-change_faults d s t n (Change e) = refl
+change_faults d s t n (Err f) = refl
+change_faults d s t n (Ok e) = refl
 
 -- CHAN has items, the others a change
 items_chan : (d : Desk) (n : Name) (e : Secondary) (ws : List Word) → has_items e ≡ true → obeyed_ask d n Chan ws ≡ obeyed_ask d n e ws
@@ -115,10 +114,10 @@ module _ (d : Desk) (s : State) (t : List ℕ) (n : Name) (e : Secondary) (ws : 
   pub obeyed_chan : b ≡ true → {q : DeedsAll} → q ≡ did_all (acted d s t (obeyed_ask d n Chan ws)) fs → q ≡ did_all (acted d s t (obeyed_ask d n e ws)) fs
   obeyed_chan w z = asked_did_all d s t fs (items_chan d n e ws (sym h ∙ w)) z
 
-  pub obeyed_change : b ≡ false → {x : Reading} {r : Did} {u : List ℕ} → x ≡ times_of e ws → doing r u ≡ did_of (acted d s t (change_ask n x))
+  pub obeyed_change : b ≡ false → {x : Result Edit Fault} {r : Did} {u : List ℕ} → x ≡ times_of e ws → doing r u ≡ did_of (acted d s t (change_ask n x))
       → doing_all r u fs ≡ did_all (acted d s t (obeyed_ask d n e ws)) fs
   obeyed_change w {x} g z =
-      asked_did_all d s t fs (ap (λ (y : Reading). change_ask n y) g ∙ no_items d n e ws (sym h ∙ w))
+      asked_did_all d s t fs (ap (λ (y : Result Edit Fault). change_ask n y) g ∙ no_items d n e ws (sym h ∙ w))
       (did_all_lem (acted d s t (change_ask n x)) fs (change_faults d s t n x) z)
 
 -- ---- what the store does in the open memory's slot
@@ -141,6 +140,11 @@ module _ (d : Desk) (t : List ℕ) {h : Held} (g : HeldReady d t h) (o : IsOpen 
       λ i. doing_all (record { outcome = Obeyed; faults = (q i).count }) (a i) (q i).faults
 
 -- ---- by what is open
+pub none_open : (o : Open) → ((k : Kind) → o ≡ Memory k → ⊥) → (o ≡ Skipping → ⊥) → o ≡ Nothing
+none_open Nothing m s = refl
+none_open Skipping m s = absurd (s refl)
+none_open (Memory k) m s = absurd (m k refl)
+
 pub is_open : {o : Open} {k : Kind} → o ≡ Memory k → IsOpen o
 is_open e = subst (λ (x : Open). IsOpen x) (sym e) tt
 
@@ -167,35 +171,27 @@ module _ (d : Desk) (s : State) (e : Secondary) (w : Word) (ws : List Word) wher
     secondary_obeyed z =
         ap (λ (x : Open). obeyed_ask d (name (kind_in x) s.key) e ws) o ∙ sym (cond-true (augments k e) _ _ (sym a ∙ z)) ∙ ap Asked (sym o)
 
--- ---- a LINK of an open cue, in a load with translation
-module _ (anew : Bool) (e : Secondary) where
-  pub link_given : (o : Open) → anew ≡ false → false ≡ (anew && asks_link o e)
-  link_given o a = sym (and_false_left anew (asks_link o e) a)
+-- ---- a LINK of an open cue
+never_links : (e : Secondary) (o : Open) → links_in o ≡ false → false ≡ asks_link o e
+never_links e o q = sym (and_false_left (links_in o) (is_link e) q)
 
-  never_links : (o : Open) → asks_link o e ≡ false → false ≡ (anew && asks_link o e)
-  never_links o q = sym (and_false_right anew (asks_link o e) q)
+module _ (e : Secondary) {o : Open} where
+  pub link_nothing : o ≡ Nothing → false ≡ asks_link o e
+  unfolding links_in
+  link_nothing q = never_links e o (ap links_in q)
 
-  module _ {o : Open} where
-    pub link_nothing : o ≡ Nothing → false ≡ (anew && asks_link o e)
+  pub link_skipping : o ≡ Skipping → false ≡ asks_link o e
+  unfolding links_in
+  link_skipping q = never_links e o (ap links_in q)
+
+  module _ {k : Kind} (q : o ≡ Memory k) {b : Bool} (h : b ≡ has_link k) where
+    pub link_none : b ≡ false → b ≡ asks_link o e
     unfolding links_in
-    link_nothing q = never_links o (ap (λ (x : Open). asks_link x e) q)
+    link_none f = f ∙ never_links e o (ap links_in q ∙ sym h ∙ f)
 
-    pub link_skipping : o ≡ Skipping → false ≡ (anew && asks_link o e)
+    pub link_cue : b ≡ true → {r : Bool} → r ≡ is_link e → r ≡ asks_link o e
     unfolding links_in
-    link_skipping q = never_links o (ap (λ (x : Open). asks_link x e) q)
-
-    module _ {k : Kind} (q : o ≡ Memory k) {b : Bool} (h : b ≡ has_link k) where
-      pub link_none : b ≡ false → false ≡ (anew && asks_link o e)
-      unfolding links_in
-      link_none f = never_links o (ap (λ (x : Open). asks_link x e) q ∙ and_false_left (has_link k) (is_link e) (sym h ∙ f))
-
-      pub link_cue : b ≡ true → anew ≡ true → {r : Bool} → r ≡ is_link e → r ≡ (anew && asks_link o e)
-      unfolding links_in
-      link_cue t a z =
-          z
-          ∙ and_then (has_link k) (is_link e) (sym h ∙ t)
-          ∙ ap (λ (x : Open). asks_link x e) (sym q)
-          ∙ and_then anew (asks_link o e) a
+    link_cue t z = z ∙ and_then (links_in o) (is_link e) (ap links_in q ∙ sym h ∙ t)
 
 -- it is heard, and asks for nothing
 module _ (d : Desk) (s : State) (anew : Bool) (e : Secondary) (w : Word) (ws : List Word) {b : Bool} (h : b ≡ (anew && asks_link s.«open» e)) where
@@ -224,10 +220,10 @@ module _ (d : Desk) (t : List ℕ) {h : Held} (g : HeldReady d t h) (f : Fitting
     memory_found : find d t memory_name ≡ at memory_slot
     memory_found = subst (λ (x : Open). IsKept d t h.state.key x) o g.settled.kept
 
-    change_stays : (x : Reading) → ReadingOk k x → Stays (change_ask memory_name x)
+    change_stays : (x : Result Edit Fault) → ReadingOk k x → Stays (change_ask memory_name x)
     unfolding change_ask acted
-    change_stays (Misread c) r = g.same
-    change_stays (Change e) r =
+    change_stays (Err c) r = g.same
+    change_stays (Ok e) r =
         held_stays d t (edited d t memory_name e) (edited-find d t f memory_name memory_slot memory_found e (in_time_fits e r.1)) g.same
 
     obeyed_stays : (e : Secondary) → augments k e ≡ true → (ws : List Word) → Stays (obeyed_ask d memory_name e ws)

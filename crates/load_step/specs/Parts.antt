@@ -1,13 +1,13 @@
 -- What the private functions speak of: which secondary has items, and that a change which is asked for can be written. No promise above this
 -- crate names these.
 -- Assumes nothing.
-use Rattle.std.specs.Prelude.{Bool, true, false}
+use Rattle.std.specs.Prelude.{Bool, true, false, Err, Ok, Result}
 use Rattle.store_desk.specs.declared.Desk.{Desk}
 use Rattle.store_code.specs.Fits.{Editing}
-use Rattle.load.specs.declared.Reading.{Reading}
-use Rattle.load.specs.declared.Reading.TheVariants.{Wrong as Misread, Change}
 use Rattle.load.specs.declared.Secondary.{Secondary}
 use Rattle.load.specs.declared.Secondary.TheVariants.{Chan, Up, Down, Followon, Link}
+use Rattle.store.specs.declared.Edit.{Edit}
+use Rattle.load.specs.declared.Fault.{Fault}
 
 -- CHAN has items
 unfoldable pub has_items : Secondary → Bool
@@ -18,6 +18,6 @@ has_items Followon = false
 has_items Link = false
 
 -- a change that is asked for can be written
-abbrev pub ReadingFits : Desk → Reading → Type 0
-ReadingFits d (Misread f) = Unit {0}
-ReadingFits d (Change e) = Editing d e
+abbrev pub ReadingFits : Desk → Result Edit Fault → Type 0
+ReadingFits d (Err f) = Unit {0}
+ReadingFits d (Ok e) = Editing d e

@@ -7,20 +7,16 @@ use mathlib.Core.List.{List, [], ◌∷◌, ◌++◌}
 use Prim.Native.Nat.{ℕ, suc, ◌+◌, ◌≤◌, ◌<◌, zero-le}
 use native.Mathlib.Numerals.{add-one}
 use native.Mathlib.Omega.{arith}
-use lib.Dec.{ltb}
-use lib.ListN.{length, get_or, set, take, drop, length-append, length-map, get_or-map}
+use lib.ListN.{length, get_or, take, drop, length-append, length-map, get_or-map}
 use lib.Seq.{take_all, take-suc, split_at}
 use Rattle.text_records.specs.Received.{longest}
-use borrow.Author.Tests.{lt-ltb, le-ltb}
-use Rattle.cells.proofs.Split.{cond-true, cond-false, or_left, or_right}
+use Rattle.cells.proofs.Split.{or_left, or_right}
 use Rattle.text_records.specs.Cleaning.{is_high, is_control, column_of, has}
 use Rattle.text_records.proofs.Columns.{column_none, column_within, column_unmarred}
 use Rattle.load.specs.declared.Outcome.{Outcome}
-use Rattle.load.specs.declared.Outcome.TheVariants.{Stopped}
 use Rattle.load.specs.declared.Fault.{Fault}
-use Rattle.load.specs.Condition.{over_long_record, ignored_high, ignored_control}
+use Rattle.load.specs.Condition.{ignored_high, ignored_control}
 use Rattle.load.specs.Item.{blame_none}
-use Rattle.load.specs.Run.{report_word}
 use Rattle.load.specs.Step.{one_if}
 use Rattle.load.specs.Fits.{fault_in, Small, Near}
 use Rattle.load.proofs.Steps.{Modest}
@@ -51,25 +47,6 @@ unfolding Near
 near_more n m l [] h = tt
 near_more n m l (f ∷ fs) h = (let a = h.0 in omega arith, near_more n m l fs h.1)
 
--- ---- a report
-pub report_is : (n : Count) (l : List ℕ) (c k : ℕ) {r : Count} {m : List ℕ} {at word : ℕ}
-    → m ≡ set l at word → at ≡ n.reports → word ≡ report_word (record { number = n.records; condition = c; column = k })
-    → r ≡ counted n c → told r m ≡ told_as (told n l) c k
-unfolding told_as
-report_is n l c k {r} {m} e a w g =
-    let s : m ≡ set l n.reports (report_word (record { number = n.records; condition = c; column = k })) = e ∙ (λ i. set l (a i) (w i)) in
-    λ i. told (g i) (s i)
-
-pub as_if : (x : Told) (c : ℕ) {so : Bool} → so ≡ true → told_as x c 0 ≡ told_if x so c
-as_if x c {so} e = sym (cond-true so (told_as x c 0) x e)
-
-pub as_unless : (x : Told) (c : ℕ) {so : Bool} → so ≡ false → x ≡ told_if x so c
-as_unless x c {so} e = sym (cond-false so (told_as x c 0) x e)
-
--- the same for counters that are known by an equation
-pub as_from : (l : List ℕ) (c k : ℕ) {n m : Count} {x : Told} → x ≡ told_as (told n l) c k → n ≡ m → x ≡ told_as (told m l) c k
-as_from l c k e f = e ∙ ap (λ (z : Count). told_as (told z l) c k) f
-
 -- ---- faults of a record with the characters xs
 module _ (xs : List ℕ) where
   -- one that blames no field has column 0
@@ -97,13 +74,6 @@ module _ (xs : List ℕ) where
   pub told_single : (x : Told) (f : Fault) → told_one xs x f ≡ told_all xs x (f ∷ [])
   unfolding told_all
   told_single x f = refl
-
-  -- a record that stops the load is reported if it has a condition
-  pub stop_told : (x : Told) (f : Fault) → 0 < f.condition → told_one xs x f ≡ told_all xs x (one_if (ltb 0 f.condition) f)
-  stop_told x f h = told_single x f ∙ ap (λ (b : Bool). told_all xs x (one_if b f)) (sym (lt-ltb 0 f.condition h))
-
-  pub stop_none : (x : Told) (f : Fault) → f.condition ≤ 0 → x ≡ told_all xs x (one_if (ltb 0 f.condition) f)
-  stop_none x f h = told_none x ∙ ap (λ (b : Bool). told_all xs x (one_if b f)) (sym (le-ltb 0 f.condition h))
 
   -- the same for counters that are known by an equation
   pub all_from : (l : List ℕ) (fs : List Fault) {n m : Count} {x : Told} → x ≡ told_all xs (told n l) fs → n ≡ m → x ≡ told_all xs (told m l) fs
@@ -150,12 +120,6 @@ module _ (xs : List ℕ) where
 
   pub tellable_from : {n m : Count} {fs : List Fault} → n ≡ m → Tellable m xs fs → Tellable n xs fs
   tellable_from {n} {m} {fs} e h = subst (λ (k : Count). Tellable k xs fs) (sym e) h
-
-  pub tellable_of : {n : Count} (f : Outcome → List Fault) {o v : Outcome} → o ≡ v → Tellable n xs (f o) → Tellable n xs (f v)
-  tellable_of {n} f e h = subst (λ (u : Outcome). Tellable n xs (f u)) e h
-
-  pub tellable_stop : {n : Count} {f : Fault} → Tellable n xs (one_if (ltb 0 f.condition) f) → 0 < f.condition → Tellable n xs (f ∷ [])
-  tellable_stop {n} {f} h l = subst (λ (b : Bool). Tellable n xs (one_if b f)) (lt-ltb 0 f.condition l) h
 
   -- a fault's report: its parts fit their bits, and its place is within the record
   pub tellable_place : {n : Count} {f : Fault} → Tellable n xs (f ∷ []) → f.place ≤ length xs
@@ -300,16 +264,3 @@ module _ (xs : List ℕ) where
       → x ≡ told_all xs (told n₃ l₃) ds → x ≡ told_all xs (told n l) ((hs ++ bs) ++ (cs ++ ds))
   told_groups n hs bs cs ds l {n₁} {n₂} {n₃} {l₁} {l₂} {l₃} e f g k =
       told_then (told n l) (hs ++ bs) (cs ++ ds) (told_then (told n l) hs bs e f) (told_then (told n₂ l₂) cs ds g k)
-
--- a record that is stopped, by the fault that stops it
-pub stopped_by : (n : Count) {f g : Fault} {r : Count} → r ≡ tallied n (Stopped f) → f ≡ g → r ≡ tallied n (Stopped g)
-stopped_by n e h = e ∙ ap (λ (f : Fault). tallied n (Stopped f)) h
-
--- the one report of an over-long record
-pub long_reportable : (n : Count) (o : Outcome) {r : Count} → r ≡ tallied n o → Countable n → n.reports ≤ most_records → Reportable r over_long_record 0
-unfolding tallied
-long_reportable n o {r} e h g =
-    let a : n.records < most_records = h.below in
-    let b : r.records ≡ n.records + 1 = ap (λ (k : Count). k.records) e in
-    let p : r.reports ≡ n.reports = ap (λ (k : Count). k.reports) e in
-    record { numbered = omega arith; room = omega arith; small = omega arith; narrow = omega arith }

@@ -8,9 +8,10 @@ use Prim.Native.Nat.{ℕ, zero, suc, ◌+◌, ◌-◌, ◌≤◌, ◌<◌}
 use native.Mathlib.Numerals.{add-one}
 use native.Mathlib.Omega.{arith}
 use lib.Dec.{eqb}
-use lib.ListN.{length, get_or, set, drop, replicate, length-set, length-replicate, get_or-replicate, drop_of_length-le}
-use lib.Seq.{drop-cons, get_or-set_same, get_or-set_other}
+use lib.ListN.{length, get_or, set, replicate, length-set, length-replicate, get_or-replicate}
+use lib.Seq.{get_or-set_same, get_or-set_other}
 use borrow.Author.Tests.{eqb-true, eq-eqb, ne_eqb}
+use Rattle.std.specs.List.{list_any}
 use Rattle.cells.proofs.Split.{by_test, by_bool, by_eq, cond-true, cond-false, cond_ap, same_test}
 use Rattle.value.specs.Number.{no_number}
 use Rattle.load.specs.Translated.{last_bearer, bearer_of}
@@ -18,22 +19,10 @@ use Rattle.load_translate.specs.Bearing.{bearer_now, met_from, met, found_by, so
 use Rattle.load_translate.specs.Links.{any_asked}
 
 -- ---- whether anything was asked for
-module _ (asked : List ℕ) {i : ℕ} (h : i < length asked) where
-  any_at : any_asked (drop i asked) ≡ cond (eqb (get_or asked i 0) 0) (any_asked (drop (i + 1) asked)) true
-  unfolding any_asked
-  any_at =
-      ap any_asked (drop-cons asked i 0 h)
-      ∙ ap (λ (n : ℕ). cond (eqb (get_or asked i 0) 0) (any_asked (drop n asked)) true) (sym (add-one i))
-
-  pub any_hit : (get_or asked i 0 ≡ 0 → ⊥) → any_asked (drop i asked) ≡ true
-  any_hit n = any_at ∙ cond-false (eqb (get_or asked i 0) 0) _ _ (ne_eqb (get_or asked i 0) 0 n)
-
-  pub any_more : get_or asked i 0 ≡ 0 → any_asked (drop i asked) ≡ any_asked (drop (i + 1) asked)
-  any_more e = any_at ∙ cond-true (eqb (get_or asked i 0) 0) _ _ (eq-eqb (get_or asked i 0) 0 e)
-
-pub any_end : (asked : List ℕ) {i : ℕ} → length asked ≤ i → any_asked (drop i asked) ≡ false
+pub any_is : (asked : List ℕ) → list_any (λ (a : ℕ). not (eqb a 0)) asked ≡ any_asked asked
 unfolding any_asked
-any_end asked h = ap any_asked (drop_of_length-le asked h)
+any_is [] = refl
+any_is (a ∷ asked) = by_bool (eqb a 0) (λ t. rw t (any_is asked)) (λ t. rw t refl)
 
 first_none : (a : ℕ) (r : Bool) → cond (eqb a 0) r true ≡ false → a ≡ 0
 first_none a r e = by_bool (eqb a 0) (λ t. eqb-true a 0 t) (λ t. absurd (true≢false (sym (cond-false (eqb a 0) r true t) ∙ e)))
@@ -89,9 +78,6 @@ module _ (asked : List ℕ) (m k : ℕ) where
       ∙ ap (bearer_now (get_or asked j 0) m k) (get_or-set_other found i j (v i) 0 e))
 
   -- the turns of the loop over the slots
-  pub meet_start : (found : List ℕ) → met_from asked m k (length found) 0 found ≡ met_from asked m k (length found - 0) 0 found
-  meet_start found = let s : length found ≡ length found - 0 = omega arith in ap (λ (z : ℕ). met_from asked m k z 0 found) s
-
   pub meet_more : (n : ℕ) {i : ℕ} (found : List ℕ) {v : ℕ} → i < n → v ≡ bearer_now (get_or asked i 0) m k (get_or found i 0)
       → met_from asked m k (n - i) i found ≡ met_from asked m k (n - (i + 1)) (i + 1) (set found i v)
   unfolding met_from

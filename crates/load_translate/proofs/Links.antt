@@ -44,9 +44,6 @@ used_test {a} w u e =
     (λ g. lt-leb u w g ∙ sym (not-true a (sym e ∙ lt-ltb w u g)))
     (λ g. le-leb u w g ∙ sym (not-false a (sym e ∙ le-ltb w u g)))
 
-pub not_asked : (a : ℕ) (b : Bool) → a ≡ 0 → false ≡ (not (eqb a 0) && b)
-not_asked a b e = sym (ap (λ (t : Bool). not t && b) (eq-eqb a 0 e))
-
 pub is_asked : (a : ℕ) (b : Bool) → (a ≡ 0 → ⊥) → b ≡ (not (eqb a 0) && b)
 is_asked a b n = sym (ap (λ (t : Bool). not t && b) (ne_eqb a 0 n))
 

@@ -2,6 +2,7 @@
 -- accepted CUEs bore. There are marks for all: a CUE record takes four bytes of the stream, with its terminator. By induction on the records and on
 -- what was noted of them.
 -- Assumes nothing.
+use Rattle.std.proofs.Common.{Option, None, Some}
 use mathlib.Core.Path.{◌≡◌, refl, sym, ap, ◌∙◌, subst}
 use mathlib.Core.Bool.{Bool, true, false, cond, ◌&&◌, false≢true}
 use mathlib.Core.List.{List, [], ◌∷◌, map}
@@ -41,10 +42,7 @@ use Rattle.load.specs.Fits.{most_records}
 use Rattle.load.specs.Run.{stops}
 use Rattle.load.specs.Translated.{Note, anew_from_one, step_in, numbers_after_of, notes_in, is_accepted_cue, borne_in, bornes}
 use Rattle.load_hear.specs.Marks.{bit_of, with_bit, marked, is_marked, marked_at, tried_at, marks_by}
-use Rattle.load_hear.proofs.Bits.{no_bit}
-use Rattle.load_run.proofs.Closing.{zero_at}
-use Rattle.load_translate.specs.declared.Bearing.{Bearing}
-use Rattle.load_translate.specs.declared.Bearing.TheVariants.{Other as Bare, Cue as Bears}
+use Rattle.load_hear.proofs.Bits.{no_bit, bit_same, bit_other}
 use Rattle.load_translate.specs.Bearing.{family_bearing, fields_bearing, bearing_in, on_bearing, marked_bornes}
 
 -- ---- a part of a list
@@ -55,24 +53,6 @@ take_few : (n : ℕ) (s : List ℕ) → length (take n s) ≤ n
 take_few n s = omega (arith, length-take n s)
 
 -- ---- a mark that is set, and the others
-bit_same : (b c : ℕ) → bit_of b (with_bit b c) ≡ 1
-unfolding bit_of with_bit
-bit_same zero c = omega arith
-bit_same (suc b) c =
-    let e : (with_bit b (c / 2) * 2 + c % 2) / 2 ≡ with_bit b (c / 2) = omega arith in
-    ap (λ (k : ℕ). bit_of b k) e ∙ bit_same b (c / 2)
-
-bit_other : (a b c : ℕ) → (a ≡ b → ⊥) → bit_of a (with_bit b c) ≡ bit_of a c
-unfolding bit_of with_bit
-bit_other zero zero c n = absurd (n refl)
-bit_other zero (suc b) c n = omega arith
-bit_other (suc a) zero c n =
-    let e : (c / 2 * 2 + 1) / 2 ≡ c / 2 = omega arith in
-    ap (λ (k : ℕ). bit_of a k) e
-bit_other (suc a) (suc b) c n =
-    let e : (with_bit b (c / 2) * 2 + c % 2) / 2 ≡ with_bit b (c / 2) = omega arith in
-    ap (λ (k : ℕ). bit_of a k) e ∙ bit_other a b (c / 2) (λ f. n (ap suc f))
-
 mark_same : (ms : List ℕ) (n : ℕ) → n / 8 < length ms → is_marked (marked ms n) n ≡ true
 unfolding is_marked marked
 mark_same ms n h =
@@ -102,32 +82,37 @@ mark_other ms n k h =
     (λ e. ap (λ (c : ℕ). eqb (bit_of (k % 8) c) 1) (get_or-set_other ms (n / 8) (k / 8) (with_bit (n % 8) (get_or ms (n / 8) 0)) 0 e))
 
 -- of zeros none is set
+zero_at : (n i : ℕ) → ◌≡◌ {A = ℕ} (get_or (replicate n 0) i 0) 0
+zero_at zero i = refl
+zero_at (suc n) zero = refl
+zero_at (suc n) (suc i) = zero_at n i
+
 none_marked : (n k : ℕ) → is_marked (replicate n 0) k ≡ false
 unfolding is_marked
 none_marked n k =
     ap (λ (c : ℕ). eqb (bit_of (k % 8) c) 1) (zero_at n (k / 8)) ∙ ap (λ (b : ℕ). eqb b 1) (no_bit (k % 8))
 
 -- ---- a record bears what is heard of it
-bearing_by : Heard → ℕ → Bearing
-bearing_by Other m = Bare
-bearing_by (Accepted Cue) m = Bears m
-bearing_by (Accepted Group) m = Bare
-bearing_by (Accepted Sub) m = Bare
-bearing_by (Refused Cue) m = Bears m
-bearing_by (Refused Group) m = Bare
-bearing_by (Refused Sub) m = Bare
-bearing_by (Asked n) m = Bare
+bearing_by : Heard → ℕ → Option ℕ
+bearing_by Other m = None
+bearing_by (Accepted Cue) m = Some m
+bearing_by (Accepted Group) m = None
+bearing_by (Accepted Sub) m = None
+bearing_by (Refused Cue) m = Some m
+bearing_by (Refused Group) m = None
+bearing_by (Refused Sub) m = None
+bearing_by (Asked n) m = None
 
 family_bears : (f : Family) (ws : List Word) (o : Outcome) → family_bearing f ws ≡ bearing_by (family_heard f ws o) (borne_of (head_of ws).chars)
 unfolding family_bearing family_heard bearing_by
 family_bears (Primary Cue) ws o =
-    by_test (λ (h : Heard). Bears (borne_of (head_of ws).chars) ≡ bearing_by h (borne_of (head_of ws).chars)) (is_obeyed o) _ _ (λ e. refl) (λ e. refl)
+    by_test (λ (h : Heard). Some (borne_of (head_of ws).chars) ≡ bearing_by h (borne_of (head_of ws).chars)) (is_obeyed o) _ _ (λ e. refl) (λ e. refl)
 family_bears (Primary Group) ws o =
-    by_test (λ (h : Heard). Bare ≡ bearing_by h (borne_of (head_of ws).chars)) (is_obeyed o) _ _ (λ e. refl) (λ e. refl)
+    by_test (λ (h : Heard). None ≡ bearing_by h (borne_of (head_of ws).chars)) (is_obeyed o) _ _ (λ e. refl) (λ e. refl)
 family_bears (Primary Sub) ws o =
-    by_test (λ (h : Heard). Bare ≡ bearing_by h (borne_of (head_of ws).chars)) (is_obeyed o) _ _ (λ e. refl) (λ e. refl)
+    by_test (λ (h : Heard). None ≡ bearing_by h (borne_of (head_of ws).chars)) (is_obeyed o) _ _ (λ e. refl) (λ e. refl)
 family_bears (Augments e) ws o =
-    by_test (λ (h : Heard). Bare ≡ bearing_by h (borne_of (head_of ws).chars)) (is_obeyed o && is_link e) _ _ (λ e. refl) (λ e. refl)
+    by_test (λ (h : Heard). None ≡ bearing_by h (borne_of (head_of ws).chars)) (is_obeyed o && is_link e) _ _ (λ e. refl) (λ e. refl)
 family_bears (Basic b) ws o = refl
 
 fields_bear : (ws : List Word) (o : Outcome) → fields_bearing ws ≡ bearing_by (fields_heard ws o) (borne_of (head_of (tail_of ws)).chars)
@@ -140,10 +125,10 @@ unfolding bearing_in heard_in bearing_by
 heard_bears b r o a =
     by_bool (is_over_long r)
     (λ e.
-    cond-true (is_over_long r) Bare (fields_bearing (fields_of r)) e
+    cond-true (is_over_long r) None (fields_bearing (fields_of r)) e
     ∙ ap (λ (h : Heard). bearing_by h (borne_in r)) (sym (cond-true (is_over_long r) Other (fields_heard (fields_of r) o) e)))
     (λ e.
-    cond-false (is_over_long r) Bare (fields_bearing (fields_of r)) e
+    cond-false (is_over_long r) None (fields_bearing (fields_of r)) e
     ∙ fields_bear (fields_of r) o
     ∙ ap (λ (h : Heard). bearing_by h (borne_in r)) (sym (cond-false (is_over_long r) Other (fields_heard (fields_of r) o) e)))
     ∙ ap (λ (h : Heard). bearing_by h (borne_in r))
@@ -283,7 +268,7 @@ walk_bears (r ∷ rs) (n ∷ ns) ms tried a c l =
     let rest : List (List ℕ) = take (length ns) rs in
     let q : tried_by (tried_at tried h) ns ≤ length (marked_at ms tried h) * 8 =
     subst (λ (k : ℕ). tried_by (tried_at tried h) ns ≤ k * 8) (sym (marked_length ms tried h)) l in
-    ap (λ (b : Bearing). on_bearing b (marked_bornes fs tried rest)
+    ap (λ (b : Option ℕ). on_bearing b (marked_bornes fs tried rest)
     (λ x. cond (is_marked fs tried) (x ∷ marked_bornes fs (tried + 1) rest) (marked_bornes fs (tried + 1) rest))) a.0
     ∙ turn_bears ms tried ns rest (bornes rs ns) (borne_in r) (c tried (le_refl tried)) h l
     (walk_bears rs ns (marked_at ms tried h) (tried_at tried h) a.1 (still_clear ms tried c h) q)
@@ -291,7 +276,7 @@ walk_bears (r ∷ rs) (n ∷ ns) ms tried a c l =
 -- ---- there are marks for all of them
 
 -- what a CUE record takes
-unfoldable weigh : Bearing → ℕ
+unfoldable weigh : Option ℕ → ℕ
 weigh b = on_bearing b 0 (λ m. 4)
 
 unfoldable weights : List (List ℕ) → ℕ
@@ -316,7 +301,7 @@ tried_few [] (n ∷ ns) tried a = absurd a
 tried_few (r ∷ rs) (n ∷ ns) tried a =
     let h : Heard = n.heard in
     let e : 4 * tried_at tried h ≡ 4 * tried + weigh (bearing_in r) =
-    tried_weighs tried h (borne_in r) ∙ ap (λ (b : Bearing). 4 * tried + weigh b) (sym a.0) in
+    tried_weighs tried h (borne_in r) ∙ ap (λ (b : Option ℕ). 4 * tried + weigh b) (sym a.0) in
     let f : 4 * tried_by (tried_at tried h) ns ≤ 4 * tried_at tried h + weights rs = tried_few rs ns (tried_at tried h) a.1 in
     omega arith
 
@@ -391,7 +376,7 @@ fields_long (w ∷ ws) n h = let a : heavy ws (keyword_of w.chars) ≤ length w.
 record_long : (r : List ℕ) → weigh (bearing_in r) ≤ length r + 1
 unfolding bearing_in fields_of words_of weigh on_bearing
 record_long r =
-    by_test (λ (b : Bearing). weigh b ≤ length r + 1) (is_over_long r) _ _ (λ e. zero-le)
+    by_test (λ (b : Option ℕ). weigh b ≤ length r + 1) (is_over_long r) _ _ (λ e. zero-le)
     (λ e.
     let a : length (head_of (words_in (length (kept_of r)) 0 (kept_of r))).chars ≤ length (kept_of r) = head_short (length (kept_of r)) 0 (kept_of r) in
     let b : tell (has is_high r) + tell (has is_control r) + length (kept_of r) ≤ length r = seen_few r in

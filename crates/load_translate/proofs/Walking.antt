@@ -1,6 +1,7 @@
 -- The second walk, record by record: what a record changes, and the turns of the loop. What was met so far stands in front of what the records that
 -- are left bear. By unfolding one record.
 -- Assumes nothing.
+use Rattle.std.proofs.Common.{Option, None, Some}
 use mathlib.Core.Path.{◌≡◌, refl, sym, ap, ◌∙◌, subst}
 use mathlib.Core.Bool.{Bool, true, false, cond, not}
 use mathlib.Core.List.{List, ◌∷◌}
@@ -15,29 +16,27 @@ use Rattle.text_records.proofs.Stream.{records_at, records_end, start_forward, s
 use Rattle.value.specs.Number.{no_number}
 use Rattle.load.specs.Fits.{most_records}
 use Rattle.load_hear.specs.Marks.{is_marked}
-use Rattle.load_translate.specs.declared.Bearing.{Bearing}
-use Rattle.load_translate.specs.declared.Bearing.TheVariants.{Other, Cue as Bears}
 use Rattle.load_translate.specs.declared.Seen.{Seen}
-use Rattle.load_translate.specs.Bearing.{bearing_in, Bearable, on_bearing, marked_bornes, met_from, met, found_by, Meeting, meeting, seen_as, met_by, Countable}
+use Rattle.load_translate.specs.Bearing.{bearing_in, on_bearing, marked_bornes, met_from, met, found_by, Meeting, meeting, seen_as, met_by, Countable}
 
 -- ---- one record, as the code goes
-module _ (ms asked : List ℕ) (s : Seen) (found : List ℕ) {b : Bearing} where
-  pub none_met : b ≡ Other → meeting s found ≡ met_by ms asked b (meeting s found)
+module _ (ms asked : List ℕ) (s : Seen) (found : List ℕ) {b : Option ℕ} where
+  pub none_met : b ≡ None → meeting s found ≡ met_by ms asked b (meeting s found)
   unfolding met_by
-  none_met e = sym (ap (λ (x : Bearing). met_by ms asked x (meeting s found)) e)
+  none_met e = sym (ap (λ (x : Option ℕ). met_by ms asked x (meeting s found)) e)
 
-  module _ {m : ℕ} (e : b ≡ Bears m) {a : Bool} (f : a ≡ is_marked ms s.tried) where
+  module _ {m : ℕ} (e : b ≡ Some m) {a : Bool} (f : a ≡ is_marked ms s.tried) where
     pub refused_met : not a ≡ true → meeting (seen_as (s.tried + 1) s.cues) found ≡ met_by ms asked b (meeting s found)
     unfolding met_by
     refused_met t =
         sym
-        (ap (λ (x : Bearing). met_by ms asked x (meeting s found)) e ∙ cond-false (is_marked ms s.tried) _ _ (sym f ∙ not-true a t))
+        (ap (λ (x : Option ℕ). met_by ms asked x (meeting s found)) e ∙ cond-false (is_marked ms s.tried) _ _ (sym f ∙ not-true a t))
 
     accepted_met : not a ≡ false
         → met_by ms asked b (meeting s found) ≡ meeting (seen_as (s.tried + 1) (s.cues + 1)) (met asked m (s.cues + 1) found)
     unfolding met_by
     accepted_met t =
-        ap (λ (x : Bearing). met_by ms asked x (meeting s found)) e ∙ cond-true (is_marked ms s.tried) _ _ (sym f ∙ not-false a t)
+        ap (λ (x : Option ℕ). met_by ms asked x (meeting s found)) e ∙ cond-true (is_marked ms s.tried) _ _ (sym f ∙ not-false a t)
 
     pub unnumbered_met : not a ≡ false → m ≡ no_number
         → meeting (seen_as (s.tried + 1) (s.cues + 1)) found ≡ met_by ms asked b (meeting s found)
@@ -56,35 +55,32 @@ module _ (ms asked : List ℕ) (s : Seen) (found : List ℕ) {b : Bearing} where
         (accepted_met t
         ∙ ap (meeting (seen_as (s.tried + 1) (s.cues + 1))) (cond-false (eqb m no_number) found _ (ne_eqb m no_number n)))
 
-pub met_fits : {b : Bearing} {m : ℕ} → b ≡ Bears m → Bearable b → m < 4294967295
-met_fits e h = subst (λ (x : Bearing). Bearable x) e h
-
 -- ---- one record, in the definition
 module _ (ms asked : List ℕ) (z : Meeting) (rs : List (List ℕ)) where
   abbrev onward : Meeting → List ℕ
   onward y = found_by asked (y.seen.cues + 1) y.found (marked_bornes ms y.seen.tried rs)
 
-  bearing_step : (b : Bearing)
+  bearing_step : (b : Option ℕ)
       → found_by asked (z.seen.cues + 1) z.found
       (on_bearing b (marked_bornes ms z.seen.tried rs)
       (λ m.
       cond (is_marked ms z.seen.tried) (m ∷ marked_bornes ms (z.seen.tried + 1) rs) (marked_bornes ms (z.seen.tried + 1) rs)))
       ≡ onward (met_by ms asked b z)
   unfolding on_bearing met_by found_by
-  bearing_step Other = refl
-  bearing_step (Bears m) = by_bool (is_marked ms z.seen.tried) (λ t. rw t refl) (λ t. rw t refl)
+  bearing_step None = refl
+  bearing_step (Some m) = by_bool (is_marked ms z.seen.tried) (λ t. rw t refl) (λ t. rw t refl)
 
-  met_step : (r : List ℕ) {b : Bearing} → b ≡ bearing_in r
+  met_step : (r : List ℕ) {b : Option ℕ} → b ≡ bearing_in r
       → found_by asked (z.seen.cues + 1) z.found (marked_bornes ms z.seen.tried (r ∷ rs)) ≡ onward (met_by ms asked b z)
   unfolding marked_bornes
-  met_step r e = bearing_step (bearing_in r) ∙ ap (λ (b : Bearing). onward (met_by ms asked b z)) (sym e)
+  met_step r e = bearing_step (bearing_in r) ∙ ap (λ (b : Option ℕ). onward (met_by ms asked b z)) (sym e)
 
 -- at most one more of each
-met_numbers : (ms asked : List ℕ) (z : Meeting) (b : Bearing)
+met_numbers : (ms asked : List ℕ) (z : Meeting) (b : Option ℕ)
     → ((met_by ms asked b z).seen.tried ≤ z.seen.tried + 1) × ((met_by ms asked b z).seen.cues ≤ z.seen.cues + 1)
 unfolding met_by
-met_numbers ms asked z Other = (omega arith, omega arith)
-met_numbers ms asked z (Bears m) =
+met_numbers ms asked z None = (omega arith, omega arith)
+met_numbers ms asked z (Some m) =
     by_test (λ (y : Meeting). (y.seen.tried ≤ z.seen.tried + 1) × (y.seen.cues ≤ z.seen.cues + 1)) (is_marked ms z.seen.tried) _ _
     (λ t. (omega arith, omega arith)) (λ t. (omega arith, omega arith))
 
@@ -137,15 +133,8 @@ module _ {stream ms asked found₀ : List ℕ} {records : ℕ} {s : Seen} {n at 
         let g = here in
         record { tries = omega arith; accepts = omega arith }
 
-    pub loop_room : n < most_records
-    loop_room =
-        let l = w.long in
-        let b = w.behind in
-        let g = here in
-        omega arith
-
     pub loop_turn : {end next : ℕ} → end ≡ record_end stream at → next ≡ next_start stream end
-        → {b : Bearing} → b ≡ bearing_in (take (end - at) (drop at stream)) → {q : Seen} {now : List ℕ}
+        → {b : Option ℕ} → b ≡ bearing_in (take (end - at) (drop at stream)) → {q : Seen} {now : List ℕ}
         → meeting q now ≡ met_by ms asked b (meeting s found) → length now ≡ length found
         → SoFar stream ms asked found₀ records q (n + 1) next now
     loop_turn {end} {next} e f {b} g {q} {now} m l =

@@ -20,7 +20,10 @@ use Rattle.load.specs.Translated.{anew_from_one, Note, run_in, notes_in, most_cu
 use Rattle.load.proofs.Counts.{run_in_records, run_in-reports, lost_few}
 use Rattle.load.proofs.Anew.{notes_count}
 use Rattle.load_hear.specs.Marks.{marks_by}
-use Rattle.load_hear.specs.Book.{is_anew, numbers_in, counts_by}
+use Rattle.load_hear.specs.declared.Book.{Book}
+use Rattle.load_hear.specs.Naming.{noted_by}
+use Rattle.load_hear.specs.Book.{book_numbers, BookWithin, booked_at, new_book}
+use Rattle.load_hear.proofs.Booking.{noted_marks, noted_asked}
 use Rattle.load_tell.specs.declared.Count.{Count}
 use Rattle.load_tell.specs.Count.{count_of, Told, told, Reportable}
 use Rattle.load_tell.proofs.Counting.{after, count_reportable}
@@ -41,6 +44,15 @@ run_loaded_lem x reps {n} {l} {us} {b} {r} {t} e f g h =
     let q : closed r us ≡ closed (totals_of x) (stored_in reps (all_reports x)) =
     g ∙ (λ i. close_of (e i).count (f i) (e i).list) ∙ close_run x reps in
     λ i. run_loaded (q i).totals (h i) (q i).reports
+
+-- ---- the walk begins with a new book
+pub new_within : {b : Book} → b ≡ new_book → BookWithin b 0
+new_within e =
+    subst (λ (x : Book). BookWithin x 0) (sym e) (record { cues = omega arith; groups = omega arith; subs = omega arith; tried = omega arith })
+
+pub walked_new : (d : Desk) (t₀ stream reps₀ : List ℕ) {w : Walked Book} {b : Book} → b ≡ new_book
+    → w ≡ walk_of book_numbers booked_at d t₀ stream reps₀ b → w ≡ walk_of book_numbers booked_at d t₀ stream reps₀ new_book
+walked_new d t₀ stream reps₀ e f = f ∙ ap (walk_of book_numbers booked_at d t₀ stream reps₀) e
 
 -- ---- after the walk
 module _ (d : Desk) (t₀ stream reps₀ : List ℕ) (long : length stream ≤ most_records) where
@@ -68,28 +80,31 @@ module _ (d : Desk) (t₀ stream reps₀ : List ℕ) (long : length stream ≤ m
       let b : length (flatten (records_of stream)) ≤ length stream = characters_few stream in
       omega arith
 
-  module _ (p : Progress) {t reps l ms qs : List ℕ}
-      (e : walked p t reps l ms qs ≡ walk_of d t₀ stream reps₀ (replicate 4 0) (replicate 8192 0) (replicate most_cues 0)) where
-    walk_is : walked p t reps l ms qs
+  module _ (p : Progress) {t reps : List ℕ} {k : Book} (e : walked p t reps k ≡ walk_of book_numbers booked_at d t₀ stream reps₀ new_book) where
+    walk_is : walked p t reps k
         ≡ record {
           count = count_of run.outcomes run.reports;
           stopped = run.stopped;
           store = run.store;
           reports = stored_in reps₀ run.reports;
-          numbers = counts_by (replicate 4 0) notes;
-          marks = marks_by (replicate 8192 0) 0 notes;
-          asked = asked_by (replicate most_cues 0) notes;
+          book = noted_by booked_at new_book notes;
         }
-    unfolding walk_of walked_by numbers_in is_anew
+    unfolding walk_of walked_by
     walk_is = e
+
+    walk_marks : k.marks ≡ marks_by (replicate 8192 0) 0 notes
+    walk_marks = ap (λ (y : Walked Book). y.book.marks) walk_is ∙ noted_marks notes new_book
+
+    walk_asked : k.asked ≡ asked_by (replicate most_cues 0) notes
+    walk_asked = ap (λ (y : Walked Book). y.book.asked) walk_is ∙ noted_asked notes new_book
 
     walked_records : p.count.records ≡ length run.outcomes
     unfolding count_of
-    walked_records = ap (λ (y : Walked). y.count.records) walk_is
+    walked_records = ap (λ (y : Walked Book). y.count.records) walk_is
 
     walked_reports : p.count.reports ≡ length run.reports
     unfolding count_of
-    walked_reports = ap (λ (y : Walked). y.count.reports) walk_is
+    walked_reports = ap (λ (y : Walked Book). y.count.reports) walk_is
 
     pub walk_losing : Losing p.count
     walk_losing =
@@ -102,21 +117,21 @@ module _ (d : Desk) (t₀ stream reps₀ : List ℕ) (long : length stream ≤ m
     pub walk_records : p.count.records ≤ length (records_of stream)
     walk_records = subst (λ (k : ℕ). k ≤ length (records_of stream)) (sym walked_records) few_records
 
-    walk_bornes : marked_bornes ms 0 (take p.count.records (records_of stream)) ≡ bornes (records_of stream) notes
+    walk_bornes : marked_bornes k.marks 0 (take p.count.records (records_of stream)) ≡ bornes (records_of stream) notes
     walk_bornes =
         let c : p.count.records ≡ length notes = walked_records ∙ sym (notes_count d 0 anew_from_one nothing_open t₀ (records_of stream)) in
-        (λ i. marked_bornes (walk_is i).marks 0 (take (c i) (records_of stream))) ∙ marks_bornes d t₀ stream long
+        (λ i. marked_bornes (walk_marks i) 0 (take (c i) (records_of stream))) ∙ marks_bornes d t₀ stream long
 
     -- ---- after the links
     module _ {n : Count} {u us : List ℕ}
-        (f : linking n u us ≡ linked_by (linked d qs (marked_bornes ms 0 (take p.count.records (records_of stream))) t) (told p.count reps)) where
+        (f : linking n u us ≡ linked_by (linked d k.asked (marked_bornes k.marks 0 (take p.count.records (records_of stream))) t) (told p.count reps)) where
       abbrev whole : Run
       whole = with_links run links
 
       links_is : linking n u us ≡ linked_by links (after run.outcomes reps₀ run.reports)
       links_is =
           f
-          ∙ (λ i. linked_by (linked d (walk_is i).asked (walk_bornes i) (walk_is i).store) (told (walk_is i).count (walk_is i).reports))
+          ∙ (λ i. linked_by (linked d (walk_asked i) (walk_bornes i) (walk_is i).store) (told (walk_is i).count (walk_is i).reports))
 
       links_told : told n us ≡ after whole.outcomes reps₀ whole.reports
       unfolding linked_by
@@ -142,4 +157,4 @@ module _ (d : Desk) (t₀ stream reps₀ : List ℕ) (long : length stream ≤ m
       pub translated_loaded : {r : Totals} {vs : List ℕ} → closed r vs ≡ close_of n p.stopped us
           → run_loaded r u vs ≡ loaded_of (translated_of d t₀ stream) reps₀
       unfolding translated_of
-      translated_loaded g = run_loaded_lem whole reps₀ links_told (ap (λ (y : Walked). y.stopped) walk_is) g links_store
+      translated_loaded g = run_loaded_lem whole reps₀ links_told (ap (λ (y : Walked Book). y.stopped) walk_is) g links_store

@@ -1,7 +1,7 @@
 -- The second walk: which number each accepted CUE bore, told by the marks of the first walk, and the last bearer of each number that was asked for
 -- (paper 02, C-13). No promise above this crate names these.
 -- Assumes nothing.
-use Rattle.std.specs.Prelude.{cond, List, [], ◌∷◌, ℕ, zero, suc, ◌+◌, ◌<◌, eqb, length, get_or, set}
+use Rattle.std.specs.Prelude.{Option, None, Some, cond, List, [], ◌∷◌, ℕ, zero, suc, ◌+◌, ◌<◌, eqb, length, get_or, set}
 use Rattle.store_desk.specs.declared.Kind.TheVariants.{Cue, Group, Sub}
 use Rattle.text_fields.specs.Words.{Word, fields_of, head_of}
 use Rattle.text_fields.specs.Keywords.{keyword_of}
@@ -11,33 +11,31 @@ use Rattle.load.specs.declared.Family.TheVariants.{Primary, Augments, Basic}
 use Rattle.load.specs.Ask.{family_of, is_over_long}
 use Rattle.load.specs.Fits.{most_records}
 use Rattle.load_hear.specs.Marks.{is_marked}
-use Rattle.load_translate.specs.declared.Bearing.{Bearing}
-use Rattle.load_translate.specs.declared.Bearing.TheVariants.{Other, Cue as Bears}
 use Rattle.load_translate.specs.declared.Seen.{Seen}
 use Rattle.load_translate.specs.Links.{any_asked}
 
 -- ---- a record
 
-unfoldable pub family_bearing : Family → List Word → Bearing
-family_bearing (Primary Cue) ws = Bears (borne_of (head_of ws).chars)
-family_bearing (Primary Group) ws = Other
-family_bearing (Primary Sub) ws = Other
-family_bearing (Augments e) ws = Other
-family_bearing (Basic b) ws = Other
+unfoldable pub family_bearing : Family → List Word → Option ℕ
+family_bearing (Primary Cue) ws = Some (borne_of (head_of ws).chars)
+family_bearing (Primary Group) ws = None
+family_bearing (Primary Sub) ws = None
+family_bearing (Augments e) ws = None
+family_bearing (Basic b) ws = None
 
-unfoldable pub fields_bearing : List Word → Bearing
-fields_bearing [] = Other
+unfoldable pub fields_bearing : List Word → Option ℕ
+fields_bearing [] = None
 fields_bearing (w ∷ ws) = family_bearing (family_of (keyword_of w.chars)) ws
 
 -- as received; of an over-long one nothing is heard
-unfoldable pub bearing_in : List ℕ → Bearing
-bearing_in r = cond (is_over_long r) Other (fields_bearing (fields_of r))
+unfoldable pub bearing_in : List ℕ → Option ℕ
+bearing_in r = cond (is_over_long r) None (fields_bearing (fields_of r))
 
 -- ---- what the marked CUEs of some records bore, after so many CUE records
 
-unfoldable pub on_bearing : {A : Type 0} → Bearing → A → (ℕ → A) → A
-on_bearing Other a f = a
-on_bearing (Bears m) a f = f m
+unfoldable pub on_bearing : {A : Type 0} → Option ℕ → A → (ℕ → A) → A
+on_bearing None a f = a
+on_bearing (Some m) a f = f m
 
 unfoldable pub marked_bornes : List ℕ → ℕ → List (List ℕ) → List ℕ
 marked_bornes ms tried [] = []
@@ -79,18 +77,18 @@ meeting s found = record { seen = s; found = found }
 abbrev pub seen_as : ℕ → ℕ → Seen
 seen_as tried cues = record { tried = tried; cues = cues }
 
-unfoldable pub met_by : List ℕ → List ℕ → Bearing → Meeting → Meeting
-met_by ms asked Other x = x
-met_by ms asked (Bears m) x =
+unfoldable pub met_by : List ℕ → List ℕ → Option ℕ → Meeting → Meeting
+met_by ms asked None x = x
+met_by ms asked (Some m) x =
     let s = x.seen in
     cond (is_marked ms s.tried)
     (meeting (seen_as (s.tried + 1) (s.cues + 1)) (met asked m (s.cues + 1) x.found))
     (meeting (seen_as (s.tried + 1) s.cues) x.found)
 
 -- a number that a CUE bears is far below what wraps
-abbrev pub Bearable : Bearing → Type 0
-Bearable Other = Unit {0}
-Bearable (Bears m) = m < 4294967295
+abbrev pub Bearable : Option ℕ → Type 0
+Bearable None = Unit {0}
+Bearable (Some m) = m < 4294967295
 
 -- so are the counts
 pub record Countable (s : Seen) : Type 0 where

@@ -21,15 +21,9 @@ ghost use Rattle.load_translate.specs.Bearing.{family_bearing, fields_bearing, b
 ghost use Rattle.load_translate.specs.Links.{linking, link_on, links_on, linked_by, any_asked, Losing};
 
 use load::{Family, Totals};
+use load_hear::Book;
 use load_tell::Count;
 use store_desk::{Desk, Kind};
-
-// What a CUE record bears.
-#[derive(Clone, Copy)]
-enum Bearing {
-    Other,
-    Cue(u32),
-}
 
 // How many CUE records there were so far, and how many of them were accepted.
 #[derive(Clone, Copy)]
@@ -42,51 +36,49 @@ const BAD_NUMBER: u32 = 41;
 
 // ---- which cue bears which number
 
-fn family_bearing(f: Family, text: &[u8], at: usize) -> Bearing
+// What a CUE record bears; any other bears nothing.
+fn family_bearing(f: Family, text: &[u8], at: usize) -> Option<u32>
     requires { Line text.now at }
     ensures { result ≡ family_bearing f (words_from text.now at) }
 {
     match f {
+        // Of `Primary(Kind::Group | Kind::Sub)`, or of a `_` behind `Primary(Kind::Cue)`, the proof knows no kind.
         Family::Primary(kind) => match kind {
-            Kind::Cue => Bearing::Cue(load_naming::borne_at(text, at)),
-            Kind::Group => Bearing::Other,
-            Kind::Sub => Bearing::Other,
+            Kind::Cue => Some(load_naming::borne_at(text, at)),
+            Kind::Group | Kind::Sub => None,
         },
-        Family::Augments(_) => Bearing::Other,
-        Family::Basic(_) => Bearing::Other,
+        Family::Augments(_) | Family::Basic(_) => None,
     }
 }
 
 // Of a record's text.
-fn text_bearing(text: &[u8]) -> Bearing
+fn text_bearing(text: &[u8]) -> Option<u32>
     requires { length text.now ≤ longest }
     ensures { result ≡ fields_bearing (words_of 0 text.now) }
 {
     let start = text_fields::field_start(text, 0);
     if start < text.len() {
         let said = text_fields::keyword_again(text, start);
-        let k = said.keyword;
-        return family_bearing(load_naming::family_of(k), text, said.end);
+        return family_bearing(load_naming::family_of(said.keyword), text, said.end);
     }
-    Bearing::Other
+    None
 }
 
 // Of the record from `at` to `end`; of an over-long one nothing is heard.
-fn bearing_at(stream: &[u8], at: usize, end: usize, plain: bool) -> Bearing
+fn bearing_at(stream: &[u8], at: usize, end: usize, plain: bool) -> Option<u32>
     requires { Spans stream.now at end plain }
     ensures { result ≡ bearing_in (take (end - at) (drop at stream.now)) }
 {
     let r = text_records::receive(stream, at, end);
     let mut bytes = r.bytes;
     if text_records::over_long(r) {
-        return Bearing::Other;
+        return None;
     }
-    let n = r.count;
-    if plain {
-        return text_bearing(&bytes[..n]);
-    }
-    let c = text_records::clean(&mut bytes[..n]);
-    let n = c.count;
+    let n = if plain {
+        r.count
+    } else {
+        text_records::clean(&mut bytes[..r.count]).count
+    };
     text_bearing(&bytes[..n])
 }
 
@@ -95,10 +87,7 @@ fn bearer_now(asked: u32, number: u32, k: u32, bearer: u32) -> u32
     requires { number < 4294967295 }
     ensures { result ≡ bearer_now asked number k bearer }
 {
-    if asked == number + 1 {
-        return k;
-    }
-    bearer
+    if asked == number + 1 { k } else { bearer }
 }
 
 // Of every slot.
@@ -107,56 +96,46 @@ fn meet(asked: &[u32], found: &mut [u32], number: u32, k: u32)
     requires number_bound { number < 4294967295 }
     ensures { found.new ≡ met_from asked.now number k (length found.old) 0 found.old }
 {
-    let mut i = 0;
-    while i < found.len() {
-        found[i] = bearer_now(asked[i], number, k, found[i]);
-        i += 1;
+    for (i, bearer) in found.iter_mut().enumerate() {
+        *bearer = bearer_now(asked[i], number, k, *bearer);
     }
 }
 
 // One record, by what it bears: the marks tell which CUEs were accepted.
-fn meet_bearing(b: Bearing, seen: Seen, marks: &[u8], asked: &[u32], found: &mut [u32]) -> Seen
-    requires found_in_bounds { length found.old ≤ length asked.now }
+fn meet_bearing(b: Option<u32>, seen: Seen, book: &Book, found: &mut [u32]) -> Seen
+    requires found_in_bounds { length found.old ≤ length book.now.asked }
     requires bearable { Bearable b }
     requires countable { Countable seen }
-    ensures { meeting result found.new ≡ met_by marks.now asked.now b (meeting seen found.old) }
+    ensures { meeting result found.new ≡ met_by book.now.marks book.now.asked b (meeting seen found.old) }
 {
-    match b {
-        Bearing::Other => seen,
-        Bearing::Cue(number) => {
-            let tried = seen.tried + 1;
-            if !load_hear::is_mark(marks, seen.tried) {
-                return Seen {
-                    tried,
-                    cues: seen.cues,
-                };
-            }
-            let cues = seen.cues + 1;
-            if number == value::NO_NUMBER {
-                return Seen { tried, cues };
-            }
-            meet(asked, found, number, cues);
-            Seen { tried, cues }
-        }
+    let Some(number) = b else {
+        return seen;
+    };
+    let tried = seen.tried + 1;
+    if !load_hear::is_mark(&book.marks, seen.tried) {
+        return Seen { tried, ..seen };
     }
+    let cues = seen.cues + 1;
+    if number != value::NO_NUMBER {
+        meet(&book.asked, found, number, cues);
+    }
+    Seen { tried, cues }
 }
 
 // The records that were read, once more.
-fn bear(stream: &[u8], records: u32, marks: &[u8], asked: &[u32], found: &mut [u32])
+fn bear(stream: &[u8], records: u32, book: &Book, found: &mut [u32])
     requires records_in_bounds { records ≤ length (records_of stream.now) }
     requires stream_len_bound { length stream.now ≤ most_records }
-    requires found_in_bounds { length found.old ≤ length asked.now }
-    ensures { found.new ≡ found_by asked.now 1 found.old (marked_bornes marks.now 0 (take records (records_of stream.now))) }
+    requires found_in_bounds { length found.old ≤ length book.now.asked }
+    ensures { found.new ≡ found_by book.now.asked 1 found.old (marked_bornes book.now.marks 0 (take records (records_of stream.now))) }
 {
     let mut seen = Seen { tried: 0, cues: 0 };
-    let mut n = 0;
     let mut at = 0;
-    while n < records {
+    for n in 0..records {
         let first = text_records::plain_again(stream, at);
         let end = text_records::record_end(stream, first);
         let b = bearing_at(stream, at, end, first == end);
-        seen = meet_bearing(b, seen, marks, asked, found);
-        n += 1;
+        seen = meet_bearing(b, seen, book, found);
         at = text_records::next_start(stream, end);
     }
 }
@@ -166,14 +145,7 @@ fn bear(stream: &[u8], records: u32, marks: &[u8], asked: &[u32], found: &mut [u
 fn any_asked(asked: &[u32]) -> bool
     ensures { result ≡ any_asked asked.now }
 {
-    let mut i = 0;
-    while i < asked.len() {
-        if asked[i] != 0 {
-            return true;
-        }
-        i += 1;
-    }
-    false
+    asked.iter().any(|a| *a != 0)
 }
 
 // A kept cue that asked for a number.
@@ -182,10 +154,7 @@ fn has_asked(desk: Desk, store: &[u8], asked: u32, slot: usize) -> bool
     requires slot_bound { slot < slots_of desk }
     ensures { result ≡ (not (eqb asked 0) && is_used (head_at desk store.now slot)) }
 {
-    if asked == 0 {
-        return false;
-    }
-    store_head::USED_WORD <= store_code::word_at(desk, store, slot)
+    asked != 0 && store_head::USED_WORD <= store_code::word_at(desk, store, slot)
 }
 
 fn link_slot(
@@ -227,25 +196,22 @@ fn link_all(
     requires losing { Losing count }
     ensures { linking result store.new reports.new ≡ links_on desk asked.now found.now desk.cues 0 (linking count store.old reports.old) }
 {
-    let cues = desk.cues as usize;
     let mut n = count;
-    let mut slot = 0;
-    while slot < cues {
+    for slot in 0..desk.cues as usize {
         n = link_slot(desk, store, reports, n, slot, asked[slot], found[slot]);
-        slot += 1;
     }
     n
 }
 
 // The last bearers are sought where something was asked for.
-fn seek(stream: &[u8], records: u32, marks: &[u8], asked: &[u32], found: &mut [u32])
+fn seek(stream: &[u8], records: u32, book: &Book, found: &mut [u32])
     requires records_in_bounds { records ≤ length (records_of stream.now) }
     requires stream_len_bound { length stream.now ≤ most_records }
-    requires found_in_bounds { length found.old ≤ length asked.now }
-    ensures { found.new ≡ sought_by asked.now found.old (marked_bornes marks.now 0 (take records (records_of stream.now))) }
+    requires found_in_bounds { length found.old ≤ length book.now.asked }
+    ensures { found.new ≡ sought_by book.now.asked found.old (marked_bornes book.now.marks 0 (take records (records_of stream.now))) }
 {
-    if any_asked(asked) {
-        bear(stream, records, marks, asked, found);
+    if any_asked(&book.asked) {
+        bear(stream, records, book, found);
     }
 }
 
@@ -256,19 +222,17 @@ fn link(
     stream: &[u8],
     reports: &mut [u64],
     count: Count,
-    marks: &[u8],
-    asked: &[u32],
+    book: &Book,
 ) -> Count
     requires fitting { Fitting desk store.old }
     requires stream_len_bound { length stream.now ≤ most_records }
-    requires asked_len { length asked.now ≡ most_cues }
     requires losing { Losing count }
     requires records_in_bounds { count.records ≤ length (records_of stream.now) }
-    ensures { linking result store.new reports.new ≡ linked_by (linked desk asked.now (marked_bornes marks.now 0 (take count.records (records_of stream.now))) store.old) (told count reports.old) }
+    ensures { linking result store.new reports.new ≡ linked_by (linked desk book.now.asked (marked_bornes book.now.marks 0 (take count.records (records_of stream.now))) store.old) (told count reports.old) }
 {
     let mut found = [0u32; 600];
-    seek(stream, count.records, marks, asked, &mut found);
-    link_all(desk, store, reports, count, asked, &found)
+    seek(stream, count.records, book, &mut found);
+    link_all(desk, store, reports, count, &book.asked, &found)
 }
 
 // Loads a stream, its cues, groups and submasters numbered anew.
@@ -277,19 +241,8 @@ pub fn run(desk: Desk, store: &mut [u8], stream: &[u8], reports: &mut [u64]) -> 
     requires stream_len_bound { length stream.now ≤ most_records }
     ensures { run_loaded result store.new reports.new ≡ loaded_of (translated_of desk store.old stream.now) reports.old }
 {
-    let mut marks = [0u8; 8192];
-    let mut asked = [0u32; 600];
-    let mut numbers = [0u32; 4];
-    let done = load_run::walk(
-        desk,
-        store,
-        stream,
-        reports,
-        &mut numbers,
-        &mut marks,
-        &mut asked,
-    );
-    let count = done.count;
-    let count = link(desk, store, stream, reports, count, &marks, &asked);
+    let mut book = Book::new();
+    let done = load_run::walk(desk, store, stream, reports, &mut book);
+    let count = link(desk, store, stream, reports, done.count, &book);
     load_run::close(reports, count, done.stopped)
 }

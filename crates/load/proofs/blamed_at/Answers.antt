@@ -5,5 +5,5 @@ use Rattle.load.proofs.blamed_at.Goals as goal
 pub returns-then-start-text : goal.returns-then-start-text
 returns-then-start-text c = blamed_there _ _ _ c.field_start-start.ensures c.if-start-text.true
 
-pub returns : goal.returns
-returns c = blamed_past _ _ _ c.field_start-start.ensures c.if-start-text.false c.blameless.ensures
+pub returns-else-start-text : goal.returns-else-start-text
+returns-else-start-text c = blamed_past _ _ _ c.field_start-start.ensures c.if-start-text.false c.blameless.ensures

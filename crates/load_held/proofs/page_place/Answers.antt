@@ -6,5 +6,5 @@ use Rattle.load_held.proofs.page_place.Goals as goal
 pub returns-then-every : goal.returns-then-every
 returns-then-every c = record { result_value = page_ignored _ _ c.if-every.true; upper_bound = le_refl _ }
 
-pub returns : goal.returns
-returns c = record { result_value = page_behind _ _ c.if-every.false; upper_bound = c.requires }
+pub returns-else-every : goal.returns-else-every
+returns-else-every c = record { result_value = page_behind _ _ c.if-every.false; upper_bound = c.requires }

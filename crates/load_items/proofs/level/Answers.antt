@@ -8,5 +8,5 @@ returns-then-ends c = lit_whole _ _ c.level_at-l.ensures c.ends.ensures c.if-end
 pub unlit-requires : goal.unlit-requires
 unlit-requires c = leveling_within _ _ c.level_at-l.ensures c.requires
 
-pub returns : goal.returns
-returns c = lit_longer _ _ c.level_at-l.ensures c.ends.ensures c.if-ends.false c.unlit.ensures
+pub returns-else-ends : goal.returns-else-ends
+returns-else-ends c = lit_longer _ _ c.level_at-l.ensures c.ends.ensures c.if-ends.false c.unlit.ensures

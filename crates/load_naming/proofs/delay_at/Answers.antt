@@ -8,5 +8,5 @@ returns-then-is_missing c = delay_none _ _ c.field_at-f.ensures c.is_missing.ens
 pub time_in-requires : goal.time_in-requires
 time_in-requires c = field_in c.requires c.field_at-f.ensures
 
-pub returns : goal.returns
-returns c = delay_some _ _ c.field_at-f.ensures c.is_missing.ensures c.if-is_missing.false c.time_in.ensures
+pub returns-else-is_missing : goal.returns-else-is_missing
+returns-else-is_missing c = delay_some _ _ c.field_at-f.ensures c.is_missing.ensures c.if-is_missing.false c.time_in.ensures

@@ -13,4 +13,4 @@ pub returns-in_default : goal.returns-in_default
 returns-in_default c = followon_wrong c.requires c.field_at-f.ensures c.time_in.ensures c.in_default.is c.blamed.ensures
 
 pub returns : goal.returns
-returns c = followon_good c.requires c.field_at-f.ensures c.time_in.ensures c.in-Value.is
+returns c = followon_good c.requires c.field_at-f.ensures c.time_in.ensures c.in-Some.is

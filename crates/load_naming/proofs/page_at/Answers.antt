@@ -8,5 +8,5 @@ returns-then-is_missing c = page_none _ _ c.field_at-f.ensures c.is_missing.ensu
 pub word-requires : goal.word-requires
 word-requires c = field_lent (field_in c.requires c.field_at-f.ensures)
 
-pub returns : goal.returns
-returns c = page_some _ _ c.field_at-f.ensures c.is_missing.ensures _ _ c.if-is_missing.false c.word.ensures c.read_page.ensures
+pub returns-else-is_missing : goal.returns-else-is_missing
+returns-else-is_missing c = page_some _ _ c.field_at-f.ensures c.is_missing.ensures _ _ c.if-is_missing.false c.word.ensures c.read_page.ensures

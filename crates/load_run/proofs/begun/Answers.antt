@@ -4,4 +4,4 @@ use Rattle.load_run.proofs.begun.Goals as goal
 
 pub returns : goal.returns
 unfolding nothing_begun
-returns c = rw c.nothing_read-count.ensures
+returns c = rw (c.resting.ensures, c.nothing_read.ensures)

@@ -10,24 +10,25 @@ use Rattle.load_run.proofs.take_record.Goals as goal
 use Rattle.load_run.proofs.take_record.Goals.{then-not-plain, else-not-plain}
 
 pub receive-r-requires : goal.receive-r-requires
-receive-r-requires c = spans_in _ _ _ c.requires.spans
+receive-r-requires g c = spans_in _ _ _ c.requires.spans
 
 pub returns-then-over_long : goal.returns-then-over_long
-returns-then-over_long c =
-    let g = is_long _ _ _ c.requires.spans c.receive-r.ensures c.over_long.ensures c.if-over_long.true in
-    record { reports_after = long_taken _ _ c.args.done _ _ _ g c.requires.taking.ready c.tell_long.ensures; asked_after = long_booked _ c.args.done _ _ _ _ _ _ g }
+returns-then-over_long g c =
+    let m = g.N.Naming in
+    let l = is_long _ _ _ c.requires.spans c.receive-r.ensures c.over_long.ensures c.if-over_long.true in
+    record { reports_after = long_taken _ _ c.args.done _ _ _ l c.requires.taking.ready c.tell_long.ensures; book_after = long_booked m.laws _ c.args.done _ _ _ _ l }
 
 pub slice_bounds-bytes-end : goal.slice_bounds-bytes-end
-slice_bounds-bytes-end c = short_within _ _ _ c.requires.spans c.receive-r.ensures c.over_long.ensures c.if-over_long.false
+slice_bounds-bytes-end g c = short_within _ _ _ c.requires.spans c.receive-r.ensures c.over_long.ensures c.if-over_long.false
 
 pub slice_bounds-clean-end : goal.slice_bounds-clean-end
-slice_bounds-clean-end c = sym (length-take-le _ _ (short_within _ _ _ c.requires.spans c.receive-r.ensures c.over_long.ensures c.if-over_long.false))
+slice_bounds-clean-end g c = sym (length-take-le _ _ (short_within _ _ _ c.requires.spans c.receive-r.ensures c.over_long.ensures c.if-over_long.false))
 
 pub slice_bounds-take_text-end : goal.slice_bounds-take_text-end
-slice_bounds-take_text-end c = (spans_in _ _ _ c.requires.spans).1
+slice_bounds-take_text-end g c = (spans_in _ _ _ c.requires.spans).1
 
 pub slice_bounds-bytes-end-2 : goal.slice_bounds-bytes-end-2
-slice_bounds-bytes-end-2 c =
+slice_bounds-bytes-end-2 g c =
     let known = c.requires.spans in
     let x : Texted (take (c.args.end - c.args.at) (drop c.args.at c.args.stream.now)) c.if-not-plain.bytes c.if-not-plain.n c.if-not-plain.high c.if-not-plain.control =
     elim c.if-not-plain.branch [
@@ -39,7 +40,7 @@ slice_bounds-bytes-end-2 c =
     x.within
 
 pub slice_bounds-take_text-end-2 : goal.slice_bounds-take_text-end-2
-slice_bounds-take_text-end-2 c =
+slice_bounds-take_text-end-2 g c =
     let known = c.requires.spans in
     let x : Texted (take (c.args.end - c.args.at) (drop c.args.at c.args.stream.now)) c.if-not-plain.bytes c.if-not-plain.n c.if-not-plain.high c.if-not-plain.control =
     elim c.if-not-plain.branch [
@@ -51,7 +52,7 @@ slice_bounds-take_text-end-2 c =
     sym (length-take-le _ _ x.within)
 
 pub take_text-requires : goal.take_text-requires
-take_text-requires c =
+take_text-requires g c =
     let known = c.requires.spans in
     let x : Texted (take (c.args.end - c.args.at) (drop c.args.at c.args.stream.now)) c.if-not-plain.bytes c.if-not-plain.n c.if-not-plain.high c.if-not-plain.control =
     elim c.if-not-plain.branch [
@@ -61,10 +62,10 @@ take_text-requires c =
           texted_as (plain_texted _ _ _ known c.receive-r.ensures c.over_long.ensures c.if-over_long.false (ap not w.if-not-plain.false)) w.bytes-is w.n-is w.high-is w.control-is
     ] in
     let r = text_room_lem x (short_chars _ _ _ c.requires.spans c.receive-r.ensures c.over_long.ensures c.if-over_long.false) (part_taking _ _ _ c.requires.spans c.requires.taking) in
-    record { text_of = r.0; taking = r.1; room = c.requires.room; counters_fit = c.requires.counters_fit }
+    record { text_of = r.0; taking = r.1; room = c.requires.room; counts_fit = c.requires.counts_fit }
 
 pub returns : goal.returns
-returns c =
+returns g c =
     let known = c.requires.spans in
     let x : Texted (take (c.args.end - c.args.at) (drop c.args.at c.args.stream.now)) c.if-not-plain.bytes c.if-not-plain.n c.if-not-plain.high c.if-not-plain.control =
     elim c.if-not-plain.branch [
@@ -73,5 +74,6 @@ returns c =
       | else-not-plain w ↦
           texted_as (plain_texted _ _ _ known c.receive-r.ensures c.over_long.ensures c.if-over_long.false (ap not w.if-not-plain.false)) w.bytes-is w.n-is w.high-is w.control-is
     ] in
-    let g = is_long _ _ _ c.requires.spans c.receive-r.ensures c.over_long.ensures c.if-over_long.false in
-    record { reports_after = c.take_text.ensures.reports_after ∙ text_taken_lem x _ _ c.args.done _ _ g; asked_after = c.take_text.ensures.asked_after ∙ text_booked_lem x _ c.args.done _ _ _ _ _ g }
+    let m = g.N.Naming in
+    let l = is_long _ _ _ c.requires.spans c.receive-r.ensures c.over_long.ensures c.if-over_long.false in
+    record { reports_after = c.take_text.ensures.reports_after ∙ text_taken_lem x _ _ c.args.done _ _ l; book_after = c.take_text.ensures.book_after ∙ text_booked_lem m.laws _ c.args.done _ _ _ x l }

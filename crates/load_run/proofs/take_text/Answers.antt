@@ -8,18 +8,18 @@ use mathlib.Core.Path.{sym}
 use Rattle.load_run.proofs.take_text.Goals as goal
 
 pub step-s-requires : goal.step-s-requires
-step-s-requires c =
+step-s-requires g c =
     let t = c.requires.taking in
-    record { stepping = record { fitting = t.fitting; short = omega (arith, c.requires.text_of.short, c.requires.text_of.within); ready = t.ready }; counters_fit = c.requires.counters_fit; room = c.requires.room }
+    record { stepping = record { fitting = t.fitting; short = omega (arith, c.requires.text_of.short, c.requires.text_of.within); ready = t.ready }; counts_fit = c.requires.counts_fit; room = c.requires.room }
 
 pub slice_bounds-tell-end : goal.slice_bounds-tell-end
-slice_bounds-tell-end c = omega (arith, c.step-s.ensures.faults_le_most_faults, c.step-s.auto.faults, c.requires.room)
+slice_bounds-tell-end g c = omega (arith, c.step-s.ensures.faults_le_most_faults, c.step-s.auto.faults, c.requires.room)
 
 pub slice_bounds-tell-end-2 : goal.slice_bounds-tell-end-2
-slice_bounds-tell-end-2 c = sym (length-take-le _ _ (omega (arith, c.step-s.ensures.faults_le_most_faults, c.step-s.auto.faults, c.requires.room)))
+slice_bounds-tell-end-2 g c = sym (length-take-le _ _ (omega (arith, c.step-s.ensures.faults_le_most_faults, c.step-s.auto.faults, c.requires.room)))
 
 pub tell-count-requires : goal.tell-count-requires
-tell-count-requires c =
+tell-count-requires g c =
     let t = c.requires.taking in record {
       countable = t.countable;
       tellable = step_room _ _ _ c.step-s.ensures.faults_after (step_in_small _ _ _ _ _) c.step-s.ensures.faults_le_most_faults c.requires.room _ _ _ c.args.high c.args.control t.countable t.room
@@ -28,9 +28,9 @@ tell-count-requires c =
     }
 
 pub returns : goal.returns
-returns c =
+returns g c =
     record {
       reports_after = step_taken _ _ _ c.step-s.ensures.faults_after (step_in_small _ _ _ _ _) c.step-s.ensures.faults_le_most_faults c.requires.room _ _ _ (ignored_by c.args.high c.args.control)
-          c.parted-held.ensures c.tell-count.ensures c.stops.ensures;
-      asked_after = step_booked _ _ _ c.step-s.ensures.faults_after _ _ _ _ c.parted-held.ensures c.step-s.ensures.asked_after;
+          c.parted.ensures c.tell-count.ensures c.stops.ensures;
+      book_after = step_booked _ _ _ c.step-s.ensures.faults_after g.N.Naming.ANEW g.N.Naming.after _ _ c.parted.ensures c.step-s.ensures.book_after;
     }

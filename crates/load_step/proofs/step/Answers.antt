@@ -6,20 +6,20 @@ use Rattle.load_step.proofs.Booked.{blank_booked, fields_booked}
 use Rattle.load_step.proofs.step.Goals as goal
 
 pub obey-requires : goal.obey-requires
-obey-requires c = record { fitting = c.requires.stepping.fitting; counters_fit = c.requires.counters_fit; line = said_line _ c.field_start-start.ensures c.keyword_at-said.ensures c.requires.stepping.short; held_ready = c.requires.stepping.ready; room = c.requires.room }
+obey-requires g c = record { fitting = c.requires.stepping.fitting; counts_fit = c.requires.counts_fit; line = said_line _ c.field_start-start.ensures c.keyword_at-said.ensures c.requires.stepping.short; held_ready = c.requires.stepping.ready; room = c.requires.room }
 
 pub returns-then-start-text : goal.returns-then-start-text
-returns-then-start-text c =
+returns-then-start-text g c =
     let r =
     step_told _ _ _ _ _ _ c.requires.stepping.short
     (asked_all _ _ _ _ (step_as _ c.field_start-start.ensures c.keyword_at-said.ensures _ _ _ c.if-start-text.true) c.obey.ensures.faults_after)
-    (fields_booked _ c.field_start-start.ensures _ _ _ _ _ c.keyword_at-said.ensures c.if-start-text.true c.obey.ensures.asked_after) in
-    record { faults_after = r.0; faults_le_most_faults = r.1.0; asked_after = r.1.1 }
+    (fields_booked g.N.Naming.laws _ _ c.field_start-start.ensures _ _ c.keyword_at-said.ensures c.if-start-text.true c.obey.ensures.book_after) in
+    record { faults_after = r.0; faults_le_most_faults = r.1.0; book_after = r.1.1 }
 
 pub returns : goal.returns
-returns c =
+returns g c =
     let r =
     step_told _ _ _ _ _ _ c.requires.stepping.short
     (asked_all _ _ _ _ (step_blank _ _ _ _ c.field_start-start.ensures c.if-start-text.false) (rests_all _ _ _ c.requires.stepping.ready c.ended.ensures _))
-    (blank_booked _ c.field_start-start.ensures _ _ _ _ _ c.if-start-text.false) in
-    record { faults_after = r.0; faults_le_most_faults = r.1.0; asked_after = r.1.1 }
+    (blank_booked g.N.Naming.laws _ _ c.field_start-start.ensures _ _ c.if-start-text.false) in
+    record { faults_after = r.0; faults_le_most_faults = r.1.0; book_after = r.1.1 }

@@ -1,7 +1,6 @@
 -- `tell` meets its contract: four groups of faults, told one after the other, are all of the record's; of a record without ignored characters
 -- the first two are empty.
 use Rattle.load_tell.proofs.Telling.{tellable_from, tellable_if, groups_length, groups_fit, room_a, room_b, room_c, room_d, told_groups, if_told, unless_told, all_from}
-use Rattle.cells.proofs.Split.{or_left, or_right}
 use Rattle.load_tell.specs.declared.Count.{Count}
 use Rattle.load_tell.specs.Count.{Told, told, told_all, faults_as, Fit, Tellable}
 use Rattle.load.specs.declared.Fault.{Fault}
@@ -13,8 +12,8 @@ use native.Mathlib.Omega.{arith}
 use lib.ListN.{length}
 use Prim.Native.Nat.{ℕ, ◌+◌}
 use mathlib.Core.List.{List, ◌++◌}
-use mathlib.Core.Bool.{Bool, false, ◌||◌}
-use mathlib.Core.Path.{◌≡◌, sym, ◌∙◌}
+use mathlib.Core.Bool.{Bool}
+use mathlib.Core.Path.{◌≡◌, ◌∙◌}
 use Rattle.load_tell.proofs.tell.Goals as goal
 
 -- the first two groups of faults
@@ -58,78 +57,53 @@ module _ (xs : List ℕ) (high control : Bool) (o : Outcome) (ws : List ℕ) whe
             all_told : {x : Told} → x ≡ told_all xs (told n₃ l₃) (faults_as ws) → x ≡ told_all xs (told m l) all
             all_told s = all_from xs l all (told_groups xs n (highs high) (controls control) (outcome_faults o) (faults_as ws) l p q r s) e
 
--- nothing is told of ignored characters where there are none
-module _ (xs : List ℕ) (high control : Bool) {b : Bool} (e : b ≡ (high || control)) (f : b ≡ false) (x : Told) where
-  no_highs : x ≡ told_all xs x (highs high)
-  no_highs = unless_told xs x high (blame_none ignored_high) (or_left high control (sym e ∙ f))
-
-  no_controls : x ≡ told_all xs x (controls control)
-  no_controls = unless_told xs x control (blame_none ignored_control) (or_right high control (sym e ∙ f))
-
-pub report_if-b-requires : goal.report_if-b-requires
-report_if-b-requires c =
-    let a = c.args in
-    tellable_if _ (room_high a.received.now a.high a.control a.outcome a.faults.now c.requires.tellable c.tally-a.ensures)
-
 pub report_if-c-requires : goal.report_if-c-requires
 report_if-c-requires c =
     let a = c.args in
     let p = c.report_if-b.ensures ∙ if_told a.received.now _ a.high ignored_high in
     tellable_if _ (room_control a.received.now a.high a.control a.outcome a.faults.now c.requires.tellable c.tally-a.ensures _ p)
 
-pub report_outcome-d-requires : goal.report_outcome-d-requires
-report_outcome-d-requires c =
+pub report_outcome-d-requires-clause-tellable : goal.report_outcome-d-requires-clause-tellable
+report_outcome-d-requires-clause-tellable c =
     let a = c.args in
     let p = c.report_if-b.ensures ∙ if_told a.received.now _ a.high ignored_high in
     let q = c.report_if-c.ensures ∙ if_told a.received.now _ a.control ignored_control in
-    record {
-      tellable = room_outcome a.received.now a.high a.control a.outcome a.faults.now c.requires.tellable c.tally-a.ensures _ p q;
-      marred = sym c.if-either.true ∙ c.either.ensures ∙ c.requires.marred;
-    }
+    room_outcome a.received.now a.high a.control a.outcome a.faults.now c.requires.tellable c.tally-a.ensures _ p q
 
-pub report_faults-requires : goal.report_faults-requires
-report_faults-requires c =
+pub report_faults-requires-clause-tellable : goal.report_faults-requires-clause-tellable
+report_faults-requires-clause-tellable c =
     let a = c.args in
     let p = c.report_if-b.ensures ∙ if_told a.received.now _ a.high ignored_high in
     let q = c.report_if-c.ensures ∙ if_told a.received.now _ a.control ignored_control in
-    record {
-      tellable = room_drops a.received.now a.high a.control a.outcome a.faults.now c.requires.tellable c.tally-a.ensures _ p q c.report_outcome-d.ensures;
-      marred = sym c.if-either.true ∙ c.either.ensures ∙ c.requires.marred;
-    }
+    room_drops a.received.now a.high a.control a.outcome a.faults.now c.requires.tellable c.tally-a.ensures _ p q c.report_outcome-d.ensures
 
-pub returns-then-either : goal.returns-then-either
-returns-then-either c =
+pub returns-then-control : goal.returns-then-control
+returns-then-control c =
     let a = c.args in
     let p = c.report_if-b.ensures ∙ if_told a.received.now _ a.high ignored_high in
     let q = c.report_if-c.ensures ∙ if_told a.received.now _ a.control ignored_control in
     all_told a.received.now a.high a.control a.outcome a.faults.now c.requires.tellable c.tally-a.ensures _ p q c.report_outcome-d.ensures c.report_faults.ensures
 
-pub report_outcome-d-requires-2 : goal.report_outcome-d-requires-2
-report_outcome-d-requires-2 c =
+pub report_outcome-d-requires-else-control-clause-tellable : goal.report_outcome-d-requires-else-control-clause-tellable
+report_outcome-d-requires-else-control-clause-tellable c =
     let a = c.args in
     let x = told c.tally-a.result a.reports.now in
-    let p = no_highs a.received.now a.high a.control c.either.ensures c.if-either.false x in
-    let q = no_controls a.received.now a.high a.control c.either.ensures c.if-either.false x in
-    record {
-      tellable = room_outcome a.received.now a.high a.control a.outcome a.faults.now c.requires.tellable c.tally-a.ensures _ p q;
-      marred = sym c.if-either.false ∙ c.either.ensures ∙ c.requires.marred;
-    }
+    let p = unless_told a.received.now x a.high (blame_none ignored_high) c.if-control.false.0 in
+    let q = unless_told a.received.now x a.control (blame_none ignored_control) c.if-control.false.1 in
+    room_outcome a.received.now a.high a.control a.outcome a.faults.now c.requires.tellable c.tally-a.ensures _ p q
 
-pub report_faults-requires-2 : goal.report_faults-requires-2
-report_faults-requires-2 c =
+pub report_faults-requires-else-control-clause-tellable : goal.report_faults-requires-else-control-clause-tellable
+report_faults-requires-else-control-clause-tellable c =
     let a = c.args in
     let x = told c.tally-a.result a.reports.now in
-    let p = no_highs a.received.now a.high a.control c.either.ensures c.if-either.false x in
-    let q = no_controls a.received.now a.high a.control c.either.ensures c.if-either.false x in
-    record {
-      tellable = room_drops a.received.now a.high a.control a.outcome a.faults.now c.requires.tellable c.tally-a.ensures _ p q c.report_outcome-d-2.ensures;
-      marred = sym c.if-either.false ∙ c.either.ensures ∙ c.requires.marred;
-    }
+    let p = unless_told a.received.now x a.high (blame_none ignored_high) c.if-control.false.0 in
+    let q = unless_told a.received.now x a.control (blame_none ignored_control) c.if-control.false.1 in
+    room_drops a.received.now a.high a.control a.outcome a.faults.now c.requires.tellable c.tally-a.ensures _ p q c.report_outcome-d-else-control.ensures
 
-pub returns : goal.returns
-returns c =
+pub returns-else-control : goal.returns-else-control
+returns-else-control c =
     let a = c.args in
     let x = told c.tally-a.result a.reports.now in
-    let p = no_highs a.received.now a.high a.control c.either.ensures c.if-either.false x in
-    let q = no_controls a.received.now a.high a.control c.either.ensures c.if-either.false x in
-    all_told a.received.now a.high a.control a.outcome a.faults.now c.requires.tellable c.tally-a.ensures _ p q c.report_outcome-d-2.ensures c.report_faults-2.ensures
+    let p = unless_told a.received.now x a.high (blame_none ignored_high) c.if-control.false.0 in
+    let q = unless_told a.received.now x a.control (blame_none ignored_control) c.if-control.false.1 in
+    all_told a.received.now a.high a.control a.outcome a.faults.now c.requires.tellable c.tally-a.ensures _ p q c.report_outcome-d-else-control.ensures c.report_faults-else-control.ensures

@@ -1,13 +1,12 @@
--- `any_asked` meets its contract: whether anything is asked for from here on is so from the start.
-use Rattle.load_translate.proofs.Bearers.{any_hit, any_more, any_end}
-use mathlib.Core.Path.{sym, ◌∙◌}
+-- `any_asked` meets its contract: the chain is the definition.
+use Rattle.std.proofs.Common.{ℕ, eqb, not, ◌∙◌, rules, tests}
+use Rattle.std.proofs.lemmas.Iterator.{YieldsList-from_slice}
+use Rattle.std.proofs.lemmas.Iterator.Search.{any_from_yields_List}
+use Rattle.load_translate.proofs.Bearers.{any_is}
 use Rattle.load_translate.proofs.any_asked.Goals as goal
 
-pub returns-then-asked-i-ne0 : goal.returns-then-asked-i-ne0
-returns-then-asked-i-ne0 c = sym (c.loop-i.invariant ∙ any_hit _ c.loop-i-test.true c.if-asked-i-ne0.true)
-
-pub loop-i-preserved : goal.loop-i-preserved
-loop-i-preserved c = c.loop-i.invariant ∙ any_more _ c.loop-i-test.true c.if-asked-i-ne0.false
-
 pub returns : goal.returns
-returns c = sym (c.loop-i.invariant ∙ any_end _ c.loop-i-test.false)
+returns c =
+    let xs = c.args.asked.now in
+    any_from_yields_List (λ (a : ℕ). not (eqb a 0)) _ _ _ c.any.ensures.ran (YieldsList-from_slice xs cc) (λ x b q k. search (rules, tests))
+    ∙ any_is xs

@@ -1,6 +1,6 @@
 -- `bear` meets its contract: what was met so far stands in front of what the records that are left bear.
 use Rattle.load_translate.proofs.Reading.{bearing_fits}
-use Rattle.load_translate.proofs.Walking.{loop_start, loop_countable, loop_room, loop_turn, loop_end}
+use Rattle.load_translate.proofs.Walking.{loop_start, loop_countable, loop_turn, loop_end}
 use Rattle.load_run.proofs.Taking.{spans_in, first_in, spans_at}
 use native.Mathlib.Omega.{arith}
 use Rattle.load_translate.proofs.bear.Goals as goal
@@ -23,16 +23,8 @@ meet_bearing-seen-requires c =
     let f = w.1.found-length in
     record { found_in_bounds = omega (arith, w.0); bearable = bearing_fits _ c.bearing_at-b.ensures; countable = loop_countable w.1 c.loop-n-test.true }
 
-pub overflow_add-n : goal.overflow_add-n
-overflow_add-n c =
-    let h = loop_room c.loop-n.invariant.1 c.loop-n-test.true in
-    omega arith
-
 pub next_start-at-requires : goal.next_start-at-requires
 next_start-at-requires c = (spans_in _ _ _ (spans_at _ c.loop-n.invariant.1.within c.plain_again-first.ensures c.record_end-end.ensures)).1
-
-pub loop-n-smaller : goal.loop-n-smaller
-loop-n-smaller c = omega (arith, c.loop-n-test.true)
 
 pub loop-n-preserved : goal.loop-n-preserved
 loop-n-preserved c =

@@ -36,12 +36,6 @@ link_slot-n-requires c =
     let h = below c.loop-slot-test.true w.0 in
     record { fitting = w.3.fitting; slot_lt_cues = h; reportable = loop_room w.3 h }
 
-pub overflow_add-slot : goal.overflow_add-slot
-overflow_add-slot c = omega (arith, c.loop-slot-test.true)
-
-pub loop-slot-smaller : goal.loop-slot-smaller
-loop-slot-smaller c = omega (arith, c.loop-slot-test.true)
-
 pub loop-slot-preserved : goal.loop-slot-preserved
 loop-slot-preserved c =
     let w = c.loop-slot.invariant in

@@ -2,14 +2,10 @@
 use Rattle.load_translate.specs.Links.{linking}
 use Rattle.load_translate.proofs.Links.{SoFar}
 use lib.ListN.{length}
-use Prim.Native.Nat.{◌-◌}
 use mathlib.Core.Path.{◌≡◌}
 use Rattle.load_translate.proofs.link_all.Given as goal
 
 abbrev pub invariant-loop-slot : goal.invariant-loop-slot
 invariant-loop-slot l =
-    (l.cues ≡ l.desk.cues) × (length l.store ≡ length l.initial.store) × (length l.reports ≡ length l.initial.reports)
+    (l.slot-end ≡ l.desk.cues) × (length l.store ≡ length l.initial.store) × (length l.reports ≡ length l.initial.reports)
     × SoFar l.desk l.asked l.found (linking l.initial.n l.initial.store l.initial.reports) l.slot l.n l.store l.reports
-
-abbrev pub decreases-loop-slot : goal.decreases-loop-slot
-decreases-loop-slot l = l.cues - l.slot
