@@ -86,7 +86,7 @@ module _ (d : Desk) (s : List ℕ) (r : InRange d) (n : ℕ) (t : AllWithin d s 
       let a = primary_most kind (key_of (head_at d s i)) f.page f.whole in
       let b = head_most n (head_at d s i) w f in
       let c = chan_most k (levels_at d s i) d.channels (levels_most d s i) h in
-      let e = memory_sum d s kind i refl refl {a = length (joined (primary_text kind (key_of (head_at d s i)) ∷ []))} refl refl refl in
+      let e = memory_sum d s kind i refl refl refl {a = length (joined (primary_text kind (key_of (head_at d s i)) ∷ []))} refl refl refl in
       omega arith
 
   slots_most : (kind : Kind) (is : List ℕ) → ((i : ℕ) → Among i is → TimesWithin n (head_at d s i))

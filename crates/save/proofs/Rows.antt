@@ -9,7 +9,6 @@ use Rattle.store_desk.specs.declared.Desk.{Desk}
 use Rattle.store_desk.specs.Size.{InRange, Within}
 use Rattle.store_head.specs.declared.Patch.{Patch}
 use Rattle.store.specs.View.{patched_to}
-use Rattle.store_code.specs.Fits.{OnPatch}
 use Rattle.text_room.specs.Wrote.{wrote, wrote_at}
 use Rattle.save_lines.specs.Line.{joined, patch_line}
 use Rattle.text_room.specs.Room.{Room}
@@ -36,13 +35,12 @@ module _ {F : ℕ → ℕ → List (List ℕ)} {row : ℕ → List (List ℕ)} (
 
 -- ---- written
 pub record Rows (F : ℕ → ℕ → List (List ℕ)) (t : List ℕ) (a : ℕ) (whole : List ℕ) (end : ℕ) (o : List ℕ) (next i : ℕ) : Type 0 where
-  pub low : 1 ≤ i
   pub writing : Writing t a whole o next (joined (F (end - i) i))
 
 pub rows_start : (F : ℕ → ℕ → List (List ℕ)) {t : List ℕ} {a : ℕ} (n : ℕ) → Room t a (joined (F n 1)) → Rows F t a (joined (F n 1)) (n + 1) t a 1
 rows_start F n h =
     let e : n ≡ n + 1 - 1 = omega arith in
-    record { low = omega arith; writing = writing_start (ap (λ (z : ℕ). joined (F z 1)) e) h }
+    record { writing = writing_start (ap (λ (z : ℕ). joined (F z 1)) e) h }
 
 module _ {F : ℕ → ℕ → List (List ℕ)} {row : ℕ → List (List ℕ)} (f : Row F row) {t : List ℕ} {a : ℕ} {whole : List ℕ} {end : ℕ} {o : List ℕ} {next i : ℕ}
     (p : Rows F t a whole end o next i) where
@@ -50,9 +48,7 @@ module _ {F : ℕ → ℕ → List (List ℕ)} {row : ℕ → List (List ℕ)} (
   rows_room h = writing_room _ (rows_turn f end i h) p.writing
 
   pub rows_more : i < end → {s : ℕ} {z : List ℕ} → wrote s z ≡ wrote_at o next (joined (row i)) → Rows F t a whole end z s (i + 1)
-  rows_more h e =
-      let l = p.low in
-      record { low = omega arith; writing = writing_more (joined (row i)) (rows_turn f end i h) p.writing e }
+  rows_more h e = record { writing = writing_more (joined (row i)) (rows_turn f end i h) p.writing e }
 
   pub rows_done : end ≤ i → wrote next o ≡ wrote_at t a whole
   rows_done h = writing_none (rows_end f end i h) p.writing
@@ -92,9 +88,6 @@ module _ (d : Desk) (s : List ℕ) (page : ℕ) where
   pub level_fits : (dimmer : ℕ) {p : Patch} → p ≡ patched_to d s page dimmer → p.level < 256
   level_fits dimmer e = subst (λ (z : Patch). z.level < 256) (sym e) (patched_fits d s page dimmer).level
 
-  pub on_patch : Within 1 page d.patch_pages → {dimmer : ℕ} → 1 ≤ dimmer → dimmer ≤ d.dimmers → OnPatch d page dimmer
-  on_patch w l h = record { on_page = w; on_dimmer = (l, h) }
-
   pub dimmer_start : {t : List ℕ} {a : ℕ} → Room t a dimmers_text → Rows (dimmer_lines d s page) t a dimmers_text (d.dimmers + 1) t a 1
   dimmer_start h = rows_start (dimmer_lines d s page) d.dimmers h
 
@@ -108,12 +101,6 @@ module _ (d : Desk) (s : List ℕ) (page : ℕ) where
     dimmer_more {m} {z} f =
         rows_more (dimmer_row d s page) p (omega arith)
         (subst (λ (y : Patch). wrote m z ≡ wrote_at o next (joined (patch_line page dimmer y))) q f)
-
-  pub dimmer_sums : Sums (dimmer_lines d s page) (length dimmers_text) (d.dimmers + 1) 0 1
-  dimmer_sums =
-      let n : d.dimmers + 1 - 1 ≡ d.dimmers = omega arith in
-      let l : length (joined (dimmer_lines d s page (d.dimmers + 1 - 1) 1)) ≡ length dimmers_text = ap (λ (z : ℕ). length (joined (dimmer_lines d s page z 1))) n in
-      record { sum = omega arith }
 
   pub dimmers_small : InRange d → Within 1 page d.patch_pages → length dimmers_text ≤ 41984
   dimmers_small r w =
@@ -156,11 +143,3 @@ module _ (d : Desk) (s : List ℕ) where
   pub page_fits : InRange d → {total page k : ℕ} → Sums (page_lines d s) (length (joined (patch_lines d s))) (d.patch_pages + 1) total page
       → page < d.patch_pages + 1 → k ≡ length (joined (dimmer_lines d s page d.dimmers 1)) → total + k ≤ 167936
   page_fits r p h e = let a = sums_small (page_row d s) p h e in let b = pages_small r in omega arith
-
-  pub page_sums : Sums (page_lines d s) (length (joined (patch_lines d s))) (d.patch_pages + 1) 0 1
-  page_sums =
-      let n : d.patch_pages + 1 - 1 ≡ d.patch_pages = omega arith in
-      let l : length (joined (page_lines d s (d.patch_pages + 1 - 1) 1)) ≡ length (joined (patch_lines d s)) =
-      ap (λ (z : ℕ). length (joined (page_lines d s z 1))) n
-      in
-      record { sum = omega arith }

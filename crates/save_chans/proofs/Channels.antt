@@ -47,9 +47,12 @@ channel_none : (pairs channel level : ℕ) → level ≡ 0 → channel_text pair
 unfolding channel_text
 channel_none pairs channel level e = cond-true (eqb level 0) [] (lead_text pairs ++ pair_text (lit channel level)) (eq-eqb level 0 e)
 
-pub channel_some : (pairs channel level : ℕ) → (level ≡ 0 → ⊥) → lead_text pairs ++ pair_text (lit channel level) ≡ channel_text pairs channel level
+pub channel_some : (pairs channel level : ℕ) {lead : List ℕ} → lead ≡ lead_text pairs → (level ≡ 0 → ⊥)
+    → lead ++ pair_text (lit channel level) ≡ channel_text pairs channel level
 unfolding channel_text
-channel_some pairs channel level e = sym (cond-false (eqb level 0) [] (lead_text pairs ++ pair_text (lit channel level)) (ne_eqb level 0 e))
+channel_some pairs channel level l e =
+    ap (λ (z : List ℕ). z ++ pair_text (lit channel level)) l
+    ∙ sym (cond-false (eqb level 0) [] (lead_text pairs ++ pair_text (lit channel level)) (ne_eqb level 0 e))
 
 pub lit_level : {level : ℕ} → 0 < level → level ≡ 0 → ⊥
 lit_level h e = omega arith
@@ -133,7 +136,7 @@ levels_rest pairs channel (v ∷ vs) =
     ∙ ap (λ (z : ℕ). chan_rest z r) (sym (after_none pairs v e))
     ∙ ap (chan_rest pairs) (sym (cond-true (eqb v 0) r (lit channel v ∷ r) (eq-eqb v 0 e))))
     (λ e.
-    ap (λ (z : List ℕ). z ++ channels_text (pairs_after pairs v) (channel + 1) vs) (sym (channel_some pairs channel v e))
+    ap (λ (z : List ℕ). z ++ channels_text (pairs_after pairs v) (channel + 1) vs) (sym (channel_some pairs channel v refl e))
     ∙ append_assoc (lead_text pairs) (pair_text (lit channel v)) (channels_text (pairs_after pairs v) (channel + 1) vs)
     ∙ ap (λ (z : List ℕ). lead_text pairs ++ (pair_text (lit channel v) ++ z)) (ih ∙ ap (λ (z : ℕ). chan_rest z r) (after_some pairs v e))
     ∙ ap (chan_rest pairs) (sym (cond-false (eqb v 0) r (lit channel v ∷ r) (ne_eqb v 0 e))))
@@ -197,7 +200,7 @@ channel-length_some pairs channel level ea eb ec e =
     let m : length (lead_text pairs ++ pair_text (lit channel level)) ≡ length (lead_text pairs) + length (pair_text (lit channel level)) =
     length-append (lead_text pairs) (pair_text (lit channel level))
     in
-    let n : length (lead_text pairs ++ pair_text (lit channel level)) ≡ length (channel_text pairs channel level) = ap length (channel_some pairs channel level e) in
+    let n : length (lead_text pairs ++ pair_text (lit channel level)) ≡ length (channel_text pairs channel level) = ap length (channel_some pairs channel level refl e) in
     omega arith
 
 pub channel_long : (pairs channel level : ℕ) → channel < 4294967296 → length (channel_text pairs channel level) ≤ 21

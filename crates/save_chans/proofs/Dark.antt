@@ -1,19 +1,27 @@
 -- Eight levels as a word: its lowest zero digits, eight to a level, are the dark channels ahead of the first lit one. By halving the word, and by
 -- induction on the levels. Then the turns of the scan that goes eight levels at a step.
 -- Assumes nothing.
-use mathlib.Core.Path.{◌≡◌, refl, sym, ap, ◌∙◌}
-use mathlib.Core.Bool.{Bool, true, false}
+use mathlib.Core.Path.{◌≡◌, refl, sym, ap, ◌∙◌, subst}
+use mathlib.Core.Bool.{Bool, true, false, not, cond}
 use mathlib.Core.List.{List, [], ◌∷◌, ◌++◌}
 use Prim.Native.Nat.{ℕ, zero, suc, ◌+◌, ◌-◌, ◌*◌, ◌/◌, ◌%◌, ◌≤◌, ◌<◌}
-use native.Mathlib.Numerals.{add-one}
+use native.Mathlib.Numerals.{add-one, one-add}
 use native.Mathlib.Omega.{arith}
 use lib.Count.{under, count_trailing_zeros, trailing_of_zero}
-use lib.ListN.{length, get_or, take, drop, length-drop, take-append-drop, get_or-eq_default}
-use lib.Seq.{drop-cons, drop-drop, length-take-le, get_or-take, get_or-drop}
-use borrow.Author.Tests.{eq-eqb, ne_eqb}
+use lib.Dec.{eqb, ltb}
+use lib.ListN.{length, get_or, take, drop, length-drop, take-append-drop, drop_of_length-le}
+use lib.Seq.{drop-cons, drop-drop, length-take-le}
+use borrow.Author.Tests.{eq-eqb, ne_eqb, lt-ltb, le-ltb}
+use Rattle.std.proofs.Common.{Option, Some, None}
+use Rattle.std.specs.Array.{IsFirstChunk}
+use Rattle.std.specs.Int.{from_le_bytes, w64}
+use Rattle.std.specs.List.{position_or_len}
+use Rattle.std.specs.Option.{unwrap_or}
+use Rattle.std.proofs.lemmas.List.{take_rest}
+use Rattle.std.proofs.lemmas.List.Recursion.{is_position_or_len}
 use Rattle.cells.specs.Scan.{span}
 use Rattle.cells.proofs.Scan.{span_nil, span_hit, span_miss, span_le, span_append}
-use Rattle.cells.proofs.Split.{by_bool, by_eq, by_lt}
+use Rattle.cells.proofs.Split.{by_bool, by_eq, by_lt, cond-true, cond-false}
 use Rattle.save_chans.specs.Chan.{is_dark, weighed}
 
 pub dark_of : (level : ℕ) → level ≡ 0 → is_dark level ≡ true
@@ -24,43 +32,50 @@ pub lit_of : (level : ℕ) → (level ≡ 0 → ⊥) → is_dark level ≡ false
 unfolding is_dark
 lit_of level e = ne_eqb level 0 e
 
+-- ---- the dark channels ahead of the first lit one, as `position` finds them
+abbrev pub is_lit : ℕ → Bool
+is_lit level = not (eqb level 0)
+
+span_found : (vs : List ℕ) → span is_dark vs ≡ position_or_len is_lit vs
+unfolding is_dark
+span_found vs =
+    is_position_or_len (span is_dark) is_lit (span_nil is_dark)
+    (λ v rest.
+    by_bool (eqb v 0)
+    (λ t. span_hit is_dark v rest t ∙ sym (one-add (span is_dark rest)) ∙ sym (cond-false (is_lit v) 0 (1 + span is_dark rest) (ap not t)))
+    (λ f. span_miss is_dark v rest f ∙ sym (cond-true (is_lit v) 0 (1 + span is_dark rest) (ap not f))))
+    vs
+
+pub found_lit : (vs : List ℕ) {found : Option ℕ} {n : ℕ}
+    → found ≡ cond (ltb (position_or_len is_lit vs) (length vs)) (Some (position_or_len is_lit vs)) None
+    → n ≡ unwrap_or found (length vs) → n ≡ span is_dark vs
+found_lit vs e f =
+    let s = span_found vs in
+    let l = span_le is_dark vs in
+    let g = ap (λ (o : Option ℕ). unwrap_or o (length vs)) e in
+    f ∙ g ∙ by_lt (position_or_len is_lit vs) (length vs)
+    (λ h. ap (λ (o : Option ℕ). unwrap_or o (length vs)) (cond-true (ltb (position_or_len is_lit vs) (length vs)) (Some (position_or_len is_lit vs)) None (lt-ltb _ _ h)) ∙ sym s)
+    (λ h. ap (λ (o : Option ℕ). unwrap_or o (length vs)) (cond-false (ltb (position_or_len is_lit vs) (length vs)) (Some (position_or_len is_lit vs)) None (le-ltb _ _ h)) ∙ (let k : length vs ≡ span is_dark vs = omega arith in k))
+
 -- ---- levels as a number
-weighed_at : (n : ℕ) (s : List ℕ) (i j : ℕ) → i < length s → j ≡ i + 1
-    → weighed (take (suc n) (drop i s)) ≡ get_or s i 0 + 256 * weighed (take n (drop j s))
+weighed_at : (s : List ℕ) (i j : ℕ) → i < length s → j ≡ i + 1 → weighed (drop i s) ≡ get_or s i 0 + 256 * weighed (drop j s)
 unfolding weighed
-weighed_at n s i j h e =
-    ap (λ (l : List ℕ). weighed (take (suc n) l)) (drop-cons s i 0 h)
-    ∙ ap (λ (k : ℕ). get_or s i 0 + 256 * weighed (take n (drop k s))) (sym (e ∙ add-one i))
+weighed_at s i j h e =
+    ap weighed (drop-cons s i 0 h) ∙ ap (λ (k : ℕ). get_or s i 0 + 256 * weighed (drop k s)) (sym (e ∙ add-one i))
 
-pub weighed_four : (s : List ℕ) (i : ℕ) {a b c d : ℕ} → i + 4 ≤ length s
-    → a ≡ get_or s i 0 → b ≡ get_or s (i + 1) 0 → c ≡ get_or s (i + 2) 0 → d ≡ get_or s (i + 3) 0
-    → a + b * 256 + c * 65536 + d * 16777216 ≡ weighed (take 4 (drop i s))
+-- eight of them as a word's bytes
+weighed_word : (s : List ℕ) → length s ≡ 8 → from_le_bytes w64 s ≡ weighed s
 unfolding weighed
-weighed_four s i h ea eb ec ed =
-    let p₀ : weighed (take 4 (drop i s)) ≡ get_or s i 0 + 256 * weighed (take 3 (drop (i + 1) s)) = weighed_at 3 s i (i + 1) (omega arith) refl in
-    let p₁ : weighed (take 3 (drop (i + 1) s)) ≡ get_or s (i + 1) 0 + 256 * weighed (take 2 (drop (i + 2) s)) =
-    weighed_at 2 s (i + 1) (i + 2) (omega arith) (omega arith)
-    in
-    let p₂ : weighed (take 2 (drop (i + 2) s)) ≡ get_or s (i + 2) 0 + 256 * weighed (take 1 (drop (i + 3) s)) =
-    weighed_at 1 s (i + 2) (i + 3) (omega arith) (omega arith)
-    in
-    let p₃ : weighed (take 1 (drop (i + 3) s)) ≡ get_or s (i + 3) 0 + 256 * 0 = weighed_at 0 s (i + 3) (i + 4) (omega arith) (omega arith) in
-    omega arith
-
-pub weighed_eight : (s : List ℕ) (i : ℕ) {a b : ℕ} → i + 8 ≤ length s → a ≡ weighed (take 4 (drop i s)) → b ≡ weighed (take 4 (drop (i + 4) s))
-    → a + b * 4294967296 ≡ weighed (take 8 (drop i s))
-weighed_eight s i h ea eb =
-    let low = weighed_four s i (omega arith) refl refl refl refl in
-    let p₀ : weighed (take 8 (drop i s)) ≡ get_or s i 0 + 256 * weighed (take 7 (drop (i + 1) s)) = weighed_at 7 s i (i + 1) (omega arith) refl in
-    let p₁ : weighed (take 7 (drop (i + 1) s)) ≡ get_or s (i + 1) 0 + 256 * weighed (take 6 (drop (i + 2) s)) =
-    weighed_at 6 s (i + 1) (i + 2) (omega arith) (omega arith)
-    in
-    let p₂ : weighed (take 6 (drop (i + 2) s)) ≡ get_or s (i + 2) 0 + 256 * weighed (take 5 (drop (i + 3) s)) =
-    weighed_at 5 s (i + 2) (i + 3) (omega arith) (omega arith)
-    in
-    let p₃ : weighed (take 5 (drop (i + 3) s)) ≡ get_or s (i + 3) 0 + 256 * weighed (take 4 (drop (i + 4) s)) =
-    weighed_at 4 s (i + 3) (i + 4) (omega arith) (omega arith)
-    in
+weighed_word s h =
+    let p₀ : weighed s ≡ get_or s 0 0 + 256 * weighed (drop 1 s) = weighed_at s 0 1 (omega arith) (omega arith) in
+    let p₁ = weighed_at s 1 2 (omega arith) refl in
+    let p₂ = weighed_at s 2 3 (omega arith) refl in
+    let p₃ = weighed_at s 3 4 (omega arith) refl in
+    let p₄ = weighed_at s 4 5 (omega arith) refl in
+    let p₅ = weighed_at s 5 6 (omega arith) refl in
+    let p₆ = weighed_at s 6 7 (omega arith) refl in
+    let p₇ = weighed_at s 7 8 (omega arith) refl in
+    let p₈ : weighed (drop 8 s) ≡ 0 = ap weighed (drop_of_length-le s {i = 8} (omega arith)) in
     omega arith
 
 -- ---- the lowest zero digits of a number
@@ -136,6 +151,21 @@ zeros_dark (v ∷ vs) f =
     in
     omega arith)
 
+-- a word of eight levels, which are bytes
+module _ (s : List ℕ) (h : length s ≡ 8) (f : (k : ℕ) → get_or s k 0 < 256) {w : ℕ} (e : w ≡ from_le_bytes w64 s) where
+  pub eight_dark : count_trailing_zeros 64 w / 8 ≡ span is_dark s
+  eight_dark =
+      let d : digits s ≡ 64 = digits-length s ∙ ap (λ (n : ℕ). 8 * n) h in
+      ap (λ (n : ℕ). count_trailing_zeros 64 n / 8) (e ∙ weighed_word s h)
+      ∙ ap (λ (k : ℕ). count_trailing_zeros k (weighed s) / 8) (sym d)
+      ∙ zeros_dark s f
+
+  pub eight_none : w ≡ 0 → 8 ≡ span is_dark s
+  eight_none z =
+      let t : count_trailing_zeros 64 w ≡ 64 = ap (count_trailing_zeros 64) z ∙ trailing_of_zero 64 in
+      let d = eight_dark in
+      omega arith
+
 -- ---- a scan that goes eight levels at a step
 span_short : (p : ℕ → Bool) (a b : List ℕ) → span p a < length a → span p (a ++ b) ≡ span p a
 span_short p [] b h = absurd (omega arith)
@@ -146,58 +176,36 @@ span_short p (c ∷ a) b h =
     span_hit p c (a ++ b) t ∙ ap suc (span_short p a b (omega arith)) ∙ sym m)
     (λ f. span_miss p c (a ++ b) f ∙ sym (span_miss p c a f))
 
-module _ (s : List ℕ) (i : ℕ) (h : i + 8 ≤ length s) where
-  eight_length : length (take 8 (drop i s)) ≡ 8
-  eight_length = let d : length (drop i s) ≡ length s - i = length-drop i s in length-take-le 8 (drop i s) (omega arith)
+module _ (s : List ℕ) (i : ℕ) {xs : List ℕ} (p : IsFirstChunk (take (length s - i) (drop i s)) xs 8) where
+  first : IsFirstChunk (drop i s) xs 8
+  first = subst (λ (l : List ℕ). IsFirstChunk l xs 8) (take_rest s i) p
 
-  eight_parts : span is_dark (take 8 (drop i s) ++ drop (i + 8) s) ≡ span is_dark (drop i s)
+  within : i + 8 ≤ length s
+  within = let d : length (drop i s) ≡ length s - i = length-drop i s in let e = first.enough in omega arith
+
+  eight_length : length xs ≡ 8
+  eight_length = ap length first.same ∙ length-take-le 8 (drop i s) first.enough
+
+  eight_parts : span is_dark (xs ++ drop (i + 8) s) ≡ span is_dark (drop i s)
   eight_parts =
-      ap (λ (l : List ℕ). span is_dark (take 8 (drop i s) ++ l)) (sym (drop-drop 8 i s)) ∙ ap (span is_dark) (take-append-drop 8 (drop i s))
+      ap (λ (l : List ℕ). span is_dark (l ++ drop (i + 8) s)) first.same
+      ∙ ap (λ (l : List ℕ). span is_dark (take 8 (drop i s) ++ l)) (sym (drop-drop 8 i s))
+      ∙ ap (span is_dark) (take-append-drop 8 (drop i s))
 
   -- with the invariant `i + span is_dark (drop i s) ≡ e`: after eight dark ones, and at a lit one
-  pub eight_turn : {d e : ℕ} → d ≡ span is_dark (take 8 (drop i s)) → 8 ≤ d → i + span is_dark (drop i s) ≡ e → i + 8 + span is_dark (drop (i + 8) s) ≡ e
+  pub eight_turn : {d e : ℕ} → d ≡ span is_dark xs → 8 ≤ d → i + span is_dark (drop i s) ≡ e
+      → (i + 8 ≤ length s) × (i + 8 + span is_dark (drop (i + 8) s) ≡ e)
   eight_turn q m g =
       let l = eight_length in
-      let t : span is_dark (take 8 (drop i s)) ≤ length (take 8 (drop i s)) = span_le is_dark (take 8 (drop i s)) in
-      let a : span is_dark (take 8 (drop i s)) ≡ length (take 8 (drop i s)) = omega arith in
-      let n : span is_dark (take 8 (drop i s) ++ drop (i + 8) s) ≡ length (take 8 (drop i s)) + span is_dark (drop (i + 8) s) =
-      span_append is_dark (take 8 (drop i s)) (drop (i + 8) s) a
-      in
+      let t = span_le is_dark xs in
+      let a : span is_dark xs ≡ length xs = omega arith in
+      let n = span_append is_dark xs (drop (i + 8) s) a in
       let o = eight_parts in
-      omega arith
+      (within, omega arith)
 
-  pub eight_stop : {d e : ℕ} → d ≡ span is_dark (take 8 (drop i s)) → d < 8 → i + span is_dark (drop i s) ≡ e → i + d ≡ e
+  pub eight_stop : {d e : ℕ} → d ≡ span is_dark xs → d < 8 → i + span is_dark (drop i s) ≡ e → i + d ≡ e
   eight_stop q m g =
       let l = eight_length in
-      let n : span is_dark (take 8 (drop i s) ++ drop (i + 8) s) ≡ span is_dark (take 8 (drop i s)) =
-      span_short is_dark (take 8 (drop i s)) (drop (i + 8) s) (omega arith)
-      in
+      let n = span_short is_dark xs (drop (i + 8) s) (omega arith) in
       let o = eight_parts in
       omega arith
-
-  -- the levels of a slice are bytes
-  module _ (f : (k : ℕ) → get_or s k 0 < 256) where
-    eight_bytes : (k : ℕ) → get_or (take 8 (drop i s)) k 0 < 256
-    eight_bytes k =
-        by_lt k 8
-        (λ l.
-        let e : get_or (take 8 (drop i s)) k 0 ≡ get_or s (i + k) 0 = get_or-take 8 (drop i s) k 0 l ∙ get_or-drop i s k 0 in
-        let b = f (i + k) in
-        omega arith)
-        (λ l.
-        let n = eight_length in
-        let e : get_or (take 8 (drop i s)) k 0 ≡ 0 = get_or-eq_default (take 8 (drop i s)) 0 (omega arith) in
-        omega arith)
-
-    pub eight_dark : {w : ℕ} → w ≡ weighed (take 8 (drop i s)) → count_trailing_zeros 64 w / 8 ≡ span is_dark (take 8 (drop i s))
-    eight_dark {w} e =
-        let d : digits (take 8 (drop i s)) ≡ 64 = digits-length (take 8 (drop i s)) ∙ ap (λ (n : ℕ). 8 * n) eight_length in
-        ap (λ (n : ℕ). count_trailing_zeros 64 n / 8) e
-        ∙ ap (λ (k : ℕ). count_trailing_zeros k (weighed (take 8 (drop i s))) / 8) (sym d)
-        ∙ zeros_dark (take 8 (drop i s)) eight_bytes
-
-    pub eight_none : {w : ℕ} → w ≡ weighed (take 8 (drop i s)) → w ≡ 0 → 8 ≡ span is_dark (take 8 (drop i s))
-    eight_none {w} e z =
-        let t : count_trailing_zeros 64 w ≡ 64 = ap (count_trailing_zeros 64) z ∙ trailing_of_zero 64 in
-        let d = eight_dark e in
-        omega arith

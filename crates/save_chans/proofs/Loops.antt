@@ -11,7 +11,7 @@ use Rattle.cells.proofs.Scan.{span_more, span_within}
 use Rattle.text_room.specs.Wrote.{wrote, wrote_at}
 use Rattle.save_lines.specs.Line.{joined, lit_from, chan_lines}
 use Rattle.text_room.specs.Room.{Room}
-use Rattle.text_room.proofs.Chain.{Writing, writing_start, writing_room, writing_more, writing_end}
+use Rattle.text_room.proofs.Chain.{room_is, Writing, writing_start, writing_room, writing_more, writing_end}
 use Rattle.save_chans.specs.Chan.{channel_text, pairs_with, end_of_line, channels_text, is_dark}
 use Rattle.save_chans.proofs.Channels.{channels_are, channels_dark, channels_turn, channels_end, channels_long, after_some, with_most, total_turn}
 use Rattle.save_chans.proofs.Dark.{dark_of}
@@ -44,37 +44,38 @@ pub putting_start : {t : List ℕ} {a : ℕ} (vs : List ℕ) → Room t a (chans
 putting_start vs h = record { most = omega arith; within = omega arith; writing = writing_start (channels_are vs) h }
 
 module _ {t : List ℕ} {a : ℕ} {vs o : List ℕ} {next pairs i : ℕ} (p : Putting t a vs o next pairs i) where
-  pub putting_room : i < length vs → {channel : ℕ} → channel ≡ i + 1 → Room o next (channel_text pairs channel (get_or vs i 0))
-  putting_room h e =
-      subst (λ (k : ℕ). Room o next (channel_text pairs k (get_or vs i 0))) (sym e) (writing_room _ (channels_turn pairs (i + 1) i vs h refl) p.writing)
+  -- a channel, of level v
+  module _ (h : i < length vs) {v : ℕ} (e : v ≡ get_or vs i 0) where
+    pub putting_room : Room o next (channel_text pairs (i + 1) v)
+    putting_room = writing_room _ (channels_turn pairs (i + 1) i vs h e) p.writing
 
-  pub putting_turn : i < length vs → (get_or vs i 0 ≡ 0 → ⊥) → {channel s q : ℕ} {z : List ℕ} → channel ≡ i + 1
-      → wrote s z ≡ wrote_at o next (channel_text pairs channel (get_or vs i 0))
-      → q ≡ pairs_with pairs → Putting t a vs z s q (i + 1)
-  putting_turn h l {channel} {s} {q} {z} n f e =
-      let m = with_most pairs p.most in
-      record {
-        most = omega arith;
-        within = omega arith;
-        writing =
-            subst (λ (y : ℕ). Writing t a (chans_text vs) z s (channels_text y (i + 1 + 1) (drop (i + 1) vs))) (after_some pairs (get_or vs i 0) l ∙ sym e)
-            (writing_more (channel_text pairs (i + 1) (get_or vs i 0)) (channels_turn pairs (i + 1) i vs h refl) p.writing
-            (f ∙ ap (λ (k : ℕ). wrote_at o next (channel_text pairs k (get_or vs i 0))) n));
-      }
+    pub putting_turn : (v ≡ 0 → ⊥) → {s q : ℕ} {z : List ℕ} → wrote s z ≡ wrote_at o next (channel_text pairs (i + 1) v) → q ≡ pairs_with pairs
+        → Putting t a vs z s q (i + 1)
+    putting_turn l {s} {q} {z} f g =
+        let m = with_most pairs p.most in
+        record {
+          most = omega arith;
+          within = omega arith;
+          writing =
+              subst (λ (y : ℕ). Writing t a (chans_text vs) z s (channels_text y (i + 1 + 1) (drop (i + 1) vs))) (after_some pairs v l ∙ sym g)
+              (writing_more (channel_text pairs (i + 1) v) (channels_turn pairs (i + 1) i vs h e) p.writing f);
+        }
 
-  pub putting_dark : {j : ℕ} → i < length vs → get_or vs i 0 ≡ 0 → j ≡ i + 1 + span is_dark (drop (i + 1) vs) → Putting t a vs o next pairs j
-  putting_dark h z e =
-      record {
-        most = p.most;
-        within = dark_within vs h e;
-        writing = subst (λ (y : List ℕ). Writing t a (chans_text vs) o next y) (dark_text vs h e pairs z) p.writing;
-      }
+    pub putting_dark : v ≡ 0 → {j : ℕ} → j ≡ i + 1 + span is_dark (drop (i + 1) vs) → Putting t a vs o next pairs j
+    putting_dark z f =
+        record {
+          most = p.most;
+          within = dark_within vs h f;
+          writing = subst (λ (y : List ℕ). Writing t a (chans_text vs) o next y) (dark_text vs h f pairs (sym e ∙ z)) p.writing;
+        }
 
-  pub putting_last : length vs ≤ i → Room o next (end_of_line pairs)
-  putting_last h = writing_room [] (channels_end pairs (i + 1) i vs h ∙ sym (append-nil (end_of_line pairs))) p.writing
+  -- what ends the record
+  module _ (h : length vs ≤ i) {end : List ℕ} (e : end ≡ end_of_line pairs) where
+    pub putting_last : Room o next end
+    putting_last = room_is (sym e) (writing_room [] (channels_end pairs (i + 1) i vs h ∙ sym (append-nil (end_of_line pairs))) p.writing)
 
-  pub putting_end : length vs ≤ i → {s : ℕ} {z : List ℕ} → wrote s z ≡ wrote_at o next (end_of_line pairs) → wrote s z ≡ wrote_at t a (chans_text vs)
-  putting_end h f = writing_end (channels_end pairs (i + 1) i vs h) p.writing f
+    pub putting_end : {s : ℕ} {z : List ℕ} → wrote s z ≡ wrote_at o next end → wrote s z ≡ wrote_at t a (chans_text vs)
+    putting_end f = writing_end (channels_end pairs (i + 1) i vs h ∙ sym e) p.writing f
 
 -- ---- counting
 pub record Adding (vs : List ℕ) (total pairs i : ℕ) : Type 0 where
@@ -95,42 +96,37 @@ chans_long vs h =
     omega arith
 
 module _ {vs : List ℕ} {total pairs i : ℕ} (p : Adding vs total pairs i) where
-  numbered : {channel k : ℕ} → channel ≡ i + 1 → k ≡ length (channel_text pairs channel (get_or vs i 0))
-      → k ≡ length (channel_text pairs (i + 1) (get_or vs i 0))
-  numbered n e = e ∙ ap (λ (j : ℕ). length (channel_text pairs j (get_or vs i 0))) n
+  -- a channel, of level v
+  module _ (h : i < length vs) {v : ℕ} (e : v ≡ get_or vs i 0) where
+    pub adding_turn : (v ≡ 0 → ⊥) → {k q : ℕ} → k ≡ length (channel_text pairs (i + 1) v) → q ≡ pairs_with pairs → Adding vs (total + k) q (i + 1)
+    adding_turn l {k} {q} f g =
+        let m = with_most pairs p.most in
+        record {
+          most = omega arith;
+          within = omega arith;
+          sum =
+              subst (λ (y : ℕ). total + k + length (channels_text y (i + 1 + 1) (drop (i + 1) vs)) ≡ length (chans_text vs)) (after_some pairs v l ∙ sym g)
+              (total_turn pairs (i + 1) i vs total h e f p.sum);
+        }
 
-  pub adding_small : length vs ≤ 1024 → i < length vs → {channel k : ℕ} → channel ≡ i + 1
-      → k ≡ length (channel_text pairs channel (get_or vs i 0)) → total + k ≤ 21506
-  adding_small l h n e =
-      let w = total_turn pairs (i + 1) i vs total h refl (numbered n e) p.sum in
-      let b = chans_long vs l in
-      omega arith
+    pub adding_small : length vs ≤ 1024 → {k : ℕ} → k ≡ length (channel_text pairs (i + 1) v) → total + k ≤ 21506
+    adding_small l f = let w = total_turn pairs (i + 1) i vs total h e f p.sum in let b = chans_long vs l in omega arith
 
-  pub adding_turn : i < length vs → (get_or vs i 0 ≡ 0 → ⊥) → {channel q k : ℕ} → channel ≡ i + 1 → k ≡ length (channel_text pairs channel (get_or vs i 0))
-      → q ≡ pairs_with pairs → Adding vs (total + k) q (i + 1)
-  adding_turn h l {channel} {q} {k} n e f =
-      let m = with_most pairs p.most in
-      record {
-        most = omega arith;
-        within = omega arith;
-        sum =
-            subst (λ (y : ℕ). total + k + length (channels_text y (i + 1 + 1) (drop (i + 1) vs)) ≡ length (chans_text vs)) (after_some pairs (get_or vs i 0) l ∙ sym f)
-            (total_turn pairs (i + 1) i vs total h refl (numbered n e) p.sum);
-      }
+    pub adding_dark : v ≡ 0 → {j : ℕ} → j ≡ i + 1 + span is_dark (drop (i + 1) vs) → Adding vs total pairs j
+    adding_dark z f =
+        record {
+          most = p.most;
+          within = dark_within vs h f;
+          sum = subst (λ (y : List ℕ). total + length y ≡ length (chans_text vs)) (dark_text vs h f pairs (sym e ∙ z)) p.sum;
+        }
 
-  pub adding_dark : {j : ℕ} → i < length vs → get_or vs i 0 ≡ 0 → j ≡ i + 1 + span is_dark (drop (i + 1) vs) → Adding vs total pairs j
-  adding_dark h z e =
-      record {
-        most = p.most;
-        within = dark_within vs h e;
-        sum = subst (λ (y : List ℕ). total + length y ≡ length (chans_text vs)) (dark_text vs h e pairs z) p.sum;
-      }
+  -- what ends the record
+  module _ (h : length vs ≤ i) {end : List ℕ} (e : end ≡ end_of_line pairs) where
+    pub adding_end : total + length end ≡ length (chans_text vs)
+    adding_end =
+        let l : length (channels_text pairs (i + 1) (drop i vs)) ≡ length end = ap length (channels_end pairs (i + 1) i vs h ∙ sym e) in
+        let s = p.sum in
+        omega arith
 
-  pub adding_end : length vs ≤ i → {k : ℕ} → k ≡ length (end_of_line pairs) → total + k ≡ length (chans_text vs)
-  adding_end h e =
-      let l : length (channels_text pairs (i + 1) (drop i vs)) ≡ length (end_of_line pairs) = ap length (channels_end pairs (i + 1) i vs h) in
-      let s = p.sum in
-      omega arith
-
-  pub adding_end_small : length vs ≤ 1024 → length vs ≤ i → {k : ℕ} → k ≡ length (end_of_line pairs) → total + k ≤ 21506
-  adding_end_small l h e = let w = adding_end h e in let b = chans_long vs l in omega arith
+    pub adding_end_small : length vs ≤ 1024 → total + length end ≤ 21506
+    adding_end_small l = let w = adding_end in let b = chans_long vs l in omega arith

@@ -68,7 +68,7 @@ primary_length_is k key ea eb ec =
     let l : length (p ++ crlf) ≡ length p + 2 = length-append p crlf in
     let m : length (n ++ (p ++ crlf)) ≡ length n + length (p ++ crlf) = length-append n (p ++ crlf) in
     let o : length (kind_text k ++ (n ++ (p ++ crlf))) ≡ length (kind_text k) + length (n ++ (p ++ crlf)) = length-append (kind_text k) (n ++ (p ++ crlf)) in
-    let z : length (kind_text k ++ (n ++ (p ++ crlf))) ≡ length (joined (primary_text k key ∷ [])) = ap length (primary_parts k key) in
+    let z : length (kind_text k ++ (n ++ (p ++ crlf))) ≡ length (joined (primary_text k key ∷ [])) = ap length (primary_parts k key refl) in
     omega arith
 
 -- ---- times
@@ -159,3 +159,6 @@ pair_length p =
     let a : length (level_text p.level) ≡ 3 = level_length p.level in
     let b : length (integer_text p.channel ++ l) ≡ length (integer_text p.channel) + length l = length-append (integer_text p.channel) l in
     omega arith
+
+-- ---- what the functions that find a length go by
+pub ruleset lengths = (integer_ten, time_long, number_long, kind_long, delay_long, patch_length_none, patch_length_some, primary_length_is, delay-length_none, delay-length_some, time_length_none, time_length_some, link-length_none, link-length_some)

@@ -58,13 +58,14 @@ module _ (page dimmer : ℕ) (p : Patch) where
       (ap joined (cond-false (eqb p.channel 0) [] (patch_text page dimmer p ∷ []) (ne_eqb p.channel 0 e)) ∙ joined_one (patch_text page dimmer p))
 
 -- ---- the primary
-pub primary_parts : (k : Kind) (key : Key)
-    → kind_text k ++ (number_text key.whole key.fraction ++ (marked_text (bytes " ") key.page ++ crlf)) ≡ joined (primary_text k key ∷ [])
+pub primary_parts : (k : Kind) (key : Key) {word : List ℕ} → word ≡ kind_text k
+    → word ++ (number_text key.whole key.fraction ++ (marked_text (bytes " ") key.page ++ crlf)) ≡ joined (primary_text k key ∷ [])
 unfolding primary_text marked_text
-primary_parts k key =
+primary_parts k key e =
     let n : List ℕ = number_text key.whole key.fraction in
     let p : List ℕ = bytes " " ++ integer_text key.page in
-    sym
+    ap (λ (z : List ℕ). z ++ (n ++ (p ++ crlf))) e
+    ∙ sym
     (joined_one (primary_text k key) ∙ append_assoc (kind_text k) (n ++ p) crlf ∙ ap (λ (z : List ℕ). kind_text k ++ z) (append_assoc n p crlf))
 
 -- ---- times

@@ -13,15 +13,17 @@ use text_room::put_text;
 use value::Number;
 use value_written::put_marked;
 
-// CR and LF.
-const END: usize = 2;
+// A line's end.
+const END: &[u8] = b"\r\n";
+
+const LINK: &[u8] = b"LINK ";
 
 // Every `put` writes its text at a place and answers the place after it.
 pub fn put_end(out: &mut [u8], at: usize) -> usize
     requires { Room out.old at crlf }
     ensures { wrote result out.new ≡ wrote_at out.old at crlf }
 {
-    put_text(out, at, b"\r\n")
+    put_text(out, at, END)
 }
 
 pub fn put_at_level(out: &mut [u8], at: usize, level: u8) -> usize
@@ -39,6 +41,7 @@ fn put_patch_text(out: &mut [u8], at: usize, page: u32, dimmer: u32, p: Patch) -
     requires level_bound { p.level < 256 }
     ensures { wrote result out.new ≡ wrote_at out.old at (patch_text page dimmer p) }
 {
+    // The contract rules out a loss, and a `try_from` would need an answer for one.
     let level = p.level as u8;
     let channel = put_marked(out, at, b"PATCH ", page);
     let number = put_marked(out, channel, b" ", p.channel);
@@ -61,14 +64,14 @@ pub fn put_patch(out: &mut [u8], at: usize, page: u32, dimmer: u32, p: Patch) ->
 
 // ---- the primary
 
-fn put_kind(out: &mut [u8], at: usize, kind: Kind) -> usize
-    requires { Room out.old at (kind_text kind) }
-    ensures { wrote result out.new ≡ wrote_at out.old at (kind_text kind) }
+#[tactic(auto, unfolding(crate::specs::Line::kind_text))]
+fn kind_word(kind: Kind) -> &'static [u8]
+    ensures { result.now ≡ kind_text kind }
 {
     match kind {
-        Kind::Cue => put_text(out, at, b"CUE "),
-        Kind::Group => put_text(out, at, b"GROUP "),
-        Kind::Sub => put_text(out, at, b"SUB "),
+        Kind::Cue => b"CUE ",
+        Kind::Group => b"GROUP ",
+        Kind::Sub => b"SUB ",
     }
 }
 
@@ -81,7 +84,7 @@ pub fn put_primary(out: &mut [u8], at: usize, kind: Kind, key: Key) -> usize
         whole: key.whole,
         fraction: key.fraction,
     };
-    let digits = put_kind(out, at, kind);
+    let digits = put_text(out, at, kind_word(kind));
     let page = value_written::put_number(out, digits, number);
     let end = put_marked(out, page, b" ", key.page);
     put_end(out, end)
@@ -133,7 +136,7 @@ fn put_link(out: &mut [u8], at: usize, h: Head) -> usize
         whole: h.link_whole,
         fraction: h.link_fraction,
     };
-    let digits = put_text(out, at, b"LINK ");
+    let digits = put_text(out, at, LINK);
     let end = value_written::put_number(out, digits, number);
     put_end(out, end)
 }
@@ -150,9 +153,10 @@ pub fn put_head(out: &mut [u8], at: usize, h: Head) -> usize
 
 // ---- lengths
 
-// `PATCH `, a space, `<`, `@`, three characters of the level and the line's end, beside the three integers.
-const PATCH_MARKS: usize = 14;
+// A PATCH line without its three integers; a level has three characters.
+const PATCH_MARKS: usize = b"PATCH  <@HFF\r\n".len();
 
+#[tactic(auto, using(crate::proofs::Lengths::lengths))]
 pub fn patch_length(page: u32, dimmer: u32, p: Patch) -> usize
     ensures { result ≡ length (joined (patch_line page dimmer p)) }
 {
@@ -165,16 +169,7 @@ pub fn patch_length(page: u32, dimmer: u32, p: Patch) -> usize
         + PATCH_MARKS
 }
 
-fn kind_length(kind: Kind) -> usize
-    ensures { result ≡ length (kind_text kind) }
-{
-    match kind {
-        Kind::Cue => 4,
-        Kind::Group => 6,
-        Kind::Sub => 4,
-    }
-}
-
+#[tactic(auto, using(crate::proofs::Lengths::lengths))]
 pub fn primary_length(kind: Kind, key: Key) -> usize
     ensures { result ≡ length (joined (primary_text kind key ∷ [])) }
 {
@@ -182,22 +177,25 @@ pub fn primary_length(kind: Kind, key: Key) -> usize
         whole: key.whole,
         fraction: key.fraction,
     };
-    kind_length(kind)
+    kind_word(kind).len()
         + value_written::number_length(number)
-        + 1
+        + b" ".len()
         + value_written::integer_length(key.page)
-        + END
+        + END.len()
 }
 
+#[tactic(auto, using(crate::proofs::Lengths::lengths))]
 fn delay_length(delay: u32) -> usize
     ensures { result ≡ length (delay_text delay) }
 {
     if 0 < delay {
-        return 1 + value_written::time_length(delay);
+        b" ".len() + value_written::time_length(delay)
+    } else {
+        0
     }
-    0
 }
 
+#[tactic(auto, using(crate::proofs::Lengths::lengths))]
 fn time_line_length(word: &[u8], present: u32, fade: u32, delay: u32) -> usize
     requires { length word.now ≤ 9 }
     ensures { result ≡ length (joined (time_line word.now present fade delay)) }
@@ -205,9 +203,10 @@ fn time_line_length(word: &[u8], present: u32, fade: u32, delay: u32) -> usize
     if present == 0 {
         return 0;
     }
-    word.len() + value_written::time_length(fade) + delay_length(delay) + END
+    word.len() + value_written::time_length(fade) + delay_length(delay) + END.len()
 }
 
+#[tactic(auto, using(crate::proofs::Lengths::lengths))]
 fn link_length(h: Head) -> usize
     ensures { result ≡ length (joined (link_line h)) }
 {
@@ -218,7 +217,7 @@ fn link_length(h: Head) -> usize
         whole: h.link_whole,
         fraction: h.link_fraction,
     };
-    5 + value_written::number_length(number) + END
+    LINK.len() + value_written::number_length(number) + END.len()
 }
 
 pub fn head_length(h: Head) -> usize

@@ -1,12 +1,12 @@
 -- What people read beside a show: the standard's text for a condition and the letter of its severity (Appendix B), and the promise of a text
 -- in a lent output. Where the appendix puts the record's own field or keyword between two words, the text has the words alone.
 -- Assumes nothing.
-use Rattle.std.specs.Prelude.{cond, List, [], ◌∷◌, ◌≡◌, ℕ, ◌<◌, eqb, length}
+use Rattle.std.specs.Prelude.{cond, List, [], ◌∷◌, ◌≡◌, ℕ, ◌<◌, eqb, length, Result}
 use Rattle.cells.specs.Text.{bytes}
 use Rattle.load.specs.Condition.{is_error}
-use Rattle.show.specs.declared.Written.{Written}
 use Rattle.show.specs.Calls.{write_reply, written_as, put_call}
 use Rattle.show.specs.Refusals.{Line, line, Told}
+use Rattle.store_desk.specs.declared.Refusal.{Refusal}
 
 -- E, W, and I of the closing number 0
 unfoldable pub severity_of : ℕ → ℕ
@@ -58,7 +58,7 @@ unfoldable pub condition_text : ℕ → List ℕ
 condition_text c = text_in condition_rows c
 
 -- ---- a text in a lent output: R6 with the length needed, or the text at its front and its length
-abbrev pub TextPromise : List ℕ → List ℕ → Written → List ℕ → Type 0
+abbrev pub TextPromise : List ℕ → List ℕ → Result ℕ Refusal → List ℕ → Type 0
 TextPromise text out a o = written_as (write_reply a) o ≡ put_call text out
 
 -- R6, the text exceeds the output given; no other

@@ -1,7 +1,7 @@
 // The lines that `tidy` prints ahead of the written stream, or in its place (paper 01, "The written stream"), written into a lent output.
 #![tactic(auto)]
 
-ghost use Rattle.std.specs.Prelude.{◌≡◌, min};
+ghost use Rattle.std.specs.Prelude.{◌≡◌};
 ghost use Rattle.text_room.specs.Wrote.{wrote, wrote_at};
 ghost use Rattle.text_room.specs.Room.{Room};
 ghost use Rattle.tidy_printed.specs.Text.{report_text, reports_text, end_text, told_text, needed_text};
@@ -51,11 +51,8 @@ pub fn put_reports(out: &mut [u8], at: usize, reports: &[u64]) -> usize
     ensures { wrote result out.new ≡ wrote_at out.old at (reports_text reports.now) }
 {
     let mut next = at;
-    let mut i = 0;
-    while i < reports.len() {
-        let word = reports[i];
+    for &word in reports {
         next = put_report(&mut *out, next, word);
-        i += 1;
     }
     next
 }
@@ -79,19 +76,12 @@ pub fn put_end_line(out: &mut [u8], at: usize, t: Totals) -> usize
     text_room::put_text(out, end, b"\n")
 }
 
-// How many of `count` reports a list of `room` words keeps.
-fn stored(count: u32, room: usize) -> usize
-    ensures { result ≡ min count room }
-{
-    cells::at_most(cells::place(count), room)
-}
-
 // What a load is told as: its stored reports, and the END line.
 pub fn put_told(out: &mut [u8], at: usize, reports: &[u64], t: Totals) -> usize
     requires { Room out.old at (told_text reports.now t) }
     ensures { wrote result out.new ≡ wrote_at out.old at (told_text reports.now t) }
 {
-    let n = stored(t.reports, reports.len());
+    let n = (t.reports as usize).min(reports.len());
     let end = put_reports(out, at, &reports[..n]);
     put_end_line(out, end, t)
 }

@@ -5,8 +5,8 @@ use Prim.Native.Nat.{◌-◌}
 use Rattle.save_chans.proofs.Loops.{Adding}
 use Rattle.save_chans.proofs.channels_length.Given as goal
 
-abbrev pub invariant-loop-i : goal.invariant-loop-i
-invariant-loop-i l = Adding l.levels l.total l.pairs l.i
+abbrev pub invariant-loop-level : goal.invariant-loop-level
+invariant-loop-level l = Adding l.levels l.total l.pairs l.i
 
-abbrev pub decreases-loop-i : goal.decreases-loop-i
-decreases-loop-i l = length l.levels - l.i
+abbrev pub decreases-loop-level : goal.decreases-loop-level
+decreases-loop-level l = length l.levels - l.i

@@ -6,8 +6,8 @@ use Rattle.cells.specs.Scan.{span}
 use Rattle.save_chans.specs.Chan.{is_dark}
 use Rattle.save_chans.proofs.next_lit.Given as goal
 
-abbrev pub invariant-loop-i : goal.invariant-loop-i
-invariant-loop-i l = (l.i ≤ length l.levels) × (l.i + span is_dark (drop l.i l.levels) ≡ l.at + span is_dark (drop l.at l.levels))
+abbrev pub invariant-loop-eight : goal.invariant-loop-eight
+invariant-loop-eight l = (l.i ≤ length l.levels) × (l.i + span is_dark (drop l.i l.levels) ≡ l.at + span is_dark (drop l.at l.levels))
 
-abbrev pub decreases-loop-i : goal.decreases-loop-i
-decreases-loop-i l = length l.levels - l.i
+abbrev pub decreases-loop-eight : goal.decreases-loop-eight
+decreases-loop-eight l = length l.levels - l.i

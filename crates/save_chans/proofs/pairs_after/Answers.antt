@@ -5,5 +5,5 @@ use Rattle.save_chans.proofs.pairs_after.Goals as goal
 pub returns-then-pairs-eq-MOST_PAIRS : goal.returns-then-pairs-eq-MOST_PAIRS
 returns-then-pairs-eq-MOST_PAIRS c = with_full c.args.pairs c.if-pairs-eq-MOST_PAIRS.true
 
-pub returns : goal.returns
-returns c = with_more c.args.pairs c.if-pairs-eq-MOST_PAIRS.false
+pub returns-else-pairs-eq-MOST_PAIRS : goal.returns-else-pairs-eq-MOST_PAIRS
+returns-else-pairs-eq-MOST_PAIRS c = with_more c.args.pairs c.if-pairs-eq-MOST_PAIRS.false

@@ -5,8 +5,8 @@ use Prim.Native.Nat.{◌-◌}
 use Rattle.save_chans.proofs.Loops.{Putting}
 use Rattle.save_chans.proofs.put_channels.Given as goal
 
-abbrev pub invariant-loop-i : goal.invariant-loop-i
-invariant-loop-i l = Putting l.initial.out l.at l.levels l.out l.next l.pairs l.i
+abbrev pub invariant-loop-level : goal.invariant-loop-level
+invariant-loop-level l = Putting l.initial.out l.at l.levels l.out l.next l.pairs l.i
 
-abbrev pub decreases-loop-i : goal.decreases-loop-i
-decreases-loop-i l = length l.levels - l.i
+abbrev pub decreases-loop-level : goal.decreases-loop-level
+decreases-loop-level l = length l.levels - l.i
