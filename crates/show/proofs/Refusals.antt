@@ -2,6 +2,7 @@
 -- since no two lines of a call share a number, a line's number is the answer only where it holds. The place that is told is that of the search
 -- that found it, and the answer's word has number and place apart.
 -- Assumes nothing.
+use Rattle.std.specs.Prelude.{Err, Ok, Option, Result}
 use mathlib.Core.Path.{◌≡◌, refl, sym, ap, ◌∙◌, subst}
 use mathlib.Core.Bool.{Bool, true, false, not, ◌&&◌}
 use mathlib.Core.List.{List, [], ◌∷◌}
@@ -16,7 +17,6 @@ use Rattle.cells.specs.Search.{Found, at, nowhere}
 use Rattle.cells.proofs.Split.{by_test, clash, and_left, and_right}
 use Rattle.store_desk.specs.declared.Desk.{Desk}
 use Rattle.store_desk.specs.declared.Key.{Key}
-use Rattle.store_desk.specs.declared.Needed.{Needed}
 use Rattle.store_desk.specs.declared.Refusal.{Refusal}
 use Rattle.store_desk.specs.declared.Refusal.TheVariants.{R2, R3, R4a, R4b, R4c}
 use Rattle.store_desk.specs.Size.{InRange, in_range_of, slots_of, entries_of, store_length}
@@ -33,12 +33,6 @@ use Rattle.store_code.specs.Fits.{Fitting}
 use Rattle.load.specs.Run.{Run, load_of}
 use Rattle.load.specs.Translated.{translated_of}
 use Rattle.save.specs.Lines.{stream_of}
-use Rattle.show.specs.declared.Admission.{Admission}
-use Rattle.show.specs.declared.Admission.TheVariants.{Admitted, Away}
-use Rattle.show.specs.declared.Loaded.{Loaded}
-use Rattle.show.specs.declared.Written.{Written}
-use Rattle.show.specs.declared.Emptied.{Emptied}
-use Rattle.show.specs.declared.Placed.{Placed}
 use Rattle.show.specs.Calls.{most_bytes, lent_admission, admission_of, LoadCall, load_reply, load_by, stream_call, load_call, LoadPromise}
 use Rattle.show.specs.Calls.{then_admission, kinds_admission, translate_admission, translate_call, TranslatePromise}
 use Rattle.show.specs.Calls.{WriteCall, write_reply, put_call, write_by, write_call, WritePromise}
@@ -47,6 +41,7 @@ use Rattle.show.specs.Calls.{not_kept, find_reply, placed_at, find_by, find_call
 use Rattle.show.specs.Refusals.{Line, Told, r1, r2, r3, SlotUnfit, r4a, SlotTwice, r4b, EntryUnfit, r4c, r5, r6, r7, lacking}
 use Rattle.show.specs.Refusals.{PlaceTold, WordTold, LoadRefused, TranslateRefused, WriteRefused, EmptyRefused, NeededRefused, FindRefused}
 use Rattle.show.proofs.Laws.{by_lent, by_admission, by_kinds, by_translate, away_reply}
+use Rattle.load.specs.declared.Totals.{Totals}
 
 -- ---- the first line that holds
 
@@ -101,20 +96,20 @@ sized : (d : Desk) (s : List ℕ) (ls : List Line) (n : ℕ) → InRange d → s
 unfolding First
 sized d s ls n r l f = inr (λ h. h r, inr (λ h. omega arith, f))
 
-pub store_first : (d : Desk) (s : List ℕ) (ls : List Line) (number : Admission → ℕ) → ((r : Refusal) → number (Away r) ≡ refusal_number r)
-    → (Ready d s → First ls (number Admitted)) → First (store_lines d s ls) (number (admission_of d s))
+pub store_first : (d : Desk) (s : List ℕ) (ls : List Line) (number : Result Unit Refusal → ℕ) → ((r : Refusal) → number (Err r) ≡ refusal_number r)
+    → (Ready d s → First ls (number (Ok tt))) → First (store_lines d s ls) (number (admission_of d s))
 unfolding First
 store_first d s ls number away rest =
-    by_admission d s (λ (a : Admission). First (store_lines d s ls) (number a))
+    by_admission d s (λ (a : Result Unit Refusal). First (store_lines d s ls) (number a))
     (λ h. inl (h, away R2))
     (λ r l. inr (λ h. h r, inl (l, away R3)))
     (λ h i f.
     let l = f.below in
-    sized d s (r4a d s ∷ r4b d s ∷ r4c d s ∷ ls) (number (Away (R4a (i + 1)))) h.range h.long
+    sized d s (r4a d s ∷ r4b d s ∷ r4c d s ∷ ls) (number (Err (R4a (i + 1)))) h.range h.long
     (inl (record { slot = i; within = omega arith; unfit = not-true (slot_fits d s i) f.passes }, away (R4a (i + 1)))))
     (λ h i n f.
     let l = f.below in
-    sized d s (r4a d s ∷ r4b d s ∷ r4c d s ∷ ls) (number (Away (R4b (i + 1)))) h.range h.long
+    sized d s (r4a d s ∷ r4b d s ∷ r4c d s ∷ ls) (number (Err (R4b (i + 1)))) h.range h.long
     (inr (
       none_unfit d s (slots_fit d s n),
       inl (
@@ -124,7 +119,7 @@ store_first d s ls number away rest =
     )))
     (λ h i n m f.
     let l = f.below in
-    sized d s (r4a d s ∷ r4b d s ∷ r4c d s ∷ ls) (number (Away (R4c (i + 1)))) h.range h.long
+    sized d s (r4a d s ∷ r4b d s ∷ r4c d s ∷ ls) (number (Err (R4c (i + 1)))) h.range h.long
     (inr (
       none_unfit d s (slots_fit d s n),
       inr (
@@ -133,14 +128,14 @@ store_first d s ls number away rest =
       ),
     )))
     (λ r.
-    sized d s (r4a d s ∷ r4b d s ∷ r4c d s ∷ ls) (number Admitted) r.range r.long
+    sized d s (r4a d s ∷ r4b d s ∷ r4c d s ∷ ls) (number (Ok tt)) r.range r.long
     (inr (
       none_unfit d s r.form.slots,
       inr (none_twice d s r.form.single, inr (none_entry d s r.form.entries, rest r)),
     )))
 
 -- of either load
-stream_first : (a : Admission) (x : Run) (s reps stream : List ℕ) (ls : List Line) → First ls (load_by a x s reps).reply.number
+stream_first : (a : Result Unit Refusal) (x : Run) (s reps stream : List ℕ) (ls : List Line) → First ls (load_by a x s reps).reply.number
     → First (r1 stream ∷ ls) (stream_call a x s reps stream).reply.number
 unfolding First stream_call
 stream_first a x s reps stream ls f =
@@ -159,11 +154,11 @@ translate_first : (d : Desk) (s reps stream : List ℕ)
 unfolding First translate_call load_by translate_admission then_admission
 translate_first d s reps stream =
     let x = translated_of d s stream in
-    let number : Admission → ℕ = λ a. (load_by (then_admission a (kinds_admission d)) x s reps).reply.number in
+    let number : Result Unit Refusal → ℕ = λ a. (load_by (then_admission a (kinds_admission d)) x s reps).reply.number in
     stream_first (translate_admission d s) x s reps stream (store_lines d s (r7 d ∷ []))
     (store_first d s (r7 d ∷ []) number (λ r. refl)
     (λ h.
-    by_kinds d (λ (a : Admission). First (r7 d ∷ []) (load_by a x s reps).reply.number) (λ z. inl (z, refl))
+    by_kinds d (λ (a : Result Unit Refusal). First (r7 d ∷ []) (load_by a x s reps).reply.number) (λ z. inl (z, refl))
     (λ n m. inr (λ z. ⊎_elim n m z, refl))))
 
 put_first : (d : Desk) (s out : List ℕ) → First (r5 d s ∷ r6 d s out ∷ []) (put_call (stream_of d s) out).reply.number
@@ -181,12 +176,12 @@ put_first d s out =
     ))
 
 -- a call that tests R2 and R3, and then other lines
-pub lent_first : (d : Desk) (s : List ℕ) (ls : List Line) (number : Admission → ℕ) → ((r : Refusal) → number (Away r) ≡ refusal_number r)
-    → (Fitting d s → First ls (number Admitted)) → First (r2 d ∷ r3 d s ∷ ls) (number (lent_admission d s))
+pub lent_first : (d : Desk) (s : List ℕ) (ls : List Line) (number : Result Unit Refusal → ℕ) → ((r : Refusal) → number (Err r) ≡ refusal_number r)
+    → (Fitting d s → First ls (number (Ok tt))) → First (r2 d ∷ r3 d s ∷ ls) (number (lent_admission d s))
 unfolding First
 lent_first d s ls number away rest =
-    by_lent d s (λ (a : Admission). First (r2 d ∷ r3 d s ∷ ls) (number a)) (λ h. inl (h, away R2)) (λ r l. inr (λ h. h r, inl (l, away R3)))
-    (λ h. sized d s ls (number Admitted) h.range h.long (rest h))
+    by_lent d s (λ (a : Result Unit Refusal). First (r2 d ∷ r3 d s ∷ ls) (number a)) (λ h. inl (h, away R2)) (λ r l. inr (λ h. h r, inl (l, away R3)))
+    (λ h. sized d s ls (number (Ok tt)) h.range h.long (rest h))
 
 empty_first : (d : Desk) (s : List ℕ) → First (r2 d ∷ r3 d s ∷ []) (empty_call d s).reply.number
 unfolding First empty_call empty_by
@@ -271,7 +266,7 @@ kept_said d s = plain_said d s 255 [] (λ q. omega arith) (λ q. omega arith) (�
 
 pub store_said : (d : Desk) (s : List ℕ) → Said d s (away_reply (admission_of d s))
 store_said d s =
-    by_admission d s (λ (a : Admission). Said d s (away_reply a))
+    by_admission d s (λ (a : Result Unit Refusal). Said d s (away_reply a))
     (λ h. small_said d s 2 [] (omega arith))
     (λ h l. small_said d s 3 [] (omega arith))
     (λ h i f.
@@ -318,15 +313,15 @@ store_said d s =
     })
     (λ r. small_said d s 0 [] (omega arith))
 
-pub away_most : (d : Desk) (s : List ℕ) {r : Refusal} → Away r ≡ admission_of d s → refusal_place r ≤ most_places
-away_most d s e = subst (λ (a : Admission). (away_reply a).place ≤ most_places) (sym e) (store_said d s).place.most
+pub away_most : (d : Desk) (s : List ℕ) {r : Refusal} → Err r ≡ admission_of d s → refusal_place r ≤ most_places
+away_most d s e = subst (λ (a : Result Unit Refusal). (away_reply a).place ≤ most_places) (sym e) (store_said d s).place.most
 
-load_by_said : (a : Admission) (d : Desk) (x : Run) (s reps : List ℕ) → Said d s (away_reply a) → Said d s (load_by a x s reps).reply
+load_by_said : (a : Result Unit Refusal) (d : Desk) (x : Run) (s reps : List ℕ) → Said d s (away_reply a) → Said d s (load_by a x s reps).reply
 unfolding load_by
-load_by_said Admitted d x s reps h = small_said d s 0 _ (omega arith)
-load_by_said (Away r) d x s reps h = h
+load_by_said (Ok _) d x s reps h = small_said d s 0 _ (omega arith)
+load_by_said (Err r) d x s reps h = h
 
-stream_said : (a : Admission) (d : Desk) (x : Run) (s reps stream : List ℕ) → Said d s (away_reply a) → Said d s (stream_call a x s reps stream).reply
+stream_said : (a : Result Unit Refusal) (d : Desk) (x : Run) (s reps stream : List ℕ) → Said d s (away_reply a) → Said d s (stream_call a x s reps stream).reply
 unfolding stream_call
 stream_said a d x s reps stream h =
     by_test (λ (y : LoadCall). Said d s y.reply) (ltb most_bytes (length stream)) _ (load_by a x s reps)
@@ -338,8 +333,8 @@ load_said d s reps stream = stream_said (admission_of d s) d (load_of d s stream
 
 kinds_said : (d : Desk) (s : List ℕ) → Said d s (away_reply (translate_admission d s))
 kinds_said d s =
-    by_translate d s (λ (a : Admission). Said d s (away_reply a))
-    (λ r e. subst (λ (a : Admission). Said d s (away_reply a)) (sym e) (store_said d s)) (λ r z. small_said d s 7 [] (omega arith))
+    by_translate d s (λ (a : Result Unit Refusal). Said d s (away_reply a))
+    (λ r e. subst (λ (a : Result Unit Refusal). Said d s (away_reply a)) (sym e) (store_said d s)) (λ r z. small_said d s 7 [] (omega arith))
     (λ r n m. small_said d s 0 [] (omega arith))
 
 pub translate_said : (d : Desk) (s reps stream : List ℕ) → Said d s (translate_call d s reps stream).reply
@@ -354,10 +349,10 @@ put_said d s stream out =
     by_test (λ (x : WriteCall). Said d s x.reply) (ltb (length out) (length stream)) _ _
     (λ f. small_said d s 6 _ (omega arith)) (λ f. small_said d s 0 _ (omega arith)))
 
-write_by_said : (a : Admission) (d : Desk) (s out : List ℕ) → Said d s (away_reply a) → Said d s (write_by a d s out).reply
+write_by_said : (a : Result Unit Refusal) (d : Desk) (s out : List ℕ) → Said d s (away_reply a) → Said d s (write_by a d s out).reply
 unfolding write_by
-write_by_said Admitted d s out h = put_said d s (stream_of d s) out
-write_by_said (Away r) d s out h = h
+write_by_said (Ok _) d s out h = put_said d s (stream_of d s) out
+write_by_said (Err r) d s out h = h
 
 pub write_said : (d : Desk) (s out : List ℕ) → Said d s (write_call d s out).reply
 unfolding write_call
@@ -365,13 +360,13 @@ write_said d s out = write_by_said (admission_of d s) d s out (store_said d s)
 
 pub lent_said : (d : Desk) (s : List ℕ) → Said d s (away_reply (lent_admission d s))
 lent_said d s =
-    by_lent d s (λ (a : Admission). Said d s (away_reply a)) (λ h. small_said d s 2 [] (omega arith)) (λ h l. small_said d s 3 [] (omega arith))
+    by_lent d s (λ (a : Result Unit Refusal). Said d s (away_reply a)) (λ h. small_said d s 2 [] (omega arith)) (λ h l. small_said d s 3 [] (omega arith))
     (λ h. small_said d s 0 [] (omega arith))
 
-empty_by_said : (a : Admission) (d : Desk) (s : List ℕ) → Said d s (away_reply a) → Said d s (empty_by a d s).reply
+empty_by_said : (a : Result Unit Refusal) (d : Desk) (s : List ℕ) → Said d s (away_reply a) → Said d s (empty_by a d s).reply
 unfolding empty_by
-empty_by_said Admitted d s h = h
-empty_by_said (Away r) d s h = h
+empty_by_said (Ok _) d s h = h
+empty_by_said (Err r) d s h = h
 
 pub empty_said : (d : Desk) (s : List ℕ) → Said d s (empty_call d s).reply
 unfolding empty_call
@@ -387,10 +382,10 @@ unfolding placed_at
 placed_said d s (at i) = small_said d s 0 _ (omega arith)
 placed_said d s nowhere = kept_said d s
 
-find_by_said : (a : Admission) (d : Desk) (s : List ℕ) (key : Key) → Said d s (away_reply a) → Said d s (find_by a d s key)
+find_by_said : (a : Result Unit Refusal) (d : Desk) (s : List ℕ) (key : Key) → Said d s (away_reply a) → Said d s (find_by a d s key)
 unfolding find_by
-find_by_said Admitted d s key h = placed_said d s (find d s (cue_name key))
-find_by_said (Away r) d s key h = h
+find_by_said (Ok _) d s key h = placed_said d s (find d s (cue_name key))
+find_by_said (Err r) d s key h = h
 
 pub find_said : (d : Desk) (s : List ℕ) (page whole tenths : ℕ) → Said d s (find_call d s page whole tenths)
 unfolding find_call
@@ -415,10 +410,10 @@ unfolding look_at placed_at
 look_at-word d s (at i) = refl
 look_at-word d s nowhere = refl
 
-look_by-word : (a : Admission) (d : Desk) (s : List ℕ) (key : Key) → (look_by a d s key).word ≡ reply_word (find_by a d s key)
+look_by-word : (a : Result Unit Refusal) (d : Desk) (s : List ℕ) (key : Key) → (look_by a d s key).word ≡ reply_word (find_by a d s key)
 unfolding look_by find_by
-look_by-word Admitted d s key = look_at-word d s (find d s (cue_name key))
-look_by-word (Away r) d s key = refl
+look_by-word (Ok _) d s key = look_at-word d s (find d s (cue_name key))
+look_by-word (Err r) d s key = refl
 
 pub look_word : (d : Desk) (s : List ℕ) (page whole tenths : ℕ) → (look_call d s page whole tenths).word ≡ reply_word (find_call d s page whole tenths)
 unfolding look_call find_call
@@ -426,28 +421,28 @@ look_word d s page whole tenths = look_by-word (admission_of d s) d s (cue_key p
 
 -- ---- the promises
 
-pub load_refused : (d : Desk) (s reps stream : List ℕ) (a : Loaded) {t q : List ℕ} → LoadPromise d s reps stream a t q
+pub load_refused : (d : Desk) (s reps stream : List ℕ) (a : Result Totals Refusal) {t q : List ℕ} → LoadPromise d s reps stream a t q
     → LoadRefused d s stream (load_reply a).number
 load_refused d s reps stream a e =
     subst (LoadRefused d s stream) (sym (ap (λ (y : LoadCall). y.reply.number) e)) (load_lines d s reps stream)
 
-pub translate_refused : (d : Desk) (s reps stream : List ℕ) (a : Loaded) {t q : List ℕ} → TranslatePromise d s reps stream a t q
+pub translate_refused : (d : Desk) (s reps stream : List ℕ) (a : Result Totals Refusal) {t q : List ℕ} → TranslatePromise d s reps stream a t q
     → TranslateRefused d s stream (load_reply a).number
 translate_refused d s reps stream a e =
     subst (TranslateRefused d s stream) (sym (ap (λ (y : LoadCall). y.reply.number) e)) (translate_lines d s reps stream)
 
-pub write_refused : (d : Desk) (s out : List ℕ) (a : Written) {o : List ℕ} → WritePromise d s out a o
+pub write_refused : (d : Desk) (s out : List ℕ) (a : Result ℕ Refusal) {o : List ℕ} → WritePromise d s out a o
     → WriteRefused d s out (write_reply a).number
 write_refused d s out a e =
     subst (WriteRefused d s out) (sym (ap (λ (y : WriteCall). y.reply.number) e)) (write_lines d s out)
 
-pub empty_refused : (d : Desk) (s : List ℕ) (a : Emptied) {t : List ℕ} → EmptyPromise d s a t → EmptyRefused d s (empty_reply a).number
+pub empty_refused : (d : Desk) (s : List ℕ) (a : Result Unit Refusal) {t : List ℕ} → EmptyPromise d s a t → EmptyRefused d s (empty_reply a).number
 empty_refused d s a e = subst (EmptyRefused d s) (sym (ap (λ (y : EmptyCall). y.reply.number) e)) (empty_lines d s)
 
-pub needed_refused : (d : Desk) (a : Needed) → NeededPromise d a → NeededRefused d (needed_reply a).number
+pub needed_refused : (d : Desk) (a : Result ℕ Refusal) → NeededPromise d a → NeededRefused d (needed_reply a).number
 needed_refused d a e = subst (NeededRefused d) (sym (ap (λ (y : Reply). y.number) e)) (needed_lines d)
 
-pub find_refused : (d : Desk) (s : List ℕ) (page whole tenths : ℕ) (a : Placed) → FindPromise d s page whole tenths a
+pub find_refused : (d : Desk) (s : List ℕ) (page whole tenths : ℕ) (a : Result (Option ℕ) Refusal) → FindPromise d s page whole tenths a
     → FindRefused d s page whole tenths (find_reply a).number
 find_refused d s page whole tenths a e =
     subst (FindRefused d s page whole tenths) (sym (ap (λ (y : Reply). y.number) e)) (find_lines d s page whole tenths)
@@ -463,22 +458,22 @@ look_refused d s page whole tenths e =
     (find_lines d s.now page whole tenths)
 
 -- and the place
-pub load_place : (d : Desk) (s reps stream : List ℕ) (a : Loaded) {t q : List ℕ} → LoadPromise d s reps stream a t q
+pub load_place : (d : Desk) (s reps stream : List ℕ) (a : Result Totals Refusal) {t q : List ℕ} → LoadPromise d s reps stream a t q
     → PlaceTold d s (load_reply a).number (load_reply a).place
 load_place d s reps stream a e =
     subst (λ (y : Reply). PlaceTold d s y.number y.place) (sym (ap (λ (y : LoadCall). y.reply) e)) (load_said d s reps stream).place
 
-pub translate_place : (d : Desk) (s reps stream : List ℕ) (a : Loaded) {t q : List ℕ} → TranslatePromise d s reps stream a t q
+pub translate_place : (d : Desk) (s reps stream : List ℕ) (a : Result Totals Refusal) {t q : List ℕ} → TranslatePromise d s reps stream a t q
     → PlaceTold d s (load_reply a).number (load_reply a).place
 translate_place d s reps stream a e =
     subst (λ (y : Reply). PlaceTold d s y.number y.place) (sym (ap (λ (y : LoadCall). y.reply) e)) (translate_said d s reps stream).place
 
-pub write_place : (d : Desk) (s out : List ℕ) (a : Written) {o : List ℕ} → WritePromise d s out a o
+pub write_place : (d : Desk) (s out : List ℕ) (a : Result ℕ Refusal) {o : List ℕ} → WritePromise d s out a o
     → PlaceTold d s (write_reply a).number (write_reply a).place
 write_place d s out a e =
     subst (λ (y : Reply). PlaceTold d s y.number y.place) (sym (ap (λ (y : WriteCall). y.reply) e)) (write_said d s out).place
 
-pub find_place : (d : Desk) (s : List ℕ) (page whole tenths : ℕ) (a : Placed) → FindPromise d s page whole tenths a
+pub find_place : (d : Desk) (s : List ℕ) (page whole tenths : ℕ) (a : Result (Option ℕ) Refusal) → FindPromise d s page whole tenths a
     → PlaceTold d s (find_reply a).number (find_reply a).place
 find_place d s page whole tenths a e =
     subst (λ (y : Reply). PlaceTold d s y.number y.place) (sym e) (find_said d s page whole tenths).place

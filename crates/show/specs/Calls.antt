@@ -2,7 +2,7 @@
 -- C-11). The refusals are tested in the paper's order, and each leaves all lent memory as it was. An answer is told by the paper's number, by
 -- the place of what is out of form, and by what it tells beside them (`Reply` of `store_desk`); the promise of `needed` stands there too.
 -- Assumes nothing.
-use Rattle.std.specs.Prelude.{cond, List, [], ◌∷◌, ◌≡◌, ℕ, ◌+◌, ◌*◌, eqb, ltb, leb, length}
+use Rattle.std.specs.Prelude.{cond, List, [], ◌∷◌, ◌≡◌, ℕ, ◌+◌, ◌*◌, eqb, ltb, leb, length, Err, None, Ok, Option, Result, Some}
 use Rattle.std.specs.Borrow.{Bor}
 use Rattle.cells.specs.Put.{put}
 use Rattle.cells.specs.Search.{Found, at, nowhere}
@@ -15,46 +15,37 @@ use Rattle.store_desk.specs.Name.{Name}
 use Rattle.store_desk.specs.Refusal.{Reply, replied, refused, refusal_word}
 use Rattle.store.specs.Slots.{find, levels_at}
 use Rattle.store.specs.Change.{emptied as emptiedStore}
-use Rattle.store.specs.declared.StoreForm.{StoreForm}
-use Rattle.store.specs.declared.StoreForm.TheVariants.{Good, BadSlot, Repeated, BadEntry}
 use Rattle.store.specs.Form.{form_of}
 use Rattle.load.specs.declared.Totals.{Totals}
 use Rattle.load.specs.Run.{Run, load_of, totals_of, stored_in, all_reports}
 use Rattle.load.specs.Translated.{translated_of}
 use Rattle.save.specs.Lines.{stream_of}
-use Rattle.show.specs.declared.Admission.{Admission}
-use Rattle.show.specs.declared.Admission.TheVariants.{Admitted, Away}
-use Rattle.show.specs.declared.Loaded.{Loaded}
-use Rattle.show.specs.declared.Loaded.TheVariants.{Away as LoadAway, Done as LoadDone}
-use Rattle.show.specs.declared.Written.{Written}
-use Rattle.show.specs.declared.Written.TheVariants.{Away as WriteAway, Done as WriteDone}
-use Rattle.show.specs.declared.Placed.{Placed}
-use Rattle.show.specs.declared.Placed.TheVariants.{Away as FindAway, NotKept, At as PlacedAt}
-use Rattle.show.specs.declared.Emptied.{Emptied}
-use Rattle.show.specs.declared.Emptied.TheVariants.{Away as EmptyAway, Done as EmptyDone}
+use Rattle.store.specs.declared.FormError.{FormError}
+use Rattle.store_desk.specs.declared.Refusal.{Refusal}
+use Rattle.store.specs.declared.FormError.TheVariants.{BadSlot, Repeated, BadEntry}
 
 -- R1, R5: the longest stream
 abbrev pub most_bytes : ℕ
 most_bytes = 262143
 
 -- R4a, a slot out of form; R4b, a slot used twice for one memory; R4c, a patch entry out of form; each with its place, from 1
-unfoldable pub form_admission : StoreForm → Admission
-form_admission Good = Admitted
-form_admission (BadSlot i) = Away (R4a (i + 1))
-form_admission (Repeated i) = Away (R4b (i + 1))
-form_admission (BadEntry i) = Away (R4c (i + 1))
+unfoldable pub form_admission : Result Unit FormError → Result Unit Refusal
+form_admission (Ok _) = Ok tt
+form_admission (Err (BadSlot i)) = Err (R4a (i + 1))
+form_admission (Err (Repeated i)) = Err (R4b (i + 1))
+form_admission (Err (BadEntry i)) = Err (R4c (i + 1))
 
 -- R2, a limit outside its range; R3, a store shorter than the desk needs
-unfoldable pub lent_admission : Desk → List ℕ → Admission
-lent_admission d s = cond (in_range_of d) (cond (leb (store_length d) (length s)) Admitted (Away R3)) (Away R2)
+unfoldable pub lent_admission : Desk → List ℕ → Result Unit Refusal
+lent_admission d s = cond (in_range_of d) (cond (leb (store_length d) (length s)) (Ok tt) (Err R3)) (Err R2)
 
 -- where nothing turned the call away, what is tested next decides
-unfoldable pub then_admission : Admission → Admission → Admission
-then_admission Admitted a = a
-then_admission (Away r) a = Away r
+unfoldable pub then_admission : Result Unit Refusal → Result Unit Refusal → Result Unit Refusal
+then_admission (Ok _) a = a
+then_admission (Err r) a = Err r
 
 -- R2, R3, then the store's form
-unfoldable pub admission_of : Desk → List ℕ → Admission
+unfoldable pub admission_of : Desk → List ℕ → Result Unit Refusal
 admission_of d s = then_admission (lent_admission d s) (form_admission (form_of d s))
 
 -- ---- load
@@ -68,9 +59,9 @@ pub record LoadCall : Type 0 where
 abbrev pub totals_told : Totals → List ℕ
 totals_told t = t.reports ∷ t.blank ∷ t.obeyed ∷ t.passed ∷ t.dropped ∷ t.closing ∷ []
 
-abbrev pub load_reply : Loaded → Reply
-load_reply (LoadAway r) = refused r
-load_reply (LoadDone t) = replied (totals_told t)
+abbrev pub load_reply : Result Totals Refusal → Reply
+load_reply (Err r) = refused r
+load_reply (Ok t) = replied (totals_told t)
 
 abbrev pub loaded_as : Reply → List ℕ → List ℕ → LoadCall
 loaded_as a s reps = record { reply = a; store = s; reports = reps }
@@ -79,34 +70,34 @@ abbrev pub load_done : Run → List ℕ → LoadCall
 load_done x reps = loaded_as (replied (totals_told (totals_of x))) x.store (stored_in reps (all_reports x))
 
 -- a call that is let in comes to a run
-unfoldable pub load_by : Admission → Run → List ℕ → List ℕ → LoadCall
-load_by Admitted x s reps = load_done x reps
-load_by (Away r) x s reps = loaded_as (refused r) s reps
+unfoldable pub load_by : Result Unit Refusal → Run → List ℕ → List ℕ → LoadCall
+load_by (Ok _) x s reps = load_done x reps
+load_by (Err r) x s reps = loaded_as (refused r) s reps
 
 -- R1, a stream that is too long, is tested ahead of all else
-unfoldable pub stream_call : Admission → Run → List ℕ → List ℕ → List ℕ → LoadCall
+unfoldable pub stream_call : Result Unit Refusal → Run → List ℕ → List ℕ → List ℕ → LoadCall
 stream_call a x s reps stream = let y = load_by a x s reps in cond (ltb most_bytes (length stream)) (loaded_as (refused R1) s reps) y
 
 unfoldable pub load_call : Desk → List ℕ → List ℕ → List ℕ → LoadCall
 load_call d s reps stream = stream_call (admission_of d s) (load_of d s stream) s reps stream
 
 -- of its answer, and the store and the lent list afterwards
-abbrev pub LoadPromise : Desk → List ℕ → List ℕ → List ℕ → Loaded → List ℕ → List ℕ → Type 0
+abbrev pub LoadPromise : Desk → List ℕ → List ℕ → List ℕ → Result Totals Refusal → List ℕ → List ℕ → Type 0
 LoadPromise d s reps stream a t q = loaded_as (load_reply a) t q ≡ load_call d s reps stream
 
 -- ---- translate: the load with translation (C-13)
 
 -- R7, a desk without groups or without submasters, is tested after the store's form
-unfoldable pub kinds_admission : Desk → Admission
-kinds_admission d = cond (eqb d.groups 0) (Away R7) (cond (eqb d.subs 0) (Away R7) Admitted)
+unfoldable pub kinds_admission : Desk → Result Unit Refusal
+kinds_admission d = cond (eqb d.groups 0) (Err R7) (cond (eqb d.subs 0) (Err R7) (Ok tt))
 
-unfoldable pub translate_admission : Desk → List ℕ → Admission
+unfoldable pub translate_admission : Desk → List ℕ → Result Unit Refusal
 translate_admission d s = then_admission (admission_of d s) (kinds_admission d)
 
 unfoldable pub translate_call : Desk → List ℕ → List ℕ → List ℕ → LoadCall
 translate_call d s reps stream = stream_call (translate_admission d s) (translated_of d s stream) s reps stream
 
-abbrev pub TranslatePromise : Desk → List ℕ → List ℕ → List ℕ → Loaded → List ℕ → List ℕ → Type 0
+abbrev pub TranslatePromise : Desk → List ℕ → List ℕ → List ℕ → Result Totals Refusal → List ℕ → List ℕ → Type 0
 TranslatePromise d s reps stream a t q = loaded_as (load_reply a) t q ≡ translate_call d s reps stream
 
 -- ---- write
@@ -115,9 +106,9 @@ pub record WriteCall : Type 0 where
   pub reply : Reply
   pub out : List ℕ
 
-abbrev pub write_reply : Written → Reply
-write_reply (WriteAway r) = refused r
-write_reply (WriteDone n) = replied (n ∷ [])
+abbrev pub write_reply : Result ℕ Refusal → Reply
+write_reply (Err r) = refused r
+write_reply (Ok n) = replied (n ∷ [])
 
 abbrev pub written_as : Reply → List ℕ → WriteCall
 written_as a o = record { reply = a; out = o }
@@ -129,15 +120,15 @@ put_call stream out =
     (cond (ltb (length out) (length stream)) (written_as (refused (R6 (length stream))) out)
     (written_as (replied (length stream ∷ [])) (put out 0 stream)))
 
-unfoldable pub write_by : Admission → Desk → List ℕ → List ℕ → WriteCall
-write_by Admitted d s out = put_call (stream_of d s) out
-write_by (Away r) d s out = written_as (refused r) out
+unfoldable pub write_by : Result Unit Refusal → Desk → List ℕ → List ℕ → WriteCall
+write_by (Ok _) d s out = put_call (stream_of d s) out
+write_by (Err r) d s out = written_as (refused r) out
 
 unfoldable pub write_call : Desk → List ℕ → List ℕ → WriteCall
 write_call d s out = write_by (admission_of d s) d s out
 
 -- of its answer, and the output afterwards
-abbrev pub WritePromise : Desk → List ℕ → List ℕ → Written → List ℕ → Type 0
+abbrev pub WritePromise : Desk → List ℕ → List ℕ → Result ℕ Refusal → List ℕ → Type 0
 WritePromise d s out a o = written_as (write_reply a) o ≡ write_call d s out
 
 -- ---- empty
@@ -146,22 +137,22 @@ pub record EmptyCall : Type 0 where
   pub reply : Reply
   pub store : List ℕ
 
-abbrev pub empty_reply : Emptied → Reply
-empty_reply (EmptyAway r) = refused r
-empty_reply EmptyDone = replied []
+abbrev pub empty_reply : Result Unit Refusal → Reply
+empty_reply (Err r) = refused r
+empty_reply (Ok _) = replied []
 
 abbrev pub emptied_as : Reply → List ℕ → EmptyCall
 emptied_as a s = record { reply = a; store = s }
 
-unfoldable pub empty_by : Admission → Desk → List ℕ → EmptyCall
-empty_by Admitted d s = emptied_as (replied []) (emptiedStore d s)
-empty_by (Away r) d s = emptied_as (refused r) s
+unfoldable pub empty_by : Result Unit Refusal → Desk → List ℕ → EmptyCall
+empty_by (Ok _) d s = emptied_as (replied []) (emptiedStore d s)
+empty_by (Err r) d s = emptied_as (refused r) s
 
 unfoldable pub empty_call : Desk → List ℕ → EmptyCall
 empty_call d s = empty_by (lent_admission d s) d s
 
 -- of its answer, and the store afterwards
-abbrev pub EmptyPromise : Desk → List ℕ → Emptied → List ℕ → Type 0
+abbrev pub EmptyPromise : Desk → List ℕ → Result Unit Refusal → List ℕ → Type 0
 EmptyPromise d s a t = emptied_as (empty_reply a) t ≡ empty_call d s
 
 -- ---- look-up: the very level bytes of a kept cue
@@ -192,9 +183,9 @@ unfoldable pub look_at : Desk → List ℕ → Found → Look
 look_at d s (at i) = look kept_word (i * slot_length d + head_length) (levels_at d s i)
 look_at d s nowhere = look not_kept_word 0 []
 
-unfoldable pub look_by : Admission → Desk → List ℕ → Key → Look
-look_by Admitted d s key = look_at d s (find d s (cue_name key))
-look_by (Away r) d s key = look (refusal_word r) 0 []
+unfoldable pub look_by : Result Unit Refusal → Desk → List ℕ → Key → Look
+look_by (Ok _) d s key = look_at d s (find d s (cue_name key))
+look_by (Err r) d s key = look (refusal_word r) 0 []
 
 unfoldable pub look_call : Desk → List ℕ → ℕ → ℕ → ℕ → Look
 look_call d s page whole tenths = look_by (admission_of d s) d s (cue_key page whole tenths)
@@ -215,22 +206,22 @@ LookPromise d s page whole tenths r answer = LookedUp s r answer (look_call d s.
 abbrev pub not_kept : Reply
 not_kept = record { number = not_kept_word; place = 0; told = [] }
 
-abbrev pub find_reply : Placed → Reply
-find_reply (FindAway r) = refused r
-find_reply NotKept = not_kept
-find_reply (PlacedAt n) = replied (n ∷ [])
+abbrev pub find_reply : Result (Option ℕ) Refusal → Reply
+find_reply (Err r) = refused r
+find_reply (Ok None) = not_kept
+find_reply (Ok (Some n)) = replied (n ∷ [])
 
 unfoldable pub placed_at : Desk → Found → Reply
 placed_at d (at i) = replied ((i * slot_length d + head_length) ∷ [])
 placed_at d nowhere = not_kept
 
-unfoldable pub find_by : Admission → Desk → List ℕ → Key → Reply
-find_by Admitted d s key = placed_at d (find d s (cue_name key))
-find_by (Away r) d s key = refused r
+unfoldable pub find_by : Result Unit Refusal → Desk → List ℕ → Key → Reply
+find_by (Ok _) d s key = placed_at d (find d s (cue_name key))
+find_by (Err r) d s key = refused r
 
 unfoldable pub find_call : Desk → List ℕ → ℕ → ℕ → ℕ → Reply
 find_call d s page whole tenths = find_by (admission_of d s) d s (cue_key page whole tenths)
 
 -- its number is a refusal's, 255 for a cue that is not kept, or 0
-abbrev pub FindPromise : Desk → List ℕ → ℕ → ℕ → ℕ → Placed → Type 0
+abbrev pub FindPromise : Desk → List ℕ → ℕ → ℕ → ℕ → Result (Option ℕ) Refusal → Type 0
 FindPromise d s page whole tenths a = find_reply a ≡ find_call d s page whole tenths

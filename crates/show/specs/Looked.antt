@@ -2,15 +2,14 @@
 -- out are the levels of the memory that the store keeps under the cue's name (`memory_of`, of which demands 2 and 3 speak), and the
 -- place that `find` tells is where they begin. Laws `looked_show`, `found_part`.
 -- Assumes nothing.
-use Rattle.std.specs.Prelude.{List, ◌↔◌, ◌≡◌, ℕ, ◌+◌}
+use Rattle.std.specs.Prelude.{List, ◌↔◌, ◌≡◌, ℕ, ◌+◌, Ok, Option, Result, Some}
 use Rattle.std.specs.Borrow.{Bor}
 use Rattle.store_desk.specs.declared.Desk.{Desk}
 use Rattle.store_desk.specs.Refusal.{reply_word}
 use Rattle.store.specs.Good.{Ready}
 use Rattle.store.specs.View.{Memory, Kept, absent, kept, memory_of}
-use Rattle.show.specs.declared.Placed.{Placed}
-use Rattle.show.specs.declared.Placed.TheVariants.{At}
 use Rattle.show.specs.Calls.{kept_word, not_kept_word, cue_name, cue_key, find_reply}
+use Rattle.store_desk.specs.declared.Refusal.{Refusal}
 
 -- the memory that is kept under a cue's name
 abbrev pub cue_memory : Desk → List ℕ → ℕ → ℕ → ℕ → Kept
@@ -29,6 +28,6 @@ pub record LookedShow (d : Desk) (s : List ℕ) (page whole tenths : ℕ) (r : L
   pub none : (answer ≡ not_kept_word) ↔ (Ready d s × (cue_memory d s page whole tenths ≡ absent))
 
 -- what `find` answers beside it: the same word, and the place where the part r of the store s begins
-pub record FoundPart (s r : Bor (List ℕ)) (answer : ℕ) (a : Placed) : Type 0 where
+pub record FoundPart (s r : Bor (List ℕ)) (answer : ℕ) (a : Result (Option ℕ) Refusal) : Type 0 where
   pub word : reply_word (find_reply a) ≡ answer
-  pub place : (n : ℕ) → a ≡ At n → (r.ref_ptr.0 ≡ s.ref_ptr.0) × (r.ref_ptr.1 ≡ s.ref_ptr.1 + n)
+  pub place : (n : ℕ) → a ≡ Ok (Some n) → (r.ref_ptr.0 ≡ s.ref_ptr.0) × (r.ref_ptr.1 ≡ s.ref_ptr.1 + n)

@@ -2,173 +2,128 @@
 // call that is turned away changes no lent byte; but the word that `look_up` is lent for its answer always has it.
 #![tactic(auto)]
 
-ghost use Rattle.std.specs.Prelude.{◌≡◌, true};
+ghost use Rattle.std.specs.Prelude.{◌≡◌, true, Ok};
 ghost use Rattle.store_code.specs.Fits.{Fitting};
 ghost use Rattle.store.specs.Form.{form_of, good_form};
 ghost use Rattle.save.specs.Lines.{stream_of};
 ghost use Rattle.show.specs.Calls.{form_admission, lent_admission, admission_of, LoadPromise, translate_admission, TranslatePromise, write_reply, written_as, put_call, WritePromise, EmptyPromise, LookedUp, look_at, LookPromise, cue_name, find_reply, placed_at, FindPromise};
-ghost use Rattle.store.specs.Slots.{find as findSlot, place_of};
+ghost use Rattle.store.specs.Slots.{find as find_slot, place_of};
 
 use load::Totals;
-use store::{Place, StoreForm};
+use store::FormError;
 use store_desk::{Desk, Key, Kind, Refusal};
 
 // The longest stream that is read or written, in bytes.
 const MOST_BYTES: usize = 262143;
 
-// A call on a store is let in, or turned away before it begins.
-#[derive(Clone, Copy)]
-pub enum Admission {
-    Admitted,
-    Away(Refusal),
-}
-
-// What `load` and `translate` answer: R1 to R4c, of `translate` R7 too, or the totals.
-#[derive(Clone, Copy)]
-pub enum Loaded {
-    Away(Refusal),
-    Done(Totals),
-}
-
-// What `write` answers: R2 to R6, or the length written.
-#[derive(Clone, Copy)]
-pub enum Written {
-    Away(Refusal),
-    Done(usize),
-}
-
-// What `empty` answers: R2, R3, or that it is done.
-#[derive(Clone, Copy)]
-pub enum Emptied {
-    Away(Refusal),
-    Done,
-}
-
 // R2, R3 in that order: of a desk and a store that any bytes may be in.
-pub fn lent(desk: Desk, store: &[u8]) -> Admission
+pub fn lent(desk: Desk, store: &[u8]) -> Result<(), Refusal>
     ensures { result ≡ lent_admission desk store.now }
 {
     if !desk.in_range() {
-        return Admission::Away(Refusal::R2);
+        return Err(Refusal::R2);
     }
     if store.len() < desk.store_length() {
-        return Admission::Away(Refusal::R3);
+        return Err(Refusal::R3);
     }
-    Admission::Admitted
+    Ok(())
 }
 
 // The form of a store: R4a, R4b, R4c in that order. A place is told from 1.
-fn formed(desk: Desk, store: &[u8]) -> Admission
+fn formed(desk: Desk, store: &[u8]) -> Result<(), Refusal>
     requires { Fitting desk store.now }
     ensures { result ≡ form_admission (form_of desk store.now) }
 {
     match store_form::form(desk, store) {
-        StoreForm::Good => Admission::Admitted,
-        StoreForm::BadSlot(slot) => Admission::Away(Refusal::R4a(slot + 1)),
-        StoreForm::Repeated(slot) => Admission::Away(Refusal::R4b(slot + 1)),
-        StoreForm::BadEntry(entry) => Admission::Away(Refusal::R4c(entry + 1)),
+        Ok(()) => Ok(()),
+        Err(FormError::BadSlot(slot)) => Err(Refusal::R4a(slot + 1)),
+        Err(FormError::Repeated(slot)) => Err(Refusal::R4b(slot + 1)),
+        Err(FormError::BadEntry(entry)) => Err(Refusal::R4c(entry + 1)),
     }
 }
 
 // R2, R3, R4a, R4b, R4c in that order.
-pub fn turned_away(desk: Desk, store: &[u8]) -> Admission
+pub fn turned_away(desk: Desk, store: &[u8]) -> Result<(), Refusal>
     ensures { result ≡ admission_of desk store.now }
 {
-    match lent(desk, store) {
-        Admission::Away(refusal) => Admission::Away(refusal),
-        Admission::Admitted => formed(desk, store),
-    }
+    lent(desk, store)?;
+    formed(desk, store)
 }
 
 // Reads a stream into a store.
-pub fn load(desk: Desk, store: &mut [u8], stream: &[u8], reports: &mut [u64]) -> Loaded
+pub fn load(
+    desk: Desk,
+    store: &mut [u8],
+    stream: &[u8],
+    reports: &mut [u64],
+) -> Result<Totals, Refusal>
     ensures { LoadPromise desk store.old reports.old stream.now result store.new reports.new }
 {
     if MOST_BYTES < stream.len() {
-        return Loaded::Away(Refusal::R1);
+        return Err(Refusal::R1);
     }
-    match turned_away(desk, &*store) {
-        Admission::Away(refusal) => Loaded::Away(refusal),
-        Admission::Admitted => Loaded::Done(load_run::run(desk, store, stream, reports)),
-    }
+    turned_away(desk, &*store)?;
+    Ok(load_run::run(desk, store, stream, reports))
 }
 
 // R2, R3, R4a, R4b, R4c, and R7 where the desk has no groups or no submasters.
-fn untranslated(desk: Desk, store: &[u8]) -> Admission
+fn untranslated(desk: Desk, store: &[u8]) -> Result<(), Refusal>
     ensures { result ≡ translate_admission desk store.now }
 {
-    match turned_away(desk, store) {
-        Admission::Away(refusal) => Admission::Away(refusal),
-        Admission::Admitted => {
-            if desk.groups == 0 {
-                return Admission::Away(Refusal::R7);
-            }
-            if desk.subs == 0 {
-                return Admission::Away(Refusal::R7);
-            }
-            Admission::Admitted
-        }
+    turned_away(desk, store)?;
+    if desk.groups == 0 || desk.subs == 0 {
+        return Err(Refusal::R7);
     }
+    Ok(())
 }
 
 // Reads a stream into a store, its cues, groups and submasters numbered anew.
-pub fn translate(desk: Desk, store: &mut [u8], stream: &[u8], reports: &mut [u64]) -> Loaded
+pub fn translate(
+    desk: Desk,
+    store: &mut [u8],
+    stream: &[u8],
+    reports: &mut [u64],
+) -> Result<Totals, Refusal>
     ensures { TranslatePromise desk store.old reports.old stream.now result store.new reports.new }
 {
     if MOST_BYTES < stream.len() {
-        return Loaded::Away(Refusal::R1);
+        return Err(Refusal::R1);
     }
-    match untranslated(desk, &*store) {
-        Admission::Away(refusal) => Loaded::Away(refusal),
-        Admission::Admitted => Loaded::Done(load_translate::run(desk, store, stream, reports)),
-    }
+    untranslated(desk, &*store)?;
+    Ok(load_translate::run(desk, store, stream, reports))
 }
 
 // R5, R6, or the stream.
-fn put(desk: Desk, store: &[u8], out: &mut [u8]) -> Written
+fn put(desk: Desk, store: &[u8], out: &mut [u8]) -> Result<usize, Refusal>
     requires fitting { Fitting desk store.now }
-    requires store_value { good_form desk store.now ≡ true }
+    requires good_form { good_form desk store.now ≡ true }
     ensures { written_as (write_reply result) out.new ≡ put_call (stream_of desk store.now) out.old }
 {
     let n = save::length(desk, store);
     if MOST_BYTES < n {
-        return Written::Away(Refusal::R5);
+        return Err(Refusal::R5);
     }
     if out.len() < n {
-        return Written::Away(Refusal::R6(n));
+        return Err(Refusal::R6(n));
     }
-    Written::Done(save::stream(desk, store, out))
+    Ok(save::stream(desk, store, out))
 }
 
 // Puts a store's show back as one fixed stream.
-pub fn write(desk: Desk, store: &[u8], out: &mut [u8]) -> Written
+pub fn write(desk: Desk, store: &[u8], out: &mut [u8]) -> Result<usize, Refusal>
     ensures { WritePromise desk store.now out.old result out.new }
 {
-    match turned_away(desk, store) {
-        Admission::Away(refusal) => Written::Away(refusal),
-        Admission::Admitted => put(desk, store, out),
-    }
+    turned_away(desk, store)?;
+    put(desk, store, out)
 }
 
 // Makes a store's needed bytes zero. Good form is not asked for.
-pub fn empty(desk: Desk, store: &mut [u8]) -> Emptied
+pub fn empty(desk: Desk, store: &mut [u8]) -> Result<(), Refusal>
     ensures { EmptyPromise desk store.old result store.new }
 {
-    match lent(desk, &*store) {
-        Admission::Away(refusal) => Emptied::Away(refusal),
-        Admission::Admitted => {
-            store_code::empty(desk, store);
-            Emptied::Done
-        }
-    }
-}
-
-// Where a cue's levels stand, as a number: for callers that take no part of a slice; or R2 to R4c.
-#[derive(Clone, Copy)]
-pub enum Placed {
-    Away(Refusal),
-    NotKept,
-    At(usize),
+    lent(desk, &*store)?;
+    store_code::empty(desk, store);
+    Ok(())
 }
 
 // The answer words of a look-up; a refusal is its own word. No refusal has the number of "not kept".
@@ -177,29 +132,29 @@ pub const KEPT: u32 = 0;
 pub const NOT_KEPT: u32 = 255;
 
 // Where the levels of a cue stand: the slot that keeps it, in a store in good form.
-fn cue_slot(desk: Desk, store: &[u8], key: Key) -> Place
+fn cue_slot(desk: Desk, store: &[u8], key: Key) -> Option<usize>
     requires fitting { Fitting desk store.now }
-    requires store_value { good_form desk store.now ≡ true }
-    ensures { result ≡ place_of (findSlot desk store.now (cue_name key)) }
+    requires good_form { good_form desk store.now ≡ true }
+    ensures { result ≡ place_of (find_slot desk store.now (cue_name key)) }
 {
     if store_desk::ok_name(desk, Kind::Cue, key) {
         return store_code::find(desk, store, Kind::Cue, key);
     }
-    Place::Nowhere
+    None
 }
 
 // The part of a kept cue, and its word.
 fn levels_of<'a, 'b>(desk: Desk, store: &'a [u8], key: Key, answer: &'b mut u32) -> &'a [u8]
     requires fitting { Fitting desk store.now }
-    requires store_value { good_form desk store.now ≡ true }
-    ensures { LookedUp store.entry result answer.new (look_at desk store.now (findSlot desk store.now (cue_name key))) }
+    requires good_form { good_form desk store.now ≡ true }
+    ensures { LookedUp store.entry result answer.new (look_at desk store.now (find_slot desk store.now (cue_name key))) }
 {
     match cue_slot(desk, store, key) {
-        Place::At(slot) => {
+        Some(slot) => {
             *answer = KEPT;
             store_code::levels(desk, store, slot)
         }
-        Place::Nowhere => {
+        None => {
             *answer = NOT_KEPT;
             &store[0..0]
         }
@@ -218,11 +173,11 @@ pub fn look_up<'a, 'b>(
     ensures { LookPromise desk store.entry page whole tenths result answer.new }
 {
     match turned_away(desk, store) {
-        Admission::Away(refusal) => {
+        Err(refusal) => {
             *answer = refusal.word();
             &store[0..0]
         }
-        Admission::Admitted => levels_of(
+        Ok(()) => levels_of(
             desk,
             store,
             Key {
@@ -235,31 +190,30 @@ pub fn look_up<'a, 'b>(
     }
 }
 
-fn levels_place(desk: Desk, store: &[u8], key: Key) -> Placed
+fn levels_place(desk: Desk, store: &[u8], key: Key) -> Option<usize>
     requires fitting { Fitting desk store.now }
-    requires store_value { good_form desk store.now ≡ true }
-    ensures { find_reply result ≡ placed_at desk (findSlot desk store.now (cue_name key)) }
+    requires good_form { good_form desk store.now ≡ true }
+    ensures { find_reply (Ok result) ≡ placed_at desk (find_slot desk store.now (cue_name key)) }
 {
-    match cue_slot(desk, store, key) {
-        Place::At(slot) => Placed::At(store_code::levels_start(desk, slot)),
-        Place::Nowhere => Placed::NotKept,
-    }
+    let slot = cue_slot(desk, store, key)?;
+    Some(store_code::levels_start(desk, slot))
 }
 
-// The place in the store where the levels of a kept cue begin: what `look_up` hands out begins there.
-pub fn find(desk: Desk, store: &[u8], page: u32, whole: u32, tenths: u32) -> Placed
+// The place in the store where the levels of a kept cue begin: what `look_up` hands out begins there. None where it is not kept.
+pub fn find(
+    desk: Desk,
+    store: &[u8],
+    page: u32,
+    whole: u32,
+    tenths: u32,
+) -> Result<Option<usize>, Refusal>
     ensures { FindPromise desk store.now page whole tenths result }
 {
-    match turned_away(desk, store) {
-        Admission::Away(refusal) => Placed::Away(refusal),
-        Admission::Admitted => levels_place(
-            desk,
-            store,
-            Key {
-                page,
-                whole,
-                fraction: tenths,
-            },
-        ),
-    }
+    turned_away(desk, store)?;
+    let key = Key {
+        page,
+        whole,
+        fraction: tenths,
+    };
+    Ok(levels_place(desk, store, key))
 }

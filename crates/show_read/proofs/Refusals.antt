@@ -1,5 +1,6 @@
 -- Each reader's number is that of the first of its lines that holds, and its place that of the search that found it.
 -- Assumes nothing.
+use Rattle.std.specs.Prelude.{Err, Ok, Option, Result}
 use mathlib.Core.Path.{◌≡◌, refl, sym, ap, subst}
 use mathlib.Core.List.{List, [], ◌∷◌}
 use mathlib.Core.Logic.{inl, inr}
@@ -13,21 +14,18 @@ use Rattle.store_desk.specs.declared.Desk.{Desk}
 use Rattle.store_desk.specs.Name.{has_slot, has_dimmer}
 use Rattle.store_desk.specs.Refusal.{Reply}
 use Rattle.store_desk.proofs.Name.{slot_there, dimmer_there}
-use Rattle.show.specs.declared.Admission.{Admission}
-use Rattle.show.specs.declared.Admission.TheVariants.{Admitted, Away}
-use Rattle.show.specs.declared.Placed.{Placed}
 use Rattle.show.specs.Calls.{lent_admission, admission_of, find_reply, placed_at}
 use Rattle.show.specs.Refusals.{PlaceTold}
 use Rattle.show.proofs.Laws.{away_reply}
 use Rattle.show.proofs.Refusals.{First, told, apart, other, store_first, lent_first, Said, small_said, kept_said, placed_said, store_said, lent_said}
-use Rattle.show_read.specs.declared.Listed.{Listed}
-use Rattle.show_read.specs.declared.Headed.{Headed}
-use Rattle.show_read.specs.declared.Patched.{Patched}
 use Rattle.show_read.specs.Calls.{ListCall, list_reply, list_of, kind_list, memories_by, memories_call, MemoriesPromise}
 use Rattle.show_read.specs.Calls.{slot_named, head_reply, head_in, head_by, head_call, HeadPromise, levels_by, levels_call, LevelsPromise}
 use Rattle.show_read.specs.Calls.{patch_reply, patch_in, patch_by, patch_call, PatchPromise}
 use Rattle.show_read.proofs.Laws.{there_slot, there_dimmer}
 use Rattle.show_read.specs.Refusals.{no_kind, no_slot, no_dimmer, MemoriesRefused, SlotRefused, PatchRefused}
+use Rattle.store_head.specs.declared.Head.{Head}
+use Rattle.store_head.specs.declared.Patch.{Patch}
+use Rattle.store_desk.specs.declared.Refusal.{Refusal}
 
 -- ---- the tests are the lines
 
@@ -95,10 +93,10 @@ kind_said d s n l =
     (λ f.
     by_test (λ (x : ListCall). Said d s x.reply) (eqb n 2) _ _ (λ g. small_said d s 0 _ (omega arith)) (λ g. kept_said d s)))
 
-memories_by_said : (a : Admission) (d : Desk) (s : List ℕ) (n : ℕ) (l : List ℕ) → Said d s (away_reply a) → Said d s (memories_by a d s n l).reply
+memories_by_said : (a : Result Unit Refusal) (d : Desk) (s : List ℕ) (n : ℕ) (l : List ℕ) → Said d s (away_reply a) → Said d s (memories_by a d s n l).reply
 unfolding memories_by
-memories_by_said Admitted d s n l h = kind_said d s n l
-memories_by_said (Away r) d s n l h = h
+memories_by_said (Ok _) d s n l h = kind_said d s n l
+memories_by_said (Err r) d s n l h = h
 
 pub memories_said : (d : Desk) (s : List ℕ) (n : ℕ) (l : List ℕ) → Said d s (memories_call d s n l).reply
 unfolding memories_call
@@ -109,19 +107,19 @@ unfolding head_in
 head_in_said d s (at i) = small_said d s 0 _ (omega arith)
 head_in_said d s nowhere = kept_said d s
 
-head_by_said : (a : Admission) (d : Desk) (s : List ℕ) (n : ℕ) → Said d s (away_reply a) → Said d s (head_by a d s n)
+head_by_said : (a : Result Unit Refusal) (d : Desk) (s : List ℕ) (n : ℕ) → Said d s (away_reply a) → Said d s (head_by a d s n)
 unfolding head_by
-head_by_said Admitted d s n h = head_in_said d s (slot_named d n)
-head_by_said (Away r) d s n h = h
+head_by_said (Ok _) d s n h = head_in_said d s (slot_named d n)
+head_by_said (Err r) d s n h = h
 
 pub head_said : (d : Desk) (s : List ℕ) (n : ℕ) → Said d s (head_call d s n)
 unfolding head_call
 head_said d s n = head_by_said (lent_admission d s) d s n (lent_said d s)
 
-levels_by_said : (a : Admission) (d : Desk) (s : List ℕ) (n : ℕ) → Said d s (away_reply a) → Said d s (levels_by a d n)
+levels_by_said : (a : Result Unit Refusal) (d : Desk) (s : List ℕ) (n : ℕ) → Said d s (away_reply a) → Said d s (levels_by a d n)
 unfolding levels_by
-levels_by_said Admitted d s n h = placed_said d s (slot_named d n)
-levels_by_said (Away r) d s n h = h
+levels_by_said (Ok _) d s n h = placed_said d s (slot_named d n)
+levels_by_said (Err r) d s n h = h
 
 pub levels_said : (d : Desk) (s : List ℕ) (n : ℕ) → Said d s (levels_call d s n)
 unfolding levels_call
@@ -131,10 +129,10 @@ patch_in_said : (d : Desk) (s : List ℕ) (page dimmer : ℕ) → Said d s (patc
 unfolding patch_in
 patch_in_said d s page dimmer = by_test (Said d s) (has_dimmer d page dimmer) _ _ (λ e. small_said d s 0 _ (omega arith)) (λ e. kept_said d s)
 
-patch_by_said : (a : Admission) (d : Desk) (s : List ℕ) (page dimmer : ℕ) → Said d s (away_reply a) → Said d s (patch_by a d s page dimmer)
+patch_by_said : (a : Result Unit Refusal) (d : Desk) (s : List ℕ) (page dimmer : ℕ) → Said d s (away_reply a) → Said d s (patch_by a d s page dimmer)
 unfolding patch_by
-patch_by_said Admitted d s page dimmer h = patch_in_said d s page dimmer
-patch_by_said (Away r) d s page dimmer h = h
+patch_by_said (Ok _) d s page dimmer h = patch_in_said d s page dimmer
+patch_by_said (Err r) d s page dimmer h = h
 
 pub patch_said : (d : Desk) (s : List ℕ) (page dimmer : ℕ) → Said d s (patch_call d s page dimmer)
 unfolding patch_call
@@ -142,23 +140,23 @@ patch_said d s page dimmer = patch_by_said (lent_admission d s) d s page dimmer 
 
 -- ---- the promises
 
-pub memories_refused : (d : Desk) (s : List ℕ) (n : ℕ) (l : List ℕ) (a : Listed) {t : List ℕ} → MemoriesPromise d s n l a t
+pub memories_refused : (d : Desk) (s : List ℕ) (n : ℕ) (l : List ℕ) (a : Result (Option ℕ) Refusal) {t : List ℕ} → MemoriesPromise d s n l a t
     → MemoriesRefused d s n (list_reply a).number
 memories_refused d s n l a e =
     subst (MemoriesRefused d s n) (sym (ap (λ (y : ListCall). y.reply.number) e)) (memories_lines d s n l)
 
-pub memories_place : (d : Desk) (s : List ℕ) (n : ℕ) (l : List ℕ) (a : Listed) {t : List ℕ} → MemoriesPromise d s n l a t
+pub memories_place : (d : Desk) (s : List ℕ) (n : ℕ) (l : List ℕ) (a : Result (Option ℕ) Refusal) {t : List ℕ} → MemoriesPromise d s n l a t
     → PlaceTold d s (list_reply a).number (list_reply a).place
 memories_place d s n l a e =
     subst (λ (y : Reply). PlaceTold d s y.number y.place) (sym (ap (λ (y : ListCall). y.reply) e)) (memories_said d s n l).place
 
-pub head_refused : (d : Desk) (s : List ℕ) (n : ℕ) (a : Headed) → HeadPromise d s n a → SlotRefused d s n (head_reply a).number
+pub head_refused : (d : Desk) (s : List ℕ) (n : ℕ) (a : Result (Option Head) Refusal) → HeadPromise d s n a → SlotRefused d s n (head_reply a).number
 head_refused d s n a e = subst (SlotRefused d s n) (sym (ap (λ (y : Reply). y.number) e)) (head_lines_lem d s n)
 
-pub levels_refused : (d : Desk) (s : List ℕ) (n : ℕ) (a : Placed) → LevelsPromise d s n a → SlotRefused d s n (find_reply a).number
+pub levels_refused : (d : Desk) (s : List ℕ) (n : ℕ) (a : Result (Option ℕ) Refusal) → LevelsPromise d s n a → SlotRefused d s n (find_reply a).number
 levels_refused d s n a e = subst (SlotRefused d s n) (sym (ap (λ (y : Reply). y.number) e)) (levels_lines d s n)
 
-pub patch_refused : (d : Desk) (s : List ℕ) (page dimmer : ℕ) (a : Patched) → PatchPromise d s page dimmer a
+pub patch_refused : (d : Desk) (s : List ℕ) (page dimmer : ℕ) (a : Result (Option Patch) Refusal) → PatchPromise d s page dimmer a
     → PatchRefused d s page dimmer (patch_reply a).number
 patch_refused d s page dimmer a e =
     subst (PatchRefused d s page dimmer) (sym (ap (λ (y : Reply). y.number) e)) (patch_lines_lem d s page dimmer)

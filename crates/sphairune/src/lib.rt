@@ -17,14 +17,12 @@ ghost use Rattle.show.specs.Calls.{totals_told, write_reply, find_reply};
 ghost use Rattle.show_words.specs.Words.{severity_of, condition_text};
 
 use load::Totals;
-use show::{Emptied, Loaded, Placed, Written};
-use show_read::{Headed, Listed, Patched};
-use store_desk::{Desk, Needed, Refusal};
+use store_desk::{Desk, Refusal};
 
 fn number_at(list: &[u32], i: usize) -> u32
     ensures { result ≡ get_or list.now i 0 }
 {
-    if i < list.len() { list[i] } else { 0 }
+    list.get(i).copied().unwrap_or(0)
 }
 
 fn desk_of(limits: &[u32]) -> Desk
@@ -47,9 +45,7 @@ fn desk_of(limits: &[u32]) -> Desk
 fn note_length(list: &mut [usize], v: usize)
     ensures { list.new ≡ noted_from 0 list.old (v ∷ []) }
 {
-    if 0 < list.len() {
-        list[0] = v;
-    }
+    cells::note(list, 0, v);
 }
 
 // What a refusal tells beside its number.
@@ -70,16 +66,16 @@ fn note_told(list: &mut [usize], refusal: Refusal)
 }
 
 // A length, or what a refusal tells, and the word.
-fn note_written(list: &mut [usize], written: Written) -> u32
+fn note_written(list: &mut [usize], written: Result<usize, Refusal>) -> u32
     requires { (write_reply written).place ≤ most_places }
     ensures { exported result (list.new ∷ []) ≡ replied_in (write_reply written) list.old }
 {
     match written {
-        Written::Away(refusal) => {
+        Err(refusal) => {
             note_told(list, refusal);
             refusal.word()
         }
-        Written::Done(n) => {
+        Ok(n) => {
             note_length(list, n);
             0
         }
@@ -87,14 +83,14 @@ fn note_written(list: &mut [usize], written: Written) -> u32
 }
 
 // A place, and the word.
-fn note_placed(list: &mut [usize], placed: Placed) -> u32
+fn note_placed(list: &mut [usize], placed: Result<Option<usize>, Refusal>) -> u32
     requires { Telling (find_reply placed) }
     ensures { exported result (list.new ∷ []) ≡ replied_in (find_reply placed) list.old }
 {
     match placed {
-        Placed::Away(refusal) => refusal.word(),
-        Placed::NotKept => show::NOT_KEPT,
-        Placed::At(at) => {
+        Err(refusal) => refusal.word(),
+        Ok(None) => show::NOT_KEPT,
+        Ok(Some(at)) => {
             note_length(list, at);
             show::KEPT
         }
@@ -113,8 +109,8 @@ pub fn sphairune_needed(limits: &[u32], length: &mut [usize]) -> u32
     ensures { NeededExport limits.now length.old result length.new }
 {
     match desk_of(limits).needed() {
-        Needed::Away(refusal) => refusal.word(),
-        Needed::Length(n) => {
+        Err(refusal) => refusal.word(),
+        Ok(n) => {
             note_length(length, n);
             0
         }
@@ -126,8 +122,8 @@ pub fn sphairune_empty(limits: &[u32], store: &mut [u8]) -> u32
     ensures { EmptyExport limits.now store.old result store.new }
 {
     match show::empty(desk_of(limits), store) {
-        Emptied::Away(refusal) => refusal.word(),
-        Emptied::Done => 0,
+        Err(refusal) => refusal.word(),
+        Ok(()) => 0,
     }
 }
 
@@ -144,8 +140,8 @@ pub fn sphairune_load(
         result store.new reports.new totals.new }
 {
     match show::load(desk_of(limits), store, stream, reports) {
-        Loaded::Away(refusal) => refusal.word(),
-        Loaded::Done(t) => {
+        Err(refusal) => refusal.word(),
+        Ok(t) => {
             cells::note_all(totals, &totals_told(t));
             0
         }
@@ -165,8 +161,8 @@ pub fn sphairune_translate(
         result store.new reports.new totals.new }
 {
     match show::translate(desk_of(limits), store, stream, reports) {
-        Loaded::Away(refusal) => refusal.word(),
-        Loaded::Done(t) => {
+        Err(refusal) => refusal.word(),
+        Ok(t) => {
             cells::note_all(totals, &totals_told(t));
             0
         }
@@ -212,9 +208,9 @@ pub fn sphairune_memories(
         result slots.new count.new }
 {
     match show_read::memories(desk_of(limits), store, kind, slots) {
-        Listed::Away(refusal) => refusal.word(),
-        Listed::NotKept => show::NOT_KEPT,
-        Listed::Done(n) => {
+        Err(refusal) => refusal.word(),
+        Ok(None) => show::NOT_KEPT,
+        Ok(Some(n)) => {
             note_length(count, n);
             show::KEPT
         }
@@ -226,9 +222,9 @@ pub fn sphairune_head(limits: &[u32], store: &[u8], slot: u32, values: &mut [u32
     ensures { HeadExport limits.now store.now slot values.old result values.new }
 {
     match show_read::head(desk_of(limits), store, slot) {
-        Headed::Away(refusal) => refusal.word(),
-        Headed::NotKept => show::NOT_KEPT,
-        Headed::Has(head) => {
+        Err(refusal) => refusal.word(),
+        Ok(None) => show::NOT_KEPT,
+        Ok(Some(head)) => {
             cells::note_all(values, &store_head::head_values(head));
             show::KEPT
         }
@@ -254,9 +250,9 @@ pub fn sphairune_patch(
     ensures { PatchExport limits.now store.now page dimmer values.old result values.new }
 {
     match show_read::patch(desk_of(limits), store, page, dimmer) {
-        Patched::Away(refusal) => refusal.word(),
-        Patched::NotKept => show::NOT_KEPT,
-        Patched::Has(patch) => {
+        Err(refusal) => refusal.word(),
+        Ok(None) => show::NOT_KEPT,
+        Ok(Some(patch)) => {
             cells::note_all(values, &store_head::patch_values(patch));
             show::KEPT
         }

@@ -1,6 +1,7 @@
 -- What a call that was answered says, by its promise: it was let in, and its answer and every lent list are those of the load, of the written
 -- stream, of the emptied store. A refusal's number is never 0, and no second answer fits a promise.
 -- Assumes nothing.
+use Rattle.std.specs.Prelude.{Err, Ok, Result}
 use mathlib.Core.Path.{◌≡◌, refl, sym, ap, ◌∙◌, subst}
 use mathlib.Core.Bool.{false}
 use mathlib.Core.List.{List}
@@ -25,11 +26,6 @@ use Rattle.load.specs.declared.Totals.{Totals}
 use Rattle.load.specs.Run.{Run, load_of, totals_of, stored_in, all_reports}
 use Rattle.load.specs.Translated.{translated_of}
 use Rattle.save.specs.Lines.{stream_of}
-use Rattle.show.specs.declared.Admission.{Admission}
-use Rattle.show.specs.declared.Admission.TheVariants.{Admitted, Away}
-use Rattle.show.specs.declared.Loaded.TheVariants.{Done as LoadDone}
-use Rattle.show.specs.declared.Written.TheVariants.{Done as WriteDone}
-use Rattle.show.specs.declared.Emptied.TheVariants.{Done as EmptyDone}
 use Rattle.show.specs.Calls.{most_bytes, lent_admission, then_admission, admission_of, LoadCall, load_done, load_by, load_call, LoadPromise}
 use Rattle.show.specs.Calls.{kinds_admission, translate_admission, translate_call, TranslatePromise}
 use Rattle.show.specs.Calls.{WriteCall, write_reply, written_as, put_call, write_by, write_call, WritePromise, EmptyCall, empty_by, empty_call, EmptyPromise}
@@ -39,7 +35,7 @@ use Rattle.show.proofs.OneAnswer.{one_load, one_translate, one_write, one_empty}
 -- ---- let in
 
 -- a store in good form is not turned away
-pub not_away : (d : Desk) (s : List ℕ) → Ready d s → Admitted ≡ admission_of d s
+pub not_away : (d : Desk) (s : List ℕ) → Ready d s → (Ok tt) ≡ admission_of d s
 not_away d s r = admitted d s r
 
 -- a refusal's number is not 0
@@ -63,12 +59,12 @@ module _ (d : Desk) (s reps stream : List ℕ) where
   -- a load into a store in good form, of a stream that is short enough, is answered
   pub load_answers : Ready d s → length stream ≤ most_bytes → load_call d s reps stream ≡ load_done (load_of d s stream) reps
   unfolding load_by
-  load_answers r h = sym (load_by_lem d s reps stream Admitted (not_away d s r) h)
+  load_answers r h = sym (load_by_lem d s reps stream (Ok tt) (not_away d s r) h)
 
-  load_admitted : (a : Admission) → a ≡ admission_of d s → (load_by a (load_of d s stream) s reps).reply.number ≡ 0 → Admitted ≡ admission_of d s
+  load_admitted : (a : Result Unit Refusal) → a ≡ admission_of d s → (load_by a (load_of d s stream) s reps).reply.number ≡ 0 → (Ok tt) ≡ admission_of d s
   unfolding load_by
-  load_admitted Admitted e z = e
-  load_admitted (Away r) e z = none_refused r refl z
+  load_admitted (Ok _) e z = e
+  load_admitted (Err r) e z = none_refused r refl z
 
   load_let_in : (load_call d s reps stream).reply.number ≡ 0 → Ready d s × (length stream ≤ most_bytes)
   load_let_in z =
@@ -78,12 +74,12 @@ module _ (d : Desk) (s reps stream : List ℕ) where
       (let_in d s (load_admitted (admission_of d s) refl (n ∙ z)), h))
       (λ h. none_refused R1 (ap (λ (y : LoadCall). y.reply.number) (load_long d s reps stream h)) z)
 
-  pub load_answered : {x : Totals} {t q : List ℕ} → LoadPromise d s reps stream (LoadDone x) t q → LoadAnswered d s reps stream x t q
+  pub load_answered : {x : Totals} {t q : List ℕ} → LoadPromise d s reps stream (Ok x) t q → LoadAnswered d s reps stream x t q
   load_answered {x} e =
       let p = load_let_in (ap (λ (y : LoadCall). y.reply.number) (sym e)) in
       let run = load_of d s stream in
-      let o = one_load d s reps stream {a = LoadDone x} {b = LoadDone (totals_of run)} e (sym (load_answers p.0 p.1)) in
-      let f : LoadDone x ≡ LoadDone (totals_of run) = o.0 in
+      let o = one_load d s reps stream {a = Ok x} {b = Ok (totals_of run)} e (sym (load_answers p.0 p.1)) in
+      let f : Ok x ≡ Ok (totals_of run) = o.0 in
       record { ready = p.0; short = p.1; told = cc; store = o.1; list = o.2 }
 
 -- ---- translate
@@ -91,23 +87,23 @@ module _ (d : Desk) (s reps stream : List ℕ) where
 -- a store in good form is let in, but for R7
 pub kinds_left : (d : Desk) (s : List ℕ) → Ready d s → kinds_admission d ≡ translate_admission d s
 unfolding translate_admission then_admission
-kinds_left d s r = ap (λ (a : Admission). then_admission a (kinds_admission d)) (not_away d s r)
+kinds_left d s r = ap (λ (a : Result Unit Refusal). then_admission a (kinds_admission d)) (not_away d s r)
 
 module _ (d : Desk) (s reps stream : List ℕ) where
-  translate_admitted : (a : Admission) → a ≡ admission_of d s
-      → (load_by (then_admission a (kinds_admission d)) (translated_of d s stream) s reps).reply.number ≡ 0 → Admitted ≡ admission_of d s
+  translate_admitted : (a : Result Unit Refusal) → a ≡ admission_of d s
+      → (load_by (then_admission a (kinds_admission d)) (translated_of d s stream) s reps).reply.number ≡ 0 → (Ok tt) ≡ admission_of d s
   unfolding then_admission load_by
-  translate_admitted Admitted e z = e
-  translate_admitted (Away r) e z = none_refused r refl z
+  translate_admitted (Ok _) e z = e
+  translate_admitted (Err r) e z = none_refused r refl z
 
-  kinds_admitted : (a : Admission) → a ≡ translate_admission d s → (load_by a (translated_of d s stream) s reps).reply.number ≡ 0
-      → Admitted ≡ translate_admission d s
+  kinds_admitted : (a : Result Unit Refusal) → a ≡ translate_admission d s → (load_by a (translated_of d s stream) s reps).reply.number ≡ 0
+      → (Ok tt) ≡ translate_admission d s
   unfolding load_by
-  kinds_admitted Admitted e z = e
-  kinds_admitted (Away r) e z = none_refused r refl z
+  kinds_admitted (Ok _) e z = e
+  kinds_admitted (Err r) e z = none_refused r refl z
 
   translate_let_in : (translate_call d s reps stream).reply.number ≡ 0
-      → Ready d s × (length stream ≤ most_bytes) × (Admitted ≡ translate_admission d s)
+      → Ready d s × (length stream ≤ most_bytes) × ((Ok tt) ≡ translate_admission d s)
   unfolding translate_admission
   translate_let_in z =
       by_le (length stream) most_bytes
@@ -116,15 +112,15 @@ module _ (d : Desk) (s reps stream : List ℕ) where
       (let_in d s (translate_admitted (admission_of d s) refl n), h, kinds_admitted (translate_admission d s) refl n))
       (λ h. none_refused R1 (ap (λ (y : LoadCall). y.reply.number) (translate_long d s reps stream h)) z)
 
-  pub translate_answered : {x : Totals} {t q : List ℕ} → TranslatePromise d s reps stream (LoadDone x) t q
+  pub translate_answered : {x : Totals} {t q : List ℕ} → TranslatePromise d s reps stream (Ok x) t q
       → RunAnswered d s reps stream (translated_of d s stream) x t q
   unfolding load_by
   translate_answered {x} e =
       let p = translate_let_in (ap (λ (y : LoadCall). y.reply.number) (sym e)) in
       let run = translated_of d s stream in
-      let g = translate_by d s reps stream Admitted p.2 p.1 in
-      let o = one_translate d s reps stream {a = LoadDone x} {b = LoadDone (totals_of run)} e g in
-      let f : LoadDone x ≡ LoadDone (totals_of run) = o.0 in
+      let g = translate_by d s reps stream (Ok tt) p.2 p.1 in
+      let o = one_translate d s reps stream {a = Ok x} {b = Ok (totals_of run)} e g in
+      let f : Ok x ≡ Ok (totals_of run) = o.0 in
       record { ready = p.0; short = p.1; told = cc; store = o.1; list = o.2 }
 
 -- ---- write
@@ -141,17 +137,17 @@ pub record WriteAnswered (d : Desk) (s out : List ℕ) (n : ℕ) (o : List ℕ) 
 module _ (d : Desk) (s out : List ℕ) where
   -- a store in good form is written, where its stream is short enough and the output has room
   pub write_answers : Ready d s → length (stream_of d s) ≤ most_bytes → length (stream_of d s) ≤ length out
-      → write_call d s out ≡ written_as (write_reply (WriteDone (length (stream_of d s)))) (put out 0 (stream_of d s))
+      → write_call d s out ≡ written_as (write_reply (Ok (length (stream_of d s)))) (put out 0 (stream_of d s))
   unfolding write_by put_call
   write_answers r h g =
       let a : ltb most_bytes (length (stream_of d s)) ≡ false = le-ltb _ _ h in
       let b : ltb (length out) (length (stream_of d s)) ≡ false = le-ltb _ _ g in
-      sym (write_by_lem d s out Admitted (not_away d s r)) ∙ rw (a, b)
+      sym (write_by_lem d s out (Ok tt) (not_away d s r)) ∙ rw (a, b)
 
-  write_admitted : (a : Admission) → a ≡ admission_of d s → (write_by a d s out).reply.number ≡ 0 → Admitted ≡ admission_of d s
+  write_admitted : (a : Result Unit Refusal) → a ≡ admission_of d s → (write_by a d s out).reply.number ≡ 0 → (Ok tt) ≡ admission_of d s
   unfolding write_by
-  write_admitted Admitted e z = e
-  write_admitted (Away r) e z = none_refused r refl z
+  write_admitted (Ok _) e z = e
+  write_admitted (Err r) e z = none_refused r refl z
 
   put_let_in : (put_call (stream_of d s) out).reply.number ≡ 0 → (length (stream_of d s) ≤ most_bytes) × (length (stream_of d s) ≤ length out)
   put_let_in z =
@@ -161,15 +157,15 @@ module _ (d : Desk) (s out : List ℕ) where
       (λ g. none_refused (R6 (length (stream_of d s))) (ap (λ (y : WriteCall). y.reply.number) (put_short (stream_of d s) out refl h g)) z))
       (λ h. none_refused R5 (ap (λ (y : WriteCall). y.reply.number) (put_long (stream_of d s) out refl h)) z)
 
-  pub write_answered : {n : ℕ} {o : List ℕ} → WritePromise d s out (WriteDone n) o → WriteAnswered d s out n o
+  pub write_answered : {n : ℕ} {o : List ℕ} → WritePromise d s out (Ok n) o → WriteAnswered d s out n o
   unfolding write_by
   write_answered {n} {o} e =
       let z : (write_call d s out).reply.number ≡ 0 = ap (λ (y : WriteCall). y.reply.number) (sym e) in
       let a = write_admitted (admission_of d s) refl (ap (λ (y : WriteCall). y.reply.number) (write_by_lem d s out (admission_of d s) refl) ∙ z) in
-      let p = put_let_in (ap (λ (y : WriteCall). y.reply.number) (write_by_lem d s out Admitted a) ∙ z) in
+      let p = put_let_in (ap (λ (y : WriteCall). y.reply.number) (write_by_lem d s out (Ok tt) a) ∙ z) in
       let w = stream_of d s in
-      let q = one_write d s out {a = WriteDone n} {b = WriteDone (length w)} e (sym (write_answers (let_in d s a) p.0 p.1)) in
-      let f : WriteDone n ≡ WriteDone (length w) = q.0 in
+      let q = one_write d s out {a = Ok n} {b = Ok (length w)} e (sym (write_answers (let_in d s a) p.0 p.1)) in
+      let f : Ok n ≡ Ok (length w) = q.0 in
       let c : n ≡ length w = cc in
       record {
         ready = let_in d s a;
@@ -193,12 +189,12 @@ pub record EmptyAnswered (d : Desk) (v s : List ℕ) : Type 0 where
   pub ready : Ready d s
 
 module _ (d : Desk) (v : List ℕ) where
-  pub empty_answered : {s : List ℕ} → EmptyPromise d v EmptyDone s → EmptyAnswered d v s
+  pub empty_answered : {s : List ℕ} → EmptyPromise d v (Ok tt) s → EmptyAnswered d v s
   unfolding empty_by
   empty_answered {s} e =
-      by_lent d v (λ (a : Admission). a ≡ lent_admission d v → EmptyAnswered d v s)
-      (λ h q. none_refused R2 (ap (λ (y : EmptyCall). y.reply.number) (empty_by_lem d v (Away R2) q)) none)
-      (λ h l q. none_refused R3 (ap (λ (y : EmptyCall). y.reply.number) (empty_by_lem d v (Away R3) q)) none)
+      by_lent d v (λ (a : Result Unit Refusal). a ≡ lent_admission d v → EmptyAnswered d v s)
+      (λ h q. none_refused R2 (ap (λ (y : EmptyCall). y.reply.number) (empty_by_lem d v (Err R2) q)) none)
+      (λ h l q. none_refused R3 (ap (λ (y : EmptyCall). y.reply.number) (empty_by_lem d v (Err R3) q)) none)
       (λ h q. done h.range h.long)
       refl
     where
@@ -207,5 +203,5 @@ module _ (d : Desk) (v : List ℕ) where
 
       done : InRange d → store_length d ≤ length v → EmptyAnswered d v s
       done r l =
-          let q : s ≡ emptied d v = (one_empty d v {a = EmptyDone} {b = EmptyDone} e (empty_done d v (record { range = r; long = l }) refl)).1 in
+          let q : s ≡ emptied d v = (one_empty d v {a = (Ok tt)} {b = (Ok tt)} e (empty_done d v (record { range = r; long = l }) refl)).1 in
           record { range = r; long = l; store = q; ready = subst (Ready d) (sym q) (empty_good d v l r) }

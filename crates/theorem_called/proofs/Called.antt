@@ -1,5 +1,6 @@
 -- The theorems of the public calls, from what each answered call says: the round trip, good form afterwards, demand 3, and a load either way.
 -- Assumes nothing.
+use Rattle.std.specs.Prelude.{Ok, Option, Result}
 use mathlib.Core.Path.{◌≡◌, refl, sym, ap, ◌∙◌, subst}
 use mathlib.Core.List.{List, []}
 use Prim.Native.Nat.{ℕ, ◌%◌, ◌≤◌, ◌<◌}
@@ -20,12 +21,6 @@ use Rattle.load.specs.declared.Totals.{Totals}
 use Rattle.load.specs.Run.{Run, load_of, totals_of, stored_in, all_reports}
 use Rattle.load.specs.Translated.{translated_of}
 use Rattle.save.specs.Lines.{stream_of}
-use Rattle.show.specs.declared.Admission.{Admission}
-use Rattle.show.specs.declared.Admission.TheVariants.{Admitted}
-use Rattle.show.specs.declared.Loaded.{Loaded}
-use Rattle.show.specs.declared.Written.{Written}
-use Rattle.show.specs.declared.Emptied.{Emptied}
-use Rattle.show.specs.declared.Placed.{Placed}
 use Rattle.show.specs.Calls.{most_bytes, LoadCall, totals_told, load_reply, loaded_as, load_done, load_by, LoadPromise, kinds_admission, TranslatePromise, WriteCall, write_reply, write_by, WritePromise}
 use Rattle.show.specs.Calls.{EmptyCall, empty_reply, emptied_as, empty_call, EmptyPromise, Look, look_at, look_by, look_call, LookPromise}
 use Rattle.show.specs.Calls.{cue_name, cue_key, find_reply, placed_at, find_by, FindPromise}
@@ -45,6 +40,7 @@ use Rattle.theorem_called.specs.Called.{ReadBackAs, WriteThenLoad, WrittenIsLoad
 use Rattle.theorem_called.proofs.Answered.{not_away, load_answers, LoadAnswered, load_answered, kinds_left, translate_answered}
 use Rattle.load.proofs.Steps.{load_ready}
 use Rattle.theorem_called.proofs.Answered.{write_answers, write_answered, empty_answered}
+use Rattle.store_desk.specs.declared.Refusal.{Refusal}
 
 -- ---- demand 2
 
@@ -101,7 +97,7 @@ look_through d s nowhere = after_away 255 (omega arith)
 
 -- a store in good form is let in
 module _ (d : Desk) (s : List ℕ) (r : Ready d s) where
-  load_let : (reps stream : List ℕ) (a : Loaded) (t q : List ℕ) → LoadPromise d s reps stream a t q → NotTurnedAway (load_reply a).number
+  load_let : (reps stream : List ℕ) (a : Result Totals Refusal) (t q : List ℕ) → LoadPromise d s reps stream a t q → NotTurnedAway (load_reply a).number
   load_let reps stream a t q e =
       by_le (length stream) most_bytes
       (λ h.
@@ -114,11 +110,11 @@ module _ (d : Desk) (s : List ℕ) (r : Ready d s) where
   translate_through : (reps stream : List ℕ) {n : ℕ} → n ≡ (load_by (kinds_admission d) (translated_of d s stream) s reps).reply.number → NotTurnedAway n
   unfolding load_by
   translate_through reps stream {n} =
-      by_kinds d (λ (k : Admission). n ≡ (load_by k (translated_of d s stream) s reps).reply.number → NotTurnedAway n)
+      by_kinds d (λ (k : Result Unit Refusal). n ≡ (load_by k (translated_of d s stream) s reps).reply.number → NotTurnedAway n)
       (λ f z. let y : n ≡ 7 = z in between_away n (omega arith) (omega arith))
       (λ f g z. let y : n ≡ 0 = z in before_away n (omega arith))
 
-  translate_let : (reps stream : List ℕ) (a : Loaded) (t q : List ℕ) → TranslatePromise d s reps stream a t q
+  translate_let : (reps stream : List ℕ) (a : Result Totals Refusal) (t q : List ℕ) → TranslatePromise d s reps stream a t q
       → NotTurnedAway (load_reply a).number
   translate_let reps stream a t q e =
       by_le (length stream) most_bytes
@@ -129,10 +125,10 @@ module _ (d : Desk) (s : List ℕ) (r : Ready d s) where
       let z : (load_reply a).number ≡ 1 = ap (λ (y : LoadCall). y.reply.number) (e ∙ sym (translate_long d s reps stream h)) in
       before_away (load_reply a).number (omega arith))
 
-  write_let : (out : List ℕ) (a : Written) (o : List ℕ) → WritePromise d s out a o → NotTurnedAway (write_reply a).number
+  write_let : (out : List ℕ) (a : Result ℕ Refusal) (o : List ℕ) → WritePromise d s out a o → NotTurnedAway (write_reply a).number
   unfolding write_by
   write_let out a o e =
-      let f = e ∙ sym (write_by_lem d s out Admitted (not_away d s r)) in
+      let f = e ∙ sym (write_by_lem d s out (Ok tt) (not_away d s r)) in
       by_le (length (stream_of d s)) most_bytes
       (λ h.
       by_le (length (stream_of d s)) (length out)
@@ -146,7 +142,7 @@ module _ (d : Desk) (s : List ℕ) (r : Ready d s) where
       let z : (write_reply a).number ≡ 5 = ap (λ (y : WriteCall). y.reply.number) (f ∙ sym (put_long (stream_of d s) out refl h)) in
       between_away (write_reply a).number (omega arith) (omega arith))
 
-  empty_let : (a : Emptied) (t : List ℕ) → EmptyPromise d s a t → NotTurnedAway (empty_reply a).number
+  empty_let : (a : Result Unit Refusal) (t : List ℕ) → EmptyPromise d s a t → NotTurnedAway (empty_reply a).number
   empty_let a t e =
       let f : emptied_as (replied []) (emptied d s) ≡ empty_call d s = empty_done d s (record { range = r.range; long = r.long }) refl in
       let z : (empty_reply a).number ≡ 0 = ap (λ (y : EmptyCall). y.reply.number) (e ∙ sym f) in
@@ -160,16 +156,16 @@ module _ (d : Desk) (s : List ℕ) (r : Ready d s) where
       let z : answer ≡ (look_at d s f).word =
       e.says
       ∙ ap (λ (k : List ℕ). (look_call d k page whole tenths).word) p
-      ∙ ap (λ (y : Look). y.word) (sym (look_by_lem d s page whole tenths Admitted (not_away d s r)))
+      ∙ ap (λ (y : Look). y.word) (sym (look_by_lem d s page whole tenths (Ok tt) (not_away d s r)))
       in
       subst (λ (w : ℕ). NotTurnedAway (w % place_unit)) (sym z) (look_through d s f)
 
-  find_let : (page whole tenths : ℕ) (a : Placed) → FindPromise d s page whole tenths a → NotTurnedAway (find_reply a).number
+  find_let : (page whole tenths : ℕ) (a : Result (Option ℕ) Refusal) → FindPromise d s page whole tenths a → NotTurnedAway (find_reply a).number
   unfolding find_by
   find_let page whole tenths a e =
       let f : Found = find d s (cue_name (cue_key page whole tenths)) in
       let z : (find_reply a).number ≡ (placed_at d f).number =
-      ap (λ (y : Reply). y.number) (e ∙ sym (find_by_lem d s page whole tenths Admitted (not_away d s r)))
+      ap (λ (y : Reply). y.number) (e ∙ sym (find_by_lem d s page whole tenths (Ok tt) (not_away d s r)))
       in
       subst NotTurnedAway (sym z) (placed_through d f)
 

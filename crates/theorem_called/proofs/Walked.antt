@@ -1,5 +1,6 @@
 -- A walk over a store: the listed slots are those of the ordered list, each is found under its own name, and the readers decode it.
 -- Assumes nothing.
+use Rattle.std.specs.Prelude.{Ok}
 use mathlib.Core.Path.{◌≡◌, refl, sym, ap, ◌∙◌, subst}
 use mathlib.Core.Bool.{true}
 use mathlib.Core.List.{List, [], ◌∷◌, map}
@@ -26,7 +27,6 @@ use Rattle.store.proofs.Start.{absent_at, kept_memory}
 use Rattle.store.proofs.Ordered.{word_less, Among, Rising, key_fits}
 use Rattle.store_code.proofs.Laws.{levels_is}
 use Rattle.save.specs.Listed.{slot_numbers}
-use Rattle.show.specs.declared.Admission.TheVariants.{Admitted}
 use Rattle.show.specs.Calls.{placed_at}
 use Rattle.show.proofs.Laws.{fits_lent}
 use Rattle.show_read.specs.Calls.{slot_named, head_in, head_by, head_call, levels_by, levels_call}
@@ -58,12 +58,12 @@ module _ (d : Desk) (s : List ℕ) (r : Ready d s) where
   head_told : (x : ℕ) → x < slots_of d → head_call d s (suc x) ≡ replied (head_values (head_at d s x))
   unfolding head_by head_in
   head_told x h =
-      sym (head_by_lem d s (suc x) Admitted (fits_lent d s (record { range = r.range; long = r.long }))) ∙ ap (head_in d s) (slot_named_lem x h)
+      sym (head_by_lem d s (suc x) (Ok _) (fits_lent d s (record { range = r.range; long = r.long }))) ∙ ap (head_in d s) (slot_named_lem x h)
 
   levels_told : (x : ℕ) → x < slots_of d → levels_call d s (suc x) ≡ replied ((x * slot_length d + head_length) ∷ [])
   unfolding levels_by placed_at
   levels_told x h =
-      sym (levels_by_lem d s (suc x) Admitted (fits_lent d s (record { range = r.range; long = r.long }))) ∙ ap (placed_at d) (slot_named_lem x h)
+      sym (levels_by_lem d s (suc x) (Ok _) (fits_lent d s (record { range = r.range; long = r.long }))) ∙ ap (placed_at d) (slot_named_lem x h)
 
   levels_there : (x : ℕ) → take (levels_length d) (drop (x * slot_length d + head_length) s) ≡ (memory_at d s x).levels
   unfolding memory_at slot_length

@@ -1,7 +1,7 @@
 -- The theorems, said of the public calls one after the other, from calls that were answered (paper 01, demands 2 and 3; "What the checker
 -- must hold us to"). What a call promises is named in `show/specs/Calls`.
 -- Assumes nothing.
-use Rattle.std.specs.Prelude.{◌≡◌, false, List, ◌∷◌, [], map, ℕ, ◌%◌, ◌≤◌, length, take, drop, replicate}
+use Rattle.std.specs.Prelude.{◌≡◌, false, List, ◌∷◌, [], map, ℕ, ◌%◌, ◌≤◌, length, take, drop, replicate, Ok, Option, Result}
 use Rattle.std.specs.Borrow.{Bor}
 use Rattle.store_desk.specs.declared.Desk.{Desk}
 use Rattle.store_desk.specs.Refusal.{place_unit}
@@ -11,18 +11,12 @@ use Rattle.store.specs.View.{memory_of}
 use Rattle.load.specs.declared.Totals.{Totals}
 use Rattle.load.specs.Run.{load_of}
 use Rattle.save.specs.Lines.{lines_of}
-use Rattle.show.specs.declared.Loaded.{Loaded}
-use Rattle.show.specs.declared.Loaded.TheVariants.{Done as LoadDone}
-use Rattle.show.specs.declared.Written.{Written}
-use Rattle.show.specs.declared.Written.TheVariants.{Done as WriteDone}
-use Rattle.show.specs.declared.Emptied.{Emptied}
-use Rattle.show.specs.declared.Emptied.TheVariants.{Done as EmptyDone}
-use Rattle.show.specs.declared.Placed.{Placed}
 use Rattle.show.specs.Calls.{load_reply, LoadPromise, TranslatePromise, write_reply, WritePromise, empty_reply, EmptyPromise, LookPromise, find_reply, FindPromise, load_call}
 use Rattle.theorem_told.specs.Edges.{Edge, edges, cue_of, kept_by_of}
 use Rattle.theorem_translated.specs.Alike.{AsNumbered}
 use Rattle.theorem_same_show.specs.Show.{SameShow, all_obeyed}
 use Rattle.theorem_rehearse.specs.Rehearse.{Larger, HadRoom, stored_full, Carries, KeepsWithin, PatchedAlike}
+use Rattle.store_desk.specs.declared.Refusal.{Refusal}
 
 -- ---- demand 2: a show written, and what was written read back
 
@@ -33,20 +27,20 @@ pub record ReadBackAs (d : Desk) (s stream t reps : List ℕ) (x : Totals) (u q 
   pub list : q ≡ reps
   pub show : SameShow d s u
   pub past : drop (store_length d) u ≡ drop (store_length d) t
-  pub again : (out : List ℕ) (n : ℕ) (o : List ℕ) → WritePromise d u out (WriteDone n) o → take n o ≡ stream
+  pub again : (out : List ℕ) (n : ℕ) (o : List ℕ) → WritePromise d u out (Ok n) o → take n o ≡ stream
 
 abbrev pub WriteThenLoad : Type 0
 WriteThenLoad =
-    (d : Desk) (s out : List ℕ) (n : ℕ) (o : List ℕ) → Bytes s → WritePromise d s out (WriteDone n) o
-    → (t reps : List ℕ) (x : Totals) (u q : List ℕ) → LoadPromise d t reps (take n o) (LoadDone x) u q
+    (d : Desk) (s out : List ℕ) (n : ℕ) (o : List ℕ) → Bytes s → WritePromise d s out (Ok n) o
+    → (t reps : List ℕ) (x : Totals) (u q : List ℕ) → LoadPromise d t reps (take n o) (Ok x) u q
     → ReadBackAs d s (take n o) t reps x u q
 
 -- it is answered where the store was emptied before
 abbrev pub WrittenIsLoaded : Type 0
 WrittenIsLoaded =
-    (d : Desk) (s out : List ℕ) (n : ℕ) (o : List ℕ) → WritePromise d s out (WriteDone n) o
-    → (v t : List ℕ) → EmptyPromise d v EmptyDone t
-    → (reps : List ℕ) (a : Loaded) (u q : List ℕ) → LoadPromise d t reps (take n o) a u q → (load_reply a).number ≡ 0
+    (d : Desk) (s out : List ℕ) (n : ℕ) (o : List ℕ) → WritePromise d s out (Ok n) o
+    → (v t : List ℕ) → EmptyPromise d v (Ok tt) t
+    → (reps : List ℕ) (a : Result Totals Refusal) (u q : List ℕ) → LoadPromise d t reps (take n o) a u q → (load_reply a).number ≡ 0
 
 -- ---- after an answered call
 
@@ -59,18 +53,18 @@ pub record NotTurnedAway (n : ℕ) : Type 0 where
   pub entry : n ≡ 0x4C → ⊥
 
 pub record LetIn (d : Desk) (s : List ℕ) : Type 0 where
-  pub load : (reps stream : List ℕ) (a : Loaded) (t q : List ℕ) → LoadPromise d s reps stream a t q → NotTurnedAway (load_reply a).number
-  pub translate : (reps stream : List ℕ) (a : Loaded) (t q : List ℕ) → TranslatePromise d s reps stream a t q → NotTurnedAway (load_reply a).number
-  pub write : (out : List ℕ) (a : Written) (o : List ℕ) → WritePromise d s out a o → NotTurnedAway (write_reply a).number
-  pub empty : (a : Emptied) (t : List ℕ) → EmptyPromise d s a t → NotTurnedAway (empty_reply a).number
+  pub load : (reps stream : List ℕ) (a : Result Totals Refusal) (t q : List ℕ) → LoadPromise d s reps stream a t q → NotTurnedAway (load_reply a).number
+  pub translate : (reps stream : List ℕ) (a : Result Totals Refusal) (t q : List ℕ) → TranslatePromise d s reps stream a t q → NotTurnedAway (load_reply a).number
+  pub write : (out : List ℕ) (a : Result ℕ Refusal) (o : List ℕ) → WritePromise d s out a o → NotTurnedAway (write_reply a).number
+  pub empty : (a : Result Unit Refusal) (t : List ℕ) → EmptyPromise d s a t → NotTurnedAway (empty_reply a).number
   pub look : (v r : Bor (List ℕ)) (page whole tenths answer : ℕ) → v.now ≡ s → LookPromise d v page whole tenths r answer
       → NotTurnedAway (answer % place_unit)
-  pub find : (page whole tenths : ℕ) (a : Placed) → FindPromise d s page whole tenths a → NotTurnedAway (find_reply a).number
+  pub find : (page whole tenths : ℕ) (a : Result (Option ℕ) Refusal) → FindPromise d s page whole tenths a → NotTurnedAway (find_reply a).number
 
 pub record GoodAfter (d : Desk) : Type 0 where
-  pub emptied : (v s : List ℕ) → EmptyPromise d v EmptyDone s → LetIn d s
-  pub loaded : (s reps stream : List ℕ) (x : Totals) (t q : List ℕ) → LoadPromise d s reps stream (LoadDone x) t q → LetIn d t
-  pub translated : (s reps stream : List ℕ) (x : Totals) (t q : List ℕ) → TranslatePromise d s reps stream (LoadDone x) t q → LetIn d t
+  pub emptied : (v s : List ℕ) → EmptyPromise d v (Ok tt) s → LetIn d s
+  pub loaded : (s reps stream : List ℕ) (x : Totals) (t q : List ℕ) → LoadPromise d s reps stream (Ok x) t q → LetIn d t
+  pub translated : (s reps stream : List ℕ) (x : Totals) (t q : List ℕ) → TranslatePromise d s reps stream (Ok x) t q → LetIn d t
 
 -- ---- demand 3: two emptied desks load the same stream
 
@@ -92,9 +86,9 @@ pub record RehearsalSeen (d D : Desk) (x : Totals) (q t : List ℕ) (X : Totals)
 abbrev pub RehearsedCalls : Type 0
 RehearsedCalls =
     (d D : Desk) → Larger d D
-    → (v s w S : List ℕ) → EmptyPromise d v EmptyDone s → EmptyPromise D w EmptyDone S
+    → (v s w S : List ℕ) → EmptyPromise d v (Ok tt) s → EmptyPromise D w (Ok tt) S
     → (stream lent Lent : List ℕ) (x : Totals) (t q : List ℕ) (X : Totals) (T Q : List ℕ)
-    → LoadPromise d s lent stream (LoadDone x) t q → LoadPromise D S Lent stream (LoadDone X) T Q
+    → LoadPromise d s lent stream (Ok x) t q → LoadPromise D S Lent stream (Ok X) T Q
     → RehearsedAs d D s S stream t T × RehearsalSeen d D x q t X Q T
 
 -- ---- C-13: a stream that numbers its memories as `translate` would, by either call
@@ -103,7 +97,7 @@ RehearsedCalls =
 abbrev pub LoadedAlike : Type 0
 LoadedAlike =
     (d : Desk) (s reps stream : List ℕ) → AsNumbered d s stream
-    → (x : Totals) (t q : List ℕ) → TranslatePromise d s reps stream (LoadDone x) t q → LoadPromise d s reps stream (LoadDone x) t q
+    → (x : Totals) (t q : List ℕ) → TranslatePromise d s reps stream (Ok x) t q → LoadPromise d s reps stream (Ok x) t q
 
 -- ---- the proved edges are answers of the call itself
 

@@ -1,6 +1,7 @@
 -- One record on two desks, a smaller and a larger one: what it asks of the one has to do with what it asks of the other. By what its
 -- keyword begins, once; the views, the dimmers and the end of the load are then by these cases.
 -- Assumes nothing.
+use Rattle.std.specs.Prelude.{Err, None, Ok, Option, Result, Some}
 use mathlib.Core.Path.{◌≡◌, refl, sym, subst}
 use mathlib.Core.Bool.{Bool, true, false, cond}
 use mathlib.Core.List.{List, [], ◌∷◌}
@@ -15,8 +16,6 @@ use Rattle.text_fields.specs.declared.Item.{Item}
 use Rattle.text_fields.specs.declared.Item.TheVariants.{All, Cues, Groups, Patch as Patches, Subs, Local as LocalItem, Other}
 use Rattle.text_fields.specs.Words.{Word, fields_of, head_of, tail_of}
 use Rattle.text_fields.specs.Keywords.{keyword_of, item_of}
-use Rattle.value.specs.declared.Paged.{Paged}
-use Rattle.value.specs.declared.Paged.TheVariants.{Bad, Value as IsPage}
 use Rattle.store.specs.declared.Edit.{Edit}
 use Rattle.store.specs.Change.{every_page}
 use Rattle.load.specs.declared.Fault.{Fault}
@@ -32,11 +31,6 @@ use Rattle.load.specs.declared.Family.{Family}
 use Rattle.load.specs.declared.Family.TheVariants.{Primary, Augments, Basic as Basically}
 use Rattle.load.specs.declared.Basic.{Basic}
 use Rattle.load.specs.declared.Basic.TheVariants.{Ident, Clear, Patch, Enddata, Passed as PassedOver, Local, Unknown}
-use Rattle.load.specs.declared.Numeral.{Numeral}
-use Rattle.load.specs.declared.Named.{Named}
-use Rattle.load.specs.declared.Named.TheVariants.{Refused, Name as Accepted}
-use Rattle.load.specs.declared.Reading.{Reading}
-use Rattle.load.specs.declared.Reading.TheVariants.{Wrong as Misread, Change}
 use Rattle.load.specs.Condition.{bad_page, unsupported_of, wrong_secondary, bad_patch_page, over_long_record}
 use Rattle.load.specs.Item.{blame, blame_none, memory, page, pairs_of, triples_of}
 use Rattle.load.specs.Ask.{Wipe, table, dimmers, Ask, rests, skips, opens, edits, items, clears, name}
@@ -53,6 +47,7 @@ use Rattle.theorem_rehearse.proofs.Items.{Pairs, Triples, Each, pairs, triples}
 use Rattle.load.proofs.Tables.{all_ask_lem}
 use Rattle.theorem_rehearse.proofs.Wipes.{Wipes, none, both, right, kindless, pageless, dimmerless, all_wipes_lem, all_beyond}
 use Rattle.theorem_rehearse.proofs.Opens.{Opens, nothing_open_lem, skips_nothing, skips_both, skips_other, same_open}
+use Rattle.value.specs.declared.Number.{Number}
 
 -- ---- the cases
 -- a record that asks for it ends the load
@@ -92,10 +87,10 @@ pub data Both (d D : Desk) (b : Name → Bool) (s S : State) : Ask → Ask → T
 -- ---- secondaries: what one asks for with a memory open, on whatever desk
 module _ (k : Kind) (y : Key) (ws : List Word) (P : (Desk → Ask) → Type 0) (no : (f : Fault) → P (λ d. rests (Dropped f)))
     (change : (e : Edit) → P (λ d. edits (name k y) e)) (levels : P (λ d. items (memory (name k y)) (pairs_of d ws))) where
-  changed : (x : Reading) → P (λ d. change_ask (name k y) x)
+  changed : (x : Result Edit Fault) → P (λ d. change_ask (name k y) x)
   unfolding change_ask
-  changed (Misread f) = no f
-  changed (Change e) = change e
+  changed (Err f) = no f
+  changed (Ok e) = change e
 
   obeyed : (e : Secondary) → P (λ d. obeyed_ask d (name k y) e ws)
   unfolding obeyed_ask
@@ -141,22 +136,22 @@ module _ (d D : Desk) (l : Larger d D) (b : Name → Bool) where
     secondary_both e w ws = augmenting (calm d s.key s.«open» e w ws) (calm D S.key S.«open» e w ws) (λ h. second h e w ws)
 
     -- primaries
-    named_both : (k : Kind) (v : Word) {x X : Numeral} {p P : Paged} → Numerals d k x X → Pages (pages_of d k) p P
+    named_both : (k : Kind) (v : Word) {x X : Result Number Fault} {p P : Option ℕ} → Numerals d k x X → Pages (pages_of d k) p P
         → Related (named_ask k (named_by x v p)) (named_ask k (named_by X v P))
     unfolding named_ask named_by stops
     named_both k v (wrong_numbers x X) g = skipping (Dropped x) (Dropped X) refl
-    named_both k v (beyond_number x w f h) bad_pages = skipping (Dropped x) _ refl
-    named_both k v (beyond_number x w f h) (beyond_page p g) = opening_beyond (Dropped x) refl k (keyed p w f) (not_within d k (keyed p w f) (h p))
-    named_both k v (beyond_number x w f h) (same_page p) = opening_beyond (Dropped x) refl k (keyed p w f) (not_within d k (keyed p w f) (h p))
-    named_both k v (same_number w f) bad_pages = skipping _ _ refl
-    named_both k v (same_number w f) (beyond_page p g) = opening_beyond (Dropped (blame v bad_page)) refl k (keyed p w f) (not_page d k (keyed p w f) g)
-    named_both k v (same_number w f) (same_page p) = opening k (keyed p w f)
+    named_both k v (beyond_number x n h) bad_pages = skipping (Dropped x) _ refl
+    named_both k v (beyond_number x n h) (beyond_page p g) = opening_beyond (Dropped x) refl k (keyed p n.whole n.fraction) (not_within d k (keyed p n.whole n.fraction) (h p))
+    named_both k v (beyond_number x n h) (same_page p) = opening_beyond (Dropped x) refl k (keyed p n.whole n.fraction) (not_within d k (keyed p n.whole n.fraction) (h p))
+    named_both k v (same_number n) bad_pages = skipping _ _ refl
+    named_both k v (same_number n) (beyond_page p g) = opening_beyond (Dropped (blame v bad_page)) refl k (keyed p n.whole n.fraction) (not_page d k (keyed p n.whole n.fraction) g)
+    named_both k v (same_number n) (same_page p) = opening k (keyed p n.whole n.fraction)
 
     -- the smaller does not have the kind
-    named_right : (k : Kind) → supported d k ≡ false → (f : Fault) (X : Named) → Related (skips (Dropped f)) (named_ask k X)
+    named_right : (k : Kind) → supported d k ≡ false → (f : Fault) (X : Result Key Fault) → Related (skips (Dropped f)) (named_ask k X)
     unfolding named_ask stops
-    named_right k e f (Refused F) = skipping (Dropped f) (Dropped F) refl
-    named_right k e f (Accepted y) = opening_beyond (Dropped f) refl k y (not_supported d k y e)
+    named_right k e f (Err F) = skipping (Dropped f) (Dropped F) refl
+    named_right k e f (Ok y) = opening_beyond (Dropped f) refl k y (not_supported d k y e)
 
     primary_both : (k : Kind) (w : Word) (ws : List Word) → Related (primary_ask d k w ws) (primary_ask D k w ws)
     unfolding primary_ask named_of
@@ -170,17 +165,17 @@ module _ (d D : Desk) (l : Larger d D) (b : Name → Bool) where
         (λ E. skipping _ _ refl)
 
     -- CLEAR
-    paged_both : (w : Word) {limit : ℕ} {x X : Paged} → Pages limit x X → (f F : ℕ → List Wipe) → ((p : ℕ) → limit < p → Wipes d [] (F p))
+    paged_both : (w : Word) {limit : ℕ} {x X : Option ℕ} → Pages limit x X → (f F : ℕ → List Wipe) → ((p : ℕ) → limit < p → Wipes d [] (F p))
         → ((p : ℕ) → Wipes d (f p) (F p)) → Related (paged_ask w x f) (paged_ask w X F)
     unfolding paged_ask stops
     paged_both w bad_pages f F g h = resting _ _ refl
     paged_both w (beyond_page p m) f F g h = clearing_beyond _ refl (g p m)
     paged_both w (same_page p) f F g h = clearing (h p)
 
-    paged_right : (k : Kind) → supported d k ≡ false → (w : Word) (X : Paged) → Related (rests Obeyed) (paged_ask w X (λ p. table k p ∷ []))
+    paged_right : (k : Kind) → supported d k ≡ false → (w : Word) (X : Option ℕ) → Related (rests Obeyed) (paged_ask w X (λ p. table k p ∷ []))
     unfolding paged_ask stops
-    paged_right k e w Bad = resting _ _ refl
-    paged_right k e w (IsPage p) = clearing_beyond Obeyed refl (right (table k p) (kindless d k p e) none)
+    paged_right k e w None = resting _ _ refl
+    paged_right k e w (Some p) = clearing_beyond Obeyed refl (right (table k p) (kindless d k p e) none)
 
     kind_both : (k : Kind) (ws : List Word) → Related (kind_ask d k ws) (kind_ask D k ws)
     unfolding kind_ask
@@ -217,7 +212,7 @@ module _ (d D : Desk) (l : Larger d D) (b : Name → Bool) where
     clear_both Other w ws = resting _ _ refl
 
     -- PATCH
-    patch_both : (w : Word) {x X : Paged} → Pages d.patch_pages x X → (ws : List Word) → Related (triples_ask d w x ws) (triples_ask D w X ws)
+    patch_both : (w : Word) {x X : Option ℕ} → Pages d.patch_pages x X → (ws : List Word) → Related (triples_ask d w x ws) (triples_ask D w X ws)
     unfolding triples_ask stops
     patch_both w bad_pages ws = resting _ _ refl
     patch_both w (beyond_page p h) ws = patching_beyond (Dropped (blame w bad_patch_page)) refl p h (triples_of D ws)

@@ -1,6 +1,7 @@
 -- What a field comes to on two desks: wrong on both, wrong on the smaller alone since it lies beyond its limit, or the same on both. By cases
 -- on the field's value.
 -- Assumes nothing.
+use Rattle.std.specs.Prelude.{Err, None, Ok, Option, Result, Some}
 use mathlib.Core.Path.{◌≡◌, refl}
 use mathlib.Core.Bool.{Bool, true, false, cond, false≢true}
 use mathlib.Core.List.{List, [], ◌∷◌}
@@ -18,21 +19,16 @@ use Rattle.store_desk.specs.Size.{is_within, sub_slots}
 use Rattle.store_desk.specs.Name.{slot_count, pages_of, supported, ok_sub, ok_within, ok_page, ok_name}
 use Rattle.store_desk.proofs.Size.{within, within_true, all_fails}
 use Rattle.text_fields.specs.Words.{Word}
-use Rattle.value.specs.declared.Integer.{Integer}
-use Rattle.value.specs.declared.Integer.TheVariants.{Malformed, Value}
-use Rattle.value.specs.declared.Paged.{Paged}
-use Rattle.value.specs.declared.Paged.TheVariants.{Bad, Value as IsPage}
 use Rattle.value.specs.Integer.{integer_of}
-use Rattle.value.specs.Number.{number_of}
+use Rattle.value.specs.Number.{number_of, number}
 use Rattle.value.specs.Field.{paged_of, page_of}
 use Rattle.load.specs.declared.Fault.{Fault}
-use Rattle.load.specs.declared.Numeral.{Numeral}
-use Rattle.load.specs.declared.Numeral.TheVariants.{Wrong, Number}
 use Rattle.load.specs.Condition.{bad_sub}
 use Rattle.load.specs.Item.{blame}
 use Rattle.load.specs.Ask.{name, numbered_by, sub_by, numeral_of, page_at, table_pages}
 use Rattle.load.specs.Fits.{highest_page}
 use Rattle.theorem_rehearse.specs.Rehearse.{Larger}
+use Rattle.value.specs.declared.Number.{Number}
 
 -- ---- a test that holds on the larger desk where it holds on the smaller: on both, on the larger alone, on neither
 pub by_tests : {A : Type 0} (P : A → A → Type 0) (b B : Bool) → (b ≡ true → B ≡ true) → (x y X Y : A)
@@ -46,13 +42,13 @@ pub within_more : (n a b : ℕ) → a ≤ b → is_within 1 n a ≡ true → is_
 within_more n a b l e = let w = within 1 n a e in within_true 1 n b (omega arith)
 
 -- ---- a page
-pub data Pages (limit : ℕ) : Paged → Paged → Type 0 where
-  bad_pages : Pages limit Bad Bad
-  beyond_page : (p : ℕ) → limit < p → Pages limit Bad (IsPage p)
-  same_page : (p : ℕ) → Pages limit (IsPage p) (IsPage p)
+pub data Pages (limit : ℕ) : Option ℕ → Option ℕ → Type 0 where
+  bad_pages : Pages limit None None
+  beyond_page : (p : ℕ) → limit < p → Pages limit None (Some p)
+  same_page : (p : ℕ) → Pages limit (Some p) (Some p)
 
 page_by : (limit p : ℕ) (z b B : Bool) → (B ≡ true → b ≡ true) → (b ≡ true → limit < p)
-    → Pages limit (cond z Bad (cond b Bad (IsPage p))) (cond z Bad (cond B Bad (IsPage p)))
+    → Pages limit (cond z None (cond b None (Some p))) (cond z None (cond B None (Some p)))
 page_by limit p true b B m h = bad_pages
 page_by limit p false true true m h = bad_pages
 page_by limit p false true false m h = beyond_page p (h refl)
@@ -60,10 +56,10 @@ page_by limit p false false true m h = absurd (false≢true (m refl))
 page_by limit p false false false m h = same_page p
 
 module _ (limit Limit : ℕ) (l : limit ≤ Limit) where
-  paged : (i : Integer) → Pages limit (paged_of limit i) (paged_of Limit i)
+  paged : (i : Option ℕ) → Pages limit (paged_of limit i) (paged_of Limit i)
   unfolding paged_of
-  paged Malformed = bad_pages
-  paged (Value v) =
+  paged None = bad_pages
+  paged (Some v) =
       page_by limit v (eqb v 0) (ltb limit v) (ltb Limit v)
       (λ e. let h = ltb-true Limit v e in lt-ltb limit v (omega arith))
       (λ e. ltb-true limit v e)
@@ -81,24 +77,24 @@ module _ (limit Limit : ℕ) (l : limit ≤ Limit) where
 abbrev pub keyed : ℕ → ℕ → ℕ → Key
 keyed p w f = record { page = p; whole = w; fraction = f }
 
-pub data Numerals (d : Desk) (k : Kind) : Numeral → Numeral → Type 0 where
-  wrong_numbers : (x X : Fault) → Numerals d k (Wrong x) (Wrong X)
-  beyond_number : (x : Fault) (w f : ℕ) → ((p : ℕ) → ok_within d k (keyed p w f) ≡ false) → Numerals d k (Wrong x) (Number w f)
-  same_number : (w f : ℕ) → Numerals d k (Number w f) (Number w f)
+pub data Numerals (d : Desk) (k : Kind) : Result Number Fault → Result Number Fault → Type 0 where
+  wrong_numbers : (x X : Fault) → Numerals d k (Err x) (Err X)
+  beyond_number : (x : Fault) (n : Number) → ((p : ℕ) → ok_within d k (keyed p n.whole n.fraction) ≡ false) → Numerals d k (Err x) (Ok n)
+  same_number : (n : Number) → Numerals d k (Ok n) (Ok n)
 
-same_numeral : (d : Desk) (k : Kind) (x : Numeral) → Numerals d k x x
-same_numeral d k (Wrong x) = wrong_numbers x x
-same_numeral d k (Number w f) = same_number w f
+same_numeral : (d : Desk) (k : Kind) (x : Result Number Fault) → Numerals d k x x
+same_numeral d k (Err x) = wrong_numbers x x
+same_numeral d k (Ok n) = same_number n
 
-sub_numerals : (d D : Desk) → d.subs ≤ D.subs → (w : Word) (i : Integer) → Numerals d Sub (sub_by d w i) (sub_by D w i)
+sub_numerals : (d D : Desk) → d.subs ≤ D.subs → (w : Word) (i : Option ℕ) → Numerals d Sub (sub_by d w i) (sub_by D w i)
 unfolding sub_by ok_within ok_sub
-sub_numerals d D l w Malformed = wrong_numbers _ _
-sub_numerals d D l w (Value n) =
+sub_numerals d D l w None = wrong_numbers _ _
+sub_numerals d D l w (Some n) =
     let x : Fault = blame w bad_sub in
     by_tests (Numerals d Sub) (is_within 1 n d.subs) (is_within 1 n D.subs) (within_more n d.subs D.subs l)
-    (Number n 0) (Wrong x) (Number n 0) (Wrong x)
-    (λ e. same_number n 0)
-    (λ e E. beyond_number x n 0 (λ p. all_fails _ 0 e))
+    (Ok (number n 0)) (Err x) (Ok (number n 0)) (Err x)
+    (λ e. same_number (number n 0))
+    (λ e E. beyond_number x (number n 0) (λ p. all_fails _ 0 e))
     (λ E. wrong_numbers x x)
 
 pub numerals : (d D : Desk) → Larger d D → (k : Kind) (w : Word) → Numerals d k (numeral_of d k w) (numeral_of D k w)

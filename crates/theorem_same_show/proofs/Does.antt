@@ -1,5 +1,6 @@
 -- Each written line's step: it is obeyed, with no report, and does what was written. By what reading gives back of each value.
 -- Assumes nothing.
+use Rattle.std.specs.Prelude.{Ok, Option, Result, Some}
 use mathlib.Core.Path.{◌≡◌, refl, sym, ap, ◌∙◌}
 use mathlib.Core.Bool.{true, cond}
 use mathlib.Core.List.{List, [], ◌∷◌, ◌++◌}
@@ -23,14 +24,9 @@ use Rattle.text_fields.specs.declared.Keyword.{Keyword}
 use Rattle.text_fields.specs.declared.Keyword.TheVariants as key
 use Rattle.text_fields.specs.Words.{Word, head_of}
 use Rattle.text_fields.specs.Keywords.{keyword_of, meaning_of, keyword_rows, same_word_of, same_text, upper}
-use Rattle.value.specs.declared.Paged.{Paged}
-use Rattle.value.specs.declared.Numbered.{Numbered}
-use Rattle.value.specs.declared.Timed.{Timed}
-use Rattle.value.specs.declared.Timed.TheVariants.{Value as IsTime}
 use Rattle.value.specs.Integer.{cap, integer_of}
-use Rattle.value.specs.Number.{whole_max}
+use Rattle.value.specs.Number.{whole_max, number}
 use Rattle.value.specs.Time.{time_max}
-use Rattle.value_level.specs.declared.Leveled.{Leveled}
 use Rattle.value_level.specs.Level.{level_of}
 use Rattle.value_written.specs.Text.{integer_text, number_text, level_text, time_text}
 use Rattle.value_written.proofs.Undone.{integer_read, page_read, number_text_none, number_read, level_read, time_read}
@@ -43,11 +39,6 @@ use Rattle.load.specs.declared.State.{State}
 use Rattle.load.specs.declared.Outcome.TheVariants.{Obeyed}
 use Rattle.load.specs.declared.Entry.{Entry}
 use Rattle.load.specs.declared.Entry.TheVariants.{Level as LevelOf, Patch as PatchOf}
-use Rattle.load.specs.declared.Ranged.{Ranged}
-use Rattle.load.specs.declared.Ranged.TheVariants.{Within as InLimits}
-use Rattle.load.specs.declared.Named.TheVariants.{Name as Accepted}
-use Rattle.load.specs.declared.Numeral.TheVariants.{Number}
-use Rattle.load.specs.declared.Reading.TheVariants.{Change}
 use Rattle.load.specs.Condition.{bad_channel, bad_dimmer}
 use Rattle.load.specs.Item.{ranged_of, dimmer_of, on_ranged, on_level, pair_of, triple_of, pairs_of, triples_of, faults_of, memory, page, done, all_done}
 use Rattle.load.specs.Ask.{items, name, is_over_long, ask_of, fields_ask, family_of, basic_ask, family_ask, named_ask, primary_ask, change_ask, obeyed_ask, secondary_ask, triples_ask}
@@ -59,6 +50,9 @@ use Rattle.save_lines.specs.Line.{patch_text, primary_text, delay_text, Lit, pai
 use Rattle.theorem_same_show.proofs.Fair.{Fair, fair_quiet}
 use Rattle.theorem_same_show.proofs.Spelled.{word, spelled, fields_of_lem}
 use Rattle.theorem_same_show.proofs.Worded.{Line, patch_line_lem, kind_word, primary_line, delay_words, up_line, down_line, followon_line, link_line_lem, pair_words, AllLit, chan_line}
+use Rattle.value_level.specs.declared.LevelError.{LevelError}
+use Rattle.value.specs.declared.Number.{Number}
+use Rattle.value.specs.declared.NumberError.{NumberError}
 
 -- ---- a line is obeyed, and nothing is reported
 pub record Does (d : Desk) (s : State) (t l : List ℕ) (s₁ : State) (t₁ : List ℕ) : Type 0 where
@@ -109,17 +103,17 @@ kind_ask_lem d s Sub w ws = refl
 
 -- ---- the primaries
 module _ (d : Desk) (r : InRange d) where
-  sub_numeral : (v : Word) (w f : ℕ) → Within 1 w d.subs → f ≡ 0 → sub_by d v (integer_of (number_text w f)) ≡ Number w f
+  sub_numeral : (v : Word) (w f : ℕ) → Within 1 w d.subs → f ≡ 0 → sub_by d v (integer_of (number_text w f)) ≡ Ok (number w f)
   unfolding sub_by
   sub_numeral v w f h e =
       let l : w ≤ cap = omega (arith, r.subs.1) in
       ap (λ (x : List ℕ). sub_by d v (integer_of x)) (number_text_none w f e)
       ∙ ap (sub_by d v) (integer_read w l)
       ∙ cond-true (is_within 1 w d.subs) _ _ (within_true 1 w d.subs h)
-      ∙ ap (λ (z : ℕ). Number w z) (sym e)
+      ∙ ap (λ (z : ℕ). Ok (number w z)) (sym e)
 
   numeral_of_lem : (k : Kind) (key : Key) (c : ℕ) → ok_within d k key ≡ true
-      → numeral_of d k (word (number_text key.whole key.fraction) c) ≡ Number key.whole key.fraction
+      → numeral_of d k (word (number_text key.whole key.fraction) c) ≡ Ok (number key.whole key.fraction)
   unfolding numeral_of numbered_by ok_within
   numeral_of_lem Cue key c o =
       let n = ok_number_lem key.whole key.fraction o in
@@ -138,7 +132,7 @@ module _ (d : Desk) (r : InRange d) where
   whole_fits Sub key o = let n = ok_sub_lem d key.whole key.fraction o in omega (arith, r.subs.1, n.0)
 
   module _ (k : Kind) (y : Key) (o : ok_name d (name k y) ≡ true) where
-    named_of_lem : (qs : List ℕ) → named_of d k (spelled (number_text y.whole y.fraction ∷ integer_text y.page ∷ []) qs) ≡ Accepted y
+    named_of_lem : (qs : List ℕ) → named_of d k (spelled (number_text y.whole y.fraction ∷ integer_text y.page ∷ []) qs) ≡ Ok y
     unfolding named_of named_by page_at spelled
     named_of_lem qs =
         let p = ok_page_lem d (name k y) o in
@@ -170,20 +164,20 @@ module _ (d : Desk) (r : InRange d) where
         d s t (opened k y) (started d t (name k y)) (primary_step s t i e)
 
 -- ---- UP, DOWN, FOLLOWON, LINK
-delay_of_lem : (delay : ℕ) → delay ≤ time_max → (qs : List ℕ) → delay_of (spelled (delay_words delay) qs) ≡ IsTime delay
+delay_of_lem : (delay : ℕ) → delay ≤ time_max → (qs : List ℕ) → delay_of (spelled (delay_words delay) qs) ≡ Some delay
 unfolding delay_of delay_words spelled
 delay_of_lem delay h qs =
     by_eq delay 0
-    (λ e. rw (eq-eqb delay 0 e) (ap IsTime (sym e)))
+    (λ e. rw (eq-eqb delay 0 e) (ap Some (sym e)))
     (λ e. rw (ne_eqb delay 0 e) (time_read delay h))
 
 fade_of_lem : (f : ℕ → ℕ → Edit) (fade delay : ℕ) → fade ≤ time_max → delay ≤ time_max → (qs : List ℕ)
-    → fade_of f (spelled (time_text fade ∷ delay_words delay) qs) ≡ Change (f fade delay)
+    → fade_of f (spelled (time_text fade ∷ delay_words delay) qs) ≡ Ok (f fade delay)
 unfolding fade_of spelled on_time
 fade_of_lem f fade delay hf hd qs =
     let ws : List Word = spelled (delay_words delay) (drop 1 qs) in
-    ap (λ (x : Timed). on_time (word (time_text fade) (get_or qs 0 0)) x (λ a. on_time (head_of ws) (delay_of ws) (λ b. Change (f a b)))) (time_read fade hf)
-    ∙ ap (λ (x : Timed). on_time (head_of ws) x (λ b. Change (f fade b))) (delay_of_lem delay hd (drop 1 qs))
+    ap (λ (x : Option ℕ). on_time (word (time_text fade) (get_or qs 0 0)) x (λ a. on_time (head_of ws) (delay_of ws) (λ b. Ok (f a b)))) (time_read fade hf)
+    ∙ ap (λ (x : Option ℕ). on_time (head_of ws) x (λ b. Ok (f fade b))) (delay_of_lem delay hd (drop 1 qs))
 
 -- the keywords of the secondaries, of PATCH
 keyword_up : keyword_of (bytes "UP") ≡ key.Up
@@ -225,13 +219,13 @@ lit_entries [] = []
 lit_entries (p ∷ ps) = LevelOf p.channel p.level ∷ lit_entries ps
 
 module _ (d : Desk) (r : InRange d) where
-  channel_of_lem : (n : ℕ) → Within 1 n d.channels → ranged_of d.channels bad_channel (integer_of (integer_text n)) ≡ InLimits n
+  channel_of_lem : (n : ℕ) → Within 1 n d.channels → ranged_of d.channels bad_channel (integer_of (integer_text n)) ≡ Ok n
   unfolding ranged_of
   channel_of_lem n h =
       let l : n ≤ cap = omega (arith, r.channels.1) in
       ap (ranged_of d.channels bad_channel) (integer_read n l) ∙ cond-true (is_within 1 n d.channels) _ _ (within_true 1 n d.channels h)
 
-  dimmer_of_lem : (n : ℕ) → Within 1 n d.dimmers → ranged_of d.dimmers bad_dimmer (integer_of (integer_text n)) ≡ InLimits n
+  dimmer_of_lem : (n : ℕ) → Within 1 n d.dimmers → ranged_of d.dimmers bad_dimmer (integer_of (integer_text n)) ≡ Ok n
   unfolding ranged_of
   dimmer_of_lem n h =
       let l : n ≤ cap = omega (arith, r.dimmers.1) in
@@ -242,8 +236,8 @@ module _ (d : Desk) (r : InRange d) where
   unfolding pair_of on_ranged on_level
   pair_of_lem n v a b hn hv =
       let l : Word = word (level_text v) b in
-      ap (λ (x : Ranged). on_ranged (word (integer_text n) a) x (λ c. on_level l (level_of (level_text v)) (λ u. LevelOf c u))) (channel_of_lem n hn)
-      ∙ ap (λ (x : Leveled). on_level l x (λ u. LevelOf n u)) (level_read v hv)
+      ap (λ (x : Result ℕ ℕ). on_ranged (word (integer_text n) a) x (λ c. on_level l (level_of (level_text v)) (λ u. LevelOf c u))) (channel_of_lem n hn)
+      ∙ ap (λ (x : Result ℕ LevelError). on_level l x (λ u. LevelOf n u)) (level_read v hv)
 
   pairs_of_lem : (ps : List Lit) → AllLit d ps → (qs : List ℕ) → pairs_of d (spelled (pair_words ps) qs) ≡ lit_entries ps
   unfolding pairs_of spelled pair_words lit_entries
@@ -259,9 +253,9 @@ module _ (d : Desk) (r : InRange d) where
   triple_of_lem c m v a b e hc hm hv =
       let y : Word = word (integer_text m) b in
       let l : Word = word (level_text v) e in
-      ap (λ (x : Ranged). on_ranged (word (integer_text c) a) x (λ n. on_ranged y (dimmer_of d y) (λ k. on_level l (level_of (level_text v)) (λ u. PatchOf n k u)))) (channel_of_lem c hc)
-      ∙ ap (λ (x : Ranged). on_ranged y x (λ k. on_level l (level_of (level_text v)) (λ u. PatchOf c k u))) (dimmer_of_lem m hm)
-      ∙ ap (λ (x : Leveled). on_level l x (λ u. PatchOf c m u)) (level_read v hv)
+      ap (λ (x : Result ℕ ℕ). on_ranged (word (integer_text c) a) x (λ n. on_ranged y (dimmer_of d y) (λ k. on_level l (level_of (level_text v)) (λ u. PatchOf n k u)))) (channel_of_lem c hc)
+      ∙ ap (λ (x : Result ℕ ℕ). on_ranged y x (λ k. on_level l (level_of (level_text v)) (λ u. PatchOf c k u))) (dimmer_of_lem m hm)
+      ∙ ap (λ (x : Result ℕ LevelError). on_level l x (λ u. PatchOf c m u)) (level_read v hv)
 
   -- ---- PATCH
   pub patch_does : (s : State) (t : List ℕ) (p m : ℕ) (x : Patch) → Within 1 p d.patch_pages → Within 1 m d.dimmers → Within 1 x.channel d.channels
@@ -282,7 +276,7 @@ module _ (d : Desk) (r : InRange d) where
           let ws : List Word = spelled xs (drop 1 (drop 1 qs)) in
           keyed d s t (bytes "PATCH") (integer_text p ∷ xs) qs keyword_patch
           ∙ ap (acted d s t)
-          (ap (λ (g : Paged). triples_ask d (word (integer_text p) (get_or (drop 1 qs) 0 0)) g ws) (page_read d.patch_pages p hp.0 hp.1 l)
+          (ap (λ (g : Option ℕ). triples_ask d (word (integer_text p) (get_or (drop 1 qs) 0 0)) g ws) (page_read d.patch_pages p hp.0 hp.1 l)
           ∙ ap (λ (e : Entry). items (page p) (e ∷ []))
           (triple_of_lem x.channel m x.level (get_or (drop 1 (drop 1 qs)) 0 0) (get_or (drop 1 (drop 1 (drop 1 qs))) 0 0) (get_or (drop 1 (drop 1 (drop 1 (drop 1 qs)))) 0 0) hc hm hv)))
 
@@ -333,7 +327,7 @@ module _ (d : Desk) (k : Kind) (y : Key) (t : List ℕ) where
           keyed d now t (bytes "FOLLOWON") (time_text time ∷ delay_words 0) qs keyword_followon
           ∙ ap (acted d now t)
           (cond-true (has_link k) _ _ h
-          ∙ ap (λ (x : Timed). change_ask (name k y) (on_time w x (λ a. Change (Followon a)))) (time_read time l))
+          ∙ ap (λ (x : Option ℕ). change_ask (name k y) (on_time w x (λ a. Ok (Followon a)))) (time_read time l))
 
       pub followon_does : Does d now t (bytes "FOLLOWON " ++ (time_text time ++ delay_text 0)) now (edited d t (name k y) (Followon time))
       followon_does = does_of (followon_line time 0 l (omega arith)) d now t now (edited d t (name k y) (Followon time)) followon_step
@@ -347,7 +341,7 @@ module _ (d : Desk) (k : Kind) (y : Key) (t : List ℕ) where
           keyed d now t (bytes "LINK") (number_text whole fraction ∷ []) qs keyword_link
           ∙ ap (acted d now t)
           (cond-true (has_link k) _ _ h
-          ∙ ap (λ (x : Numbered). change_ask (name k y) (link_by (numbered_by w x))) (number_read whole fraction n.1 n.2 (λ e. omega (arith, n.0))))
+          ∙ ap (λ (x : Result Number NumberError). change_ask (name k y) (link_by (numbered_by w x))) (number_read whole fraction n.1 n.2 (λ e. omega (arith, n.0))))
 
       pub link_does : Does d now t (bytes "LINK " ++ number_text whole fraction) now (edited d t (name k y) (Link whole fraction))
       link_does = does_of (link_line_lem whole fraction (ok_number_lem whole fraction o).1) d now t now (edited d t (name k y) (Link whole fraction)) link_step

@@ -37,7 +37,7 @@ use Rattle.text_fields.specs.Keywords.{upper, same_text, same_word_of, meaning_o
 use Rattle.value.specs.Integer.{digit_of, digits_from, run_of, integer_of}
 use Rattle.value.specs.Parts.{cut_at, decimals_of}
 use Rattle.value.specs.Number.{numbered_of, number_of}
-use Rattle.value.specs.Time.{bounded_of as rangedTime, part_of, join_of, later_of, clock_of, timed_of, time_of}
+use Rattle.value.specs.Time.{bounded_of as rangedTime, part_of, join_of, later_of, clock_of, time_of}
 use Rattle.value.specs.Field.{versioned_of, version_of, paged_of, page_of}
 use Rattle.value_level.specs.Level.{hex_byte_of, hex_of, level_of}
 use Rattle.load.specs.Item.{ranged_of, on_ranged, on_level, pair_of, triple_of, pairs_of, triples_of, faults_of, done, all_done}
@@ -115,5 +115,5 @@ trial_back = written_reads_back small trial trial trial_ready (all_bytes trial t
 
 -- the same show, and other bytes: cue 2.5 stood in the second slot, and comes first
 pub trial_moved : in_order small trial Cue ++ in_order small (load_of small trial (stream_of small trial)).store Cue ≡ 1 ∷ 0 ∷ 0 ∷ 1 ∷ []
-unfolding stream_of joined load_of run_from stops record_step acted ask_of fields_ask family_ask family_of basic_ask ident_outcome item_ask all_ask tables_ask wipes_ask settle_by table_pages all_wipes kind_wipes dimmer_wipes wiped triples_ask primary_ask named_ask opened_by named_of named_by numeral_of numbered_by sub_by page_at secondary_ask augments obeyed_ask change_ask times_of fade_of on_time delay_of link_by reported_of ignored_in outcome_faults ranged_of on_ranged on_level pair_of triple_of pairs_of triples_of faults_of done all_done records_of pieces_of pieces_in bare is_end terminated kept_of is_high is_control is_mark has fields_of words_of words_in is_delimiter keyword_of meaning_of keyword_rows item_of item_rows same_word_of same_text upper version_of versioned_of page_of paged_of integer_of run_of digits_from digit_of number_of numbered_of cut_at decimals_of rangedTime part_of join_of later_of clock_of timed_of time_of level_of hex_of hex_byte_of clear_from cleared hits_at cleared_patch patch_page_length entries_of supported pages_of has_times has_link span used_from insert_slot sort_slots in_order less_key levels_at memory_at patched_to digit_char digits_on digit_count_from digit_count integer_text fraction_text number_text level_text part_text whole_in left_by clock_text time_text patch_text patch_line dimmer_lines page_lines kind_text primary_text delay_text time_line link_line head_lines lit_from pair_text pairs_text chan_lines_in chan_lines memory_lines slot_lines lines_of lowest_unused new_seat seat blank_head blank_slot started edit_head with_head edit_slot edit_at edited patched slot_at put_slot entry_at put_entry head_at level_place holds_at find on_found first_from put all_of eq_key level_width levels_length slot_length sub_slots slots_of patch_start entry_of first_slot slot_count sub_slot total packed unpacked encode_head decode_head encode_patch decode_patch
+unfolding stream_of joined load_of run_from stops record_step acted ask_of fields_ask family_ask family_of basic_ask ident_outcome item_ask all_ask tables_ask wipes_ask settle_by table_pages all_wipes kind_wipes dimmer_wipes wiped triples_ask primary_ask named_ask opened_by named_of named_by numeral_of numbered_by sub_by page_at secondary_ask augments obeyed_ask change_ask times_of fade_of on_time delay_of link_by reported_of ignored_in outcome_faults ranged_of on_ranged on_level pair_of triple_of pairs_of triples_of faults_of done all_done records_of pieces_of pieces_in bare is_end terminated kept_of is_high is_control is_mark has fields_of words_of words_in is_delimiter keyword_of meaning_of keyword_rows item_of item_rows same_word_of same_text upper version_of versioned_of page_of paged_of integer_of run_of digits_from digit_of number_of numbered_of cut_at decimals_of rangedTime part_of join_of later_of clock_of time_of level_of hex_of hex_byte_of clear_from cleared hits_at cleared_patch patch_page_length entries_of supported pages_of has_times has_link span used_from insert_slot sort_slots in_order less_key levels_at memory_at patched_to digit_char digits_on digit_count_from digit_count integer_text fraction_text number_text level_text part_text whole_in left_by clock_text time_text patch_text patch_line dimmer_lines page_lines kind_text primary_text delay_text time_line link_line head_lines lit_from pair_text pairs_text chan_lines_in chan_lines memory_lines slot_lines lines_of lowest_unused new_seat seat blank_head blank_slot started edit_head with_head edit_slot edit_at edited patched slot_at put_slot entry_at put_entry head_at level_place holds_at find on_found first_from put all_of eq_key level_width levels_length slot_length sub_slots slots_of patch_start entry_of first_slot slot_count sub_slot total packed unpacked encode_head decode_head encode_patch decode_patch
 trial_moved = refl

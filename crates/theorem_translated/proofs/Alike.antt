@@ -1,6 +1,7 @@
 -- For a stream that numbers its memories as the load with translation would, that load and the normal one come to the same. By induction on the
 -- records, of which each comes to the same in both; the links that one load set as it went are those that the other sets when it ends.
 -- Assumes nothing.
+use Rattle.std.specs.Prelude.{Err, None, Ok, Option, Result, Some}
 use mathlib.Core.Path.{◌≡◌, refl, sym, ap, ◌∙◌, subst}
 use mathlib.Core.Bool.{Bool, true, false, cond, not, ◌&&◌}
 use mathlib.Core.List.{List, [], ◌∷◌, ◌++◌, append-nil}
@@ -26,10 +27,6 @@ use Rattle.store_head.specs.Layout.{decode_head}
 use Rattle.text_records.specs.Stream.{records_of}
 use Rattle.text_fields.specs.Words.{Word, fields_of, head_of, tail_of}
 use Rattle.value.specs.declared.Number.{Number}
-use Rattle.value.specs.declared.Numbered.{Numbered}
-use Rattle.value.specs.declared.Numbered.TheVariants.{Malformed as BadNumber, TooLarge, Value as IsNumber}
-use Rattle.value.specs.declared.Paged.{Paged}
-use Rattle.value.specs.declared.Paged.TheVariants.{Bad, Value as IsPage}
 use Rattle.value.specs.Number.{whole_max, fraction_span, no_number, number_of, borne_of}
 use Rattle.store.specs.declared.Edit.{Edit}
 use Rattle.store.specs.declared.Edit.TheVariants.{Link as SetLink}
@@ -40,7 +37,6 @@ use Rattle.load.specs.declared.Basic.TheVariants.{Clear}
 use Rattle.load.specs.declared.Family.{Family}
 use Rattle.load.specs.declared.Family.TheVariants.{Primary, Augments, Basic as Basically}
 use Rattle.load.specs.declared.Heard.{Heard}
-use Rattle.load.specs.declared.Named.TheVariants.{Name as IsNamed}
 use Rattle.load.specs.declared.Numbers.{Numbers}
 use Rattle.load.specs.declared.Outcome.{Outcome}
 use Rattle.load.specs.declared.Outcome.TheVariants.{Obeyed}
@@ -62,17 +58,19 @@ use Rattle.theorem_translated.proofs.Unlinked.{cue_slot, OpenBare, not_open, ste
 use Rattle.theorem_translated.proofs.Links.{cue_heard, links_keep, link_edit, edit_size, edit_long, slot_there, translated_linked}
 use Rattle.theorem_translated.proofs.AlikeSlots.{link_to, linked_by, AskedFits, Alike, slot_past}
 use Rattle.theorem_translated.proofs.AlikeSteps.{number_borne, number_most, on_first, next_first, FieldsSaid, StepsAlike, record_alike}
+use Rattle.value.specs.declared.NumberError.{NumberError}
+use Rattle.value.specs.declared.NumberError.TheVariants.{Malformed as BadNumber, TooLarge}
 
 -- ---- what is said of the records of a normal load, from some on; b are the numbers that the load with translation has got to
 record Reads (d : Desk) (n : ℕ) (b : Numbers) (s : State) (v : List ℕ) (rs : List (List ℕ)) : Type 0 where
   named : (k : Kind) (i : ℕ) → i < length (run_from d n s v rs).outcomes → begins (get_or rs i []) ≡ Primary k
-      → named_of d k (tail_of (fields_of (get_or rs i []))) ≡ IsNamed (on_first (accepted_of b k + primaries_in k (take i rs)))
+      → named_of d k (tail_of (fields_of (get_or rs i []))) ≡ Ok (on_first (accepted_of b k + primaries_in k (take i rs)))
   accepted : (k : Kind) (i : ℕ) → i < length (run_from d n s v rs).outcomes → begins (get_or rs i []) ≡ Primary k
       → (record_step d (run_from d n s v (take i rs)).state (get_or rs i []) (run_from d n s v (take i rs)).store).outcome ≡ Obeyed
   unpaged : (i : ℕ) → i < length (run_from d n s v rs).outcomes → begins (get_or rs i []) ≡ Basically Clear
       → tail_of (tail_of (fields_of (get_or rs i []))) ≡ []
   numbers : (i : ℕ) → i < length (run_from d n s v rs).outcomes → begins (get_or rs i []) ≡ Augments Link
-      → (m : Number) × (number_of (head_of (tail_of (fields_of (get_or rs i [])))).chars ≡ IsNumber m)
+      → (m : Number) × (number_of (head_of (tail_of (fields_of (get_or rs i [])))).chars ≡ Ok m)
 
 module _ (d : Desk) (n : ℕ) (b : Numbers) (s : State) (v r : List ℕ) (rs : List (List ℕ)) (h : Reads d n b s v (r ∷ rs)) where
   -- the first of them
@@ -87,7 +85,7 @@ module _ (d : Desk) (n : ℕ) (b : Numbers) (s : State) (v r : List ℕ) (rs : L
   unfolding run_from primaries_in record_step ask_of
   head_said t =
       record {
-        named = λ k e. h.named k 0 first_read e ∙ ap (λ (m : ℕ). IsNamed (on_first m)) (add-zero (accepted_of b k));
+        named = λ k e. h.named k 0 first_read e ∙ ap (λ (m : ℕ). Ok (on_first m)) (add-zero (accepted_of b k));
         accepted = λ k e. sym (ap (λ (a : Ask). (acted d s v a).outcome) (cond-false (is_over_long r) _ _ t)) ∙ h.accepted k 0 first_read e;
         unpaged = λ e. h.unpaged 0 first_read e;
         numbers = λ e. h.numbers 0 first_read e;
@@ -113,7 +111,7 @@ module _ (d : Desk) (n : ℕ) (b : Numbers) (s : State) (v r : List ℕ) (rs : L
           named =
               λ k i l q.
               h.named k (suc i) (next_read i l) q
-              ∙ ap (λ (m : ℕ). IsNamed (on_first m)) (counted (is_primary k (begins r)) (accepted_of b k) (primaries_in k (take i rs)) (accepted_of c k) (e k));
+              ∙ ap (λ (m : ℕ). Ok (on_first m)) (counted (is_primary k (begins r)) (accepted_of b k) (primaries_in k (take i rs)) (accepted_of c k) (e k));
           accepted =
               λ k i l q.
               sym (ap (λ (z : Run). (record_step d z.state (get_or rs i []) z.store).outcome) (goes_on (take i rs)))
@@ -159,13 +157,13 @@ one_numbered k b anew r x t h =
 abbrev Bornes : ℕ → List ℕ → Type 0
 Bornes c bs = (l : ℕ) → l < length bs → (get_or bs l 0 ≡ (c + l + 1) * fraction_span) × (c + l + 1 ≤ whole_max)
 
-cue_named : (t : List ℕ) (m : ℕ) (x : Numbered) → number_of t ≡ x → (w z : Word) (q : Paged) → named_by (numbered_by w x) z q ≡ IsNamed (on_first m)
+cue_named : (t : List ℕ) (m : ℕ) (x : Result Number NumberError) → number_of t ≡ x → (w z : Word) (q : Option ℕ) → named_by (numbered_by w x) z q ≡ Ok (on_first m)
     → (borne_of t ≡ (m + 1) * fraction_span) × (m + 1 ≤ whole_max)
 unfolding named_by numbered_by
-cue_named t m BadNumber e w z q h = absurd (let i : ◌≡◌ {A = ℕ} 0 1 = cc in omega arith)
-cue_named t m TooLarge e w z q h = absurd (let i : ◌≡◌ {A = ℕ} 0 1 = cc in omega arith)
-cue_named t m (IsNumber n) e w z Bad h = absurd (let i : ◌≡◌ {A = ℕ} 0 1 = cc in omega arith)
-cue_named t m (IsNumber n) e w z (IsPage p) h =
+cue_named t m (Err BadNumber) e w z q h = absurd (let i : ◌≡◌ {A = ℕ} 0 1 = cc in omega arith)
+cue_named t m (Err TooLarge) e w z q h = absurd (let i : ◌≡◌ {A = ℕ} 0 1 = cc in omega arith)
+cue_named t m (Ok n) e w z None h = absurd (let i : ◌≡◌ {A = ℕ} 0 1 = cc in omega arith)
+cue_named t m (Ok n) e w z (Some p) h =
     let y : record { page = p; whole = n.whole; fraction = n.fraction } ≡ on_first m = cc in
     let a : n.whole ≡ m + 1 = ap (λ (k : Key). k.whole) y in
     let c : n.fraction ≡ 0 = ap (λ (k : Key). k.fraction) y in
@@ -173,7 +171,7 @@ cue_named t m (IsNumber n) e w z (IsPage p) h =
     let l = number_most t n e in
     (omega arith, omega arith)
 
-bore_named : (d : Desk) (ws : List Word) (m : ℕ) → named_of d Cue ws ≡ IsNamed (on_first m)
+bore_named : (d : Desk) (ws : List Word) (m : ℕ) → named_of d Cue ws ≡ Ok (on_first m)
     → (borne_of (head_of ws).chars ≡ (m + 1) * fraction_span) × (m + 1 ≤ whole_max)
 unfolding named_of numeral_of
 bore_named d ws m h = cue_named (head_of ws).chars m (number_of (head_of ws).chars) refl _ _ _ h
@@ -377,7 +375,7 @@ module _ (d : Desk) (t stream : List ℕ) (ready : Ready d t) (h : AsNumbered d 
       record {
         named =
             λ k i l e.
-            h.named k i l e ∙ ap (λ (m : ℕ). IsNamed (on_first m)) (sym (none_yet k (primaries_in k (take i (records_of stream)))));
+            h.named k i l e ∙ ap (λ (m : ℕ). Ok (on_first m)) (sym (none_yet k (primaries_in k (take i (records_of stream)))));
         accepted = h.accepted;
         unpaged = h.unpaged;
         numbers = h.numbers;

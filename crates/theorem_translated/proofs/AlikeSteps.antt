@@ -1,6 +1,7 @@
 -- A record that both loads take alike: it comes to the same in both, and leaves the stores as they were but for links. By what its keyword begins: a
 -- primary opens the memory that it names, a LINK is set in one load and asked for in the other, and any other record asks for the same in both.
 -- Assumes nothing.
+use Rattle.std.specs.Prelude.{Err, None, Ok, Option, Result, Some}
 use mathlib.Core.Path.{◌≡◌, refl, sym, ap, ◌∙◌, subst}
 use mathlib.Core.Bool.{true, false, cond, ◌&&◌}
 use mathlib.Core.List.{List, [], ◌∷◌}
@@ -25,13 +26,7 @@ use Rattle.text_fields.specs.declared.Item.{Item}
 use Rattle.text_fields.specs.declared.Item.TheVariants.{All, Cues, Groups, Patch as Patches, Subs, Local as LocalItem, Other as OtherItem}
 use Rattle.text_fields.specs.Words.{Word, fields_of, head_of, tail_of}
 use Rattle.text_fields.specs.Keywords.{keyword_of, item_of}
-use Rattle.value.specs.declared.Integer.{Integer}
-use Rattle.value.specs.declared.Integer.TheVariants.{Malformed, Value}
 use Rattle.value.specs.declared.Number.{Number}
-use Rattle.value.specs.declared.Numbered.{Numbered}
-use Rattle.value.specs.declared.Numbered.TheVariants.{Malformed as BadNumber, TooLarge, Value as IsNumber}
-use Rattle.value.specs.declared.Paged.{Paged}
-use Rattle.value.specs.declared.Paged.TheVariants.{Bad, Value as IsPage}
 use Rattle.value.specs.Integer.{cap, integer_of}
 use Rattle.value.specs.Parts.{point, cut_at, before, decimals_of}
 use Rattle.value.specs.Number.{whole_max, fraction_digits, fraction_max, fraction_span, number, numbered_of, number_of, borne_by, borne_of}
@@ -53,14 +48,11 @@ use Rattle.load.specs.declared.Family.{Family}
 use Rattle.load.specs.declared.Family.TheVariants.{Primary, Augments, Basic as Basically}
 use Rattle.load.specs.declared.Heard.{Heard}
 use Rattle.load.specs.declared.Heard.TheVariants.{Other, Accepted}
-use Rattle.load.specs.declared.Named.TheVariants.{Name as IsNamed}
 use Rattle.load.specs.declared.Numbers.{Numbers}
 use Rattle.load.specs.declared.Open.{Open}
 use Rattle.load.specs.declared.Open.TheVariants.{Nothing, Skipping, Memory}
 use Rattle.load.specs.declared.Outcome.{Outcome}
 use Rattle.load.specs.declared.Outcome.TheVariants.{Blank, Dropped, Obeyed, Stopped}
-use Rattle.load.specs.declared.Reading.{Reading}
-use Rattle.load.specs.declared.Reading.TheVariants.{Wrong as Misread, Change}
 use Rattle.load.specs.declared.Secondary.{Secondary}
 use Rattle.load.specs.declared.Secondary.TheVariants.{Chan, Up, Down, Followon, Link}
 use Rattle.load.specs.declared.State.{State}
@@ -83,39 +75,43 @@ use Rattle.load.proofs.Anew.{heard_long}
 use Rattle.theorem_translated.proofs.Unlinked.{SetsNone, OpenBare, deed_none, secondary_none, not_obeyed}
 use Rattle.theorem_translated.proofs.AlikeSlots.{link_to, linked_by, AskedFits, asked_fits, Alike, alike_find, alike_seat, put_alike, edit_alike}
 use Rattle.theorem_translated.proofs.AlikeSlots.{link_alike, patch_alike, clear_patch_alike, clear_alike}
+use Rattle.store.specs.declared.Edit.{Edit}
+use Rattle.load.specs.declared.Fault.{Fault}
+use Rattle.value.specs.declared.NumberError.{NumberError}
+use Rattle.value.specs.declared.NumberError.TheVariants.{TooLarge, Malformed as BadNumber}
 
 -- ---- a number that is read is borne by its value
-parts_borne : (i j : Integer) (n : Number) → numbered_of i j ≡ IsNumber n → borne_by i j ≡ n.whole * fraction_span + n.fraction
+parts_borne : (i j : Option ℕ) (n : Number) → numbered_of i j ≡ Ok n → borne_by i j ≡ n.whole * fraction_span + n.fraction
 unfolding numbered_of
-parts_borne Malformed j n e = absurd (let z : ◌≡◌ {A = ℕ} 0 1 = cc in omega arith)
-parts_borne (Value w) Malformed n e = absurd (let z : ◌≡◌ {A = ℕ} 0 1 = cc in omega arith)
-parts_borne (Value w) (Value g) n e =
+parts_borne None j n e = absurd (let z : ◌≡◌ {A = ℕ} 0 1 = cc in omega arith)
+parts_borne (Some w) None n e = absurd (let z : ◌≡◌ {A = ℕ} 0 1 = cc in omega arith)
+parts_borne (Some w) (Some g) n e =
     by_bool (ltb whole_max w)
-    (λ t. no_number_lem (sym (cond-true (ltb whole_max w) TooLarge _ t) ∙ e))
+    (λ t. no_number_lem (sym (cond-true (ltb whole_max w) (Err TooLarge) _ t) ∙ e))
     (λ t.
     by_bool (eqb (w + g) 0)
-    (λ z. no_format (sym (cond-false (ltb whole_max w) TooLarge _ t ∙ cond-true (eqb (w + g) 0) BadNumber _ z) ∙ e))
+    (λ z. no_format (sym (cond-false (ltb whole_max w) (Err TooLarge) _ t ∙ cond-true (eqb (w + g) 0) (Err BadNumber) _ z) ∙ e))
     (λ z.
-    let q : IsNumber (number w g) ≡ IsNumber n =
-    sym (cond-false (ltb whole_max w) TooLarge _ t ∙ cond-false (eqb (w + g) 0) BadNumber (IsNumber (number w g)) z) ∙ e in
+    let q : Ok (number w g) ≡ Ok n =
+    sym (cond-false (ltb whole_max w) (Err TooLarge) _ t ∙ cond-false (eqb (w + g) 0) (Err BadNumber) (Ok (number w g)) z) ∙ e in
     let l : w ≤ whole_max = ltb-false whole_max w t in
     borne_good {w = w} {f = g} refl refl (omega arith)
     ∙ ap (λ (x : Number). x.whole * fraction_span + x.fraction) (number_inj q)))
   where
-    no_number_lem : {X : Type 0} → TooLarge ≡ IsNumber n → X
+    no_number_lem : {X : Type 0} → ◌≡◌ {A = Result Number NumberError} (Err TooLarge) (Ok n) → X
     no_number_lem q = absurd (let z : ◌≡◌ {A = ℕ} 0 1 = cc in omega arith)
 
-    no_format : {X : Type 0} → BadNumber ≡ IsNumber n → X
+    no_format : {X : Type 0} → ◌≡◌ {A = Result Number NumberError} (Err BadNumber) (Ok n) → X
     no_format q = absurd (let z : ◌≡◌ {A = ℕ} 0 1 = cc in omega arith)
 
-    number_inj : {a c : Number} → IsNumber a ≡ IsNumber c → a ≡ c
+    number_inj : {a c : Number} → ◌≡◌ {A = Result Number NumberError} (Ok a) (Ok c) → a ≡ c
     number_inj q = cc
 
-pub number_borne : (t : List ℕ) (n : Number) → number_of t ≡ IsNumber n → borne_of t ≡ n.whole * fraction_span + n.fraction
+pub number_borne : (t : List ℕ) (n : Number) → number_of t ≡ Ok n → borne_of t ≡ n.whole * fraction_span + n.fraction
 unfolding number_of borne_of
 number_borne t n e = parts_borne (integer_of (before (cut_at point t) t)) (decimals_of fraction_digits t (cut_at point t)) n e
 
-pub number_most : (t : List ℕ) (n : Number) → number_of t ≡ IsNumber n → (n.whole ≤ whole_max) × (n.fraction ≤ fraction_max)
+pub number_most : (t : List ℕ) (n : Number) → number_of t ≡ Ok n → (n.whole ≤ whole_max) × (n.fraction ≤ fraction_max)
 number_most t n e = let o = ok_number_lem n.whole n.fraction (subst NumberOk e (number_ok t)) in (o.1, o.2)
 
 -- ---- the number of a memory on page 1 is the next one
@@ -201,15 +197,15 @@ module _ (d : Desk) (asked : List ℕ) (f : AskedFits d asked) where
       record { state = settle_alike s s.«open» (wiped d xs u) (wiped d xs v) z; outcome = refl; faults = refl; fits = f; stores = z }
 
 -- ---- records but primaries open nothing
-change_shut : (n : Name) (x : Reading) → NotOpens (change_ask n x)
+change_shut : (n : Name) (x : Result Edit Fault) → NotOpens (change_ask n x)
 unfolding change_ask
-change_shut n (Misread g) = tt
-change_shut n (Change e) = tt
+change_shut n (Err g) = tt
+change_shut n (Ok e) = tt
 
-paged_shut : (w : Word) (x : Paged) (g : ℕ → List Wipe) → NotOpens (paged_ask w x g)
+paged_shut : (w : Word) (x : Option ℕ) (g : ℕ → List Wipe) → NotOpens (paged_ask w x g)
 unfolding paged_ask
-paged_shut w Bad g = tt
-paged_shut w (IsPage q) g = tt
+paged_shut w None g = tt
+paged_shut w (Some q) g = tt
 
 wipes_shut : (w : Word) (xs : List Wipe) → NotOpens (wipes_ask w xs)
 unfolding wipes_ask
@@ -217,15 +213,15 @@ wipes_shut w [] = tt
 wipes_shut w (x ∷ xs) = tt
 
 module _ (d : Desk) where
-  tables_shut : (w : Word) (x : Paged) → NotOpens (tables_ask d w x)
+  tables_shut : (w : Word) (x : Option ℕ) → NotOpens (tables_ask d w x)
   unfolding tables_ask
-  tables_shut w Bad = tt
-  tables_shut w (IsPage q) = wipes_shut w (all_wipes d q)
+  tables_shut w None = tt
+  tables_shut w (Some q) = wipes_shut w (all_wipes d q)
 
-  triples_shut : (w : Word) (x : Paged) (ws : List Word) → NotOpens (triples_ask d w x ws)
+  triples_shut : (w : Word) (x : Option ℕ) (ws : List Word) → NotOpens (triples_ask d w x ws)
   unfolding triples_ask
-  triples_shut w Bad ws = tt
-  triples_shut w (IsPage q) ws = tt
+  triples_shut w None ws = tt
+  triples_shut w (Some q) ws = tt
 
   kind_shut : (k : Kind) (ws : List Word) → NotOpens (kind_ask d k ws)
   unfolding kind_ask
@@ -277,10 +273,10 @@ abbrev begins_with : List Word → Family
 begins_with fs = family_of (keyword_of (head_of fs).chars)
 
 pub record FieldsSaid (d : Desk) (b : Numbers) (s : State) (v : List ℕ) (fs : List Word) : Type 0 where
-  pub named : (k : Kind) → begins_with fs ≡ Primary k → named_of d k (tail_of fs) ≡ IsNamed (on_first (accepted_of b k))
+  pub named : (k : Kind) → begins_with fs ≡ Primary k → named_of d k (tail_of fs) ≡ Ok (on_first (accepted_of b k))
   pub accepted : (k : Kind) → begins_with fs ≡ Primary k → (acted d s v (fields_ask d s fs)).outcome ≡ Obeyed
   pub unpaged : begins_with fs ≡ Basically Clear → tail_of (tail_of fs) ≡ []
-  pub numbers : begins_with fs ≡ Augments Link → (n : Number) × (number_of (head_of (tail_of fs)).chars ≡ IsNumber n)
+  pub numbers : begins_with fs ≡ Augments Link → (n : Number) × (number_of (head_of (tail_of fs)).chars ≡ Ok n)
 
 -- what the cue of a slot asked for, when it starts afresh
 record Fresh (d : Desk) (asked after : List ℕ) (i : ℕ) : Type 0 where
@@ -374,7 +370,7 @@ module _ (d : Desk) (asked : List ℕ) (f : AskedFits d asked) where
       seated (at i) e h = (i, sym (alike_seat d asked u v f p (name k y)) ∙ e)
       seated nowhere e h = absurd ((dropped_idles (blame_none (full_of k))).0 h)
 
-    primary_goes : (k : Kind) (w : Word) (ws : List Word) → named_of d k ws ≡ IsNamed (on_first (accepted_of b k))
+    primary_goes : (k : Kind) (w : Word) (ws : List Word) → named_of d k ws ≡ Ok (on_first (accepted_of b k))
         → (acted d s v (primary_ask d k w ws)).outcome ≡ Obeyed → Goes (anew_primary_ask d b k w ws) (primary_ask d k w ws) (family_heard (Primary k) ws)
     unfolding primary_ask anew_primary_ask next_named named_ask acted
     primary_goes k w ws e h =
@@ -398,7 +394,7 @@ module _ (d : Desk) (asked : List ℕ) (f : AskedFits d asked) where
         (sym (ap (λ (x : Ask). (acted d s v x).outcome) (cond-false (supported d k) _ _ t)) ∙ h)))
 
     -- ---- a secondary
-    linked_goes : s.«open» ≡ Memory Cue → (ws : List Word) (n : Number) → number_of (head_of ws).chars ≡ IsNumber n
+    linked_goes : s.«open» ≡ Memory Cue → (ws : List Word) (n : Number) → number_of (head_of ws).chars ≡ Ok n
         → Goes (rests Obeyed) (edits (name Cue s.key) (SetLink n.whole n.fraction)) (family_heard (Augments Link) ws)
     unfolding acted family_heard is_obeyed is_link asked_at slot_by on_found first_slot slot_count
     linked_goes q ws n e =
@@ -428,7 +424,7 @@ module _ (d : Desk) (asked : List ℕ) (f : AskedFits d asked) where
         }
 
     link_goes : (o : Open) → s.«open» ≡ o → (e : Secondary) → asks_link o e ≡ true → (w : Word) (ws : List Word)
-        → (e ≡ Link → (n : Number) × (number_of (head_of ws).chars ≡ IsNumber n))
+        → (e ≡ Link → (n : Number) × (number_of (head_of ws).chars ≡ Ok n))
         → Goes (rests Obeyed) (secondary_ask d s.key o e w ws) (family_heard (Augments e) ws)
     unfolding secondary_ask links_in is_link has_link augments obeyed_ask times_of change_ask link_by numbered_by
     link_goes Nothing q e t w ws h = clash t refl
@@ -442,10 +438,10 @@ module _ (d : Desk) (asked : List ℕ) (f : AskedFits d asked) where
     link_goes (Memory Cue) q Link t w ws h =
         let x = h refl in
         let g : Outcome → Heard = family_heard (Augments Link) ws in
-        turned g g refl (ap (λ (z : Numbered). change_ask (name Cue s.key) (link_by (numbered_by (head_of ws) z))) x.1) (λ o. refl)
+        turned g g refl (ap (λ (z : Result Number NumberError). change_ask (name Cue s.key) (link_by (numbered_by (head_of ws) z))) x.1) (λ o. refl)
         (linked_goes q ws x.0 x.1)
 
-    secondary_goes : (e : Secondary) (w : Word) (ws : List Word) → (e ≡ Link → (n : Number) × (number_of (head_of ws).chars ≡ IsNumber n))
+    secondary_goes : (e : Secondary) (w : Word) (ws : List Word) → (e ≡ Link → (n : Number) × (number_of (head_of ws).chars ≡ Ok n))
         → Goes (cond (asks_link s.«open» e) (rests Obeyed) (secondary_ask d s.key s.«open» e w ws))
         (secondary_ask d s.key s.«open» e w ws) (family_heard (Augments e) ws)
     unfolding family_heard

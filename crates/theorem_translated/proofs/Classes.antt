@@ -2,6 +2,7 @@
 -- primary, a LINK in an open cue and CLEAR ask for anything else than in a normal load; each other record comes to the same. Of a load by
 -- induction on the records.
 -- Assumes nothing.
+use Rattle.std.specs.Prelude.{Err, Ok, Result}
 use mathlib.Core.Path.{◌≡◌, refl, sym, ap, ◌∙◌, subst}
 use mathlib.Core.Bool.{Bool, true, false, cond}
 use mathlib.Core.List.{List, [], ◌∷◌}
@@ -25,8 +26,6 @@ use Rattle.load.specs.declared.Basic.TheVariants.{Clear, Passed as PassedBasic, 
 use Rattle.load.specs.declared.Family.{Family}
 use Rattle.load.specs.declared.Family.TheVariants.{Primary, Augments, Basic as Basically}
 use Rattle.load.specs.declared.Fault.{Fault}
-use Rattle.load.specs.declared.Named.{Named}
-use Rattle.load.specs.declared.Named.TheVariants.{Refused as NotNamed, Name as IsNamed}
 use Rattle.load.specs.declared.Numbers.{Numbers}
 use Rattle.load.specs.declared.Outcome.{Outcome}
 use Rattle.load.specs.declared.Outcome.TheVariants.{Blank, Dropped, Obeyed}
@@ -69,7 +68,7 @@ module _ (d : Desk) (s : State) (t : List ℕ) where
       let y : Key = next_key d k (accepted_of b k) in
       by_test (λ (a : Ask). Neither (acted d s t a).outcome) (supported d k) (named_ask k (next_named d b k ws)) (skips (Dropped (blame w (unsupported_of k))))
       (λ e.
-      by_test (λ (x : Named). Neither (acted d s t (named_ask k x)).outcome) (leb y.page (pages_of d k)) (IsNamed y) (NotNamed (beyond_of k (head_of ws)))
+      by_test (λ (x : Result Key Fault). Neither (acted d s t (named_ask k x)).outcome) (leb y.page (pages_of d k)) (Ok y) (Err (beyond_of k (head_of ws)))
       (λ h. opened_neither k y (seat d t (name k y)))
       (λ h. dropped_neither (beyond_of k (head_of ws))))
       (λ e. dropped_neither (blame w (unsupported_of k)))

@@ -1,6 +1,7 @@
 -- An accepted primary has the number that comes after those accepted before it, and its memory is kept afresh. By what the record's keyword
 -- begins, and by induction on the records. No number is given twice: it is told from its page and its place there.
 -- Assumes nothing.
+use Rattle.std.specs.Prelude.{Err, Ok, Result}
 use mathlib.Core.Path.{◌≡◌, refl, sym, ap, ◌∙◌, subst}
 use mathlib.Core.Bool.{Bool, true, false, cond, ◌&&◌}
 use mathlib.Core.List.{List, [], ◌∷◌}
@@ -31,8 +32,6 @@ use Rattle.load.specs.declared.Family.{Family}
 use Rattle.load.specs.declared.Family.TheVariants.{Primary, Augments, Basic as Basically}
 use Rattle.load.specs.declared.Heard.{Heard}
 use Rattle.load.specs.declared.Heard.TheVariants.{Other, Accepted, Refused, Link as Asked}
-use Rattle.load.specs.declared.Named.{Named}
-use Rattle.load.specs.declared.Named.TheVariants.{Refused as NotNamed, Name as IsNamed}
 use Rattle.load.specs.declared.Numbers.{Numbers}
 use Rattle.load.specs.declared.Outcome.{Outcome}
 use Rattle.load.specs.declared.Outcome.TheVariants.{Dropped, Obeyed}
@@ -49,6 +48,7 @@ use Rattle.load.proofs.Anew.{next_named_ok}
 use Rattle.load.proofs.Steps.{run_in_ready}
 use Rattle.theorem_told.specs.Classes.{begins}
 use Rattle.theorem_translated.specs.Numbered.{numbers_by, first_run, numbers_at, record_at, is_primary, is_accepted, accepted_in, key_at, AllNumbered, AllPrimaries, NotTwice}
+use Rattle.load.specs.declared.Fault.{Fault}
 
 -- ---- no number twice
 pub not_twice : (d : Desk) (k : Kind) → NotTwice d k
@@ -218,8 +218,8 @@ module _ (d : Desk) (b : Numbers) (t : List ℕ) (k : Kind) (s : State) where
       → Opens (acted d s t (named_ask k (next_named d b k ws)))
   unfolding next_named named_ask acted
   named_opens ws =
-      by_test (λ (x : Named). NamedOk d k x → (acted d s t (named_ask k x)).outcome ≡ Obeyed → Opens (acted d s t (named_ask k x)))
-      (leb next.page (pages_of d k)) (IsNamed next) (NotNamed (beyond_of k (head_of ws)))
+      by_test (λ (x : Result Key Fault). NamedOk d k x → (acted d s t (named_ask k x)).outcome ≡ Obeyed → Opens (acted d s t (named_ask k x)))
+      (leb next.page (pages_of d k)) (Ok next) (Err (beyond_of k (head_of ws)))
       (λ e o h. seat_opens o (seat d t (name k next)) refl h)
       (λ e o h. absurd ((dropped_idles (beyond_of k (head_of ws))).0 h))
 

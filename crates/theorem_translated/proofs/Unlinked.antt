@@ -1,6 +1,7 @@
 -- While its records are read, a load with translation sets no link: a cue that asked for one has none until the load ends. By what each record asks
 -- for, and by induction on the records: what is open was started afresh, and so was every cue that asked.
 -- Assumes nothing.
+use Rattle.std.specs.Prelude.{None, Ok, Option, Some}
 use mathlib.Core.Path.{◌≡◌, refl, sym, ap, ◌∙◌, subst}
 use mathlib.Core.Bool.{Bool, true, false, cond, ◌&&◌}
 use mathlib.Core.Logic.{◌⊎◌, inl, inr, ⊎_elim}
@@ -28,8 +29,6 @@ use Rattle.store_head.proofs.Laws.{length-encode_patch}
 use Rattle.text_records.specs.Stream.{records_of}
 use Rattle.text_fields.specs.Words.{Word, fields_of, head_of, tail_of}
 use Rattle.text_fields.specs.Keywords.{keyword_of, item_of}
-use Rattle.value.specs.declared.Timed.{Timed}
-use Rattle.value.specs.declared.Timed.TheVariants.{Malformed as BadTime, Value as IsTime}
 use Rattle.value.specs.Time.{time_of}
 use Rattle.store.specs.declared.Edit.{Edit}
 use Rattle.store.specs.declared.Edit.TheVariants.{Up as SetUp, Down as SetDown, Followon as SetFollowon, Link as SetLink, Level as SetLevel}
@@ -56,7 +55,6 @@ use Rattle.load.specs.declared.Heard.{Heard}
 use Rattle.load.specs.declared.Heard.TheVariants.{Other, Accepted, Refused, Link as Asked}
 use Rattle.load.specs.declared.Numbers.{Numbers}
 use Rattle.load.specs.declared.Outcome.TheVariants.{Dropped, Obeyed}
-use Rattle.load.specs.declared.Reading.TheVariants.{Change}
 use Rattle.load.specs.declared.Secondary.{Secondary}
 use Rattle.load.specs.declared.Secondary.TheVariants.{Chan, Up, Down, Followon, Link}
 use Rattle.load.specs.Condition.{wrong_secondary}
@@ -374,17 +372,17 @@ module _ (d : Desk) where
   deed_none (patching p w es f l) = tt
   deed_none (clearing xs f) = tt
 
-  fade_none : (f : ℕ → ℕ → Edit) → ((a c : ℕ) → NoLink (f a c)) → (n : Name) (v w : Word) (a c : Timed)
-      → SetsNone (change_ask n (on_time v a (λ fade. on_time w c (λ delay. Change (f fade delay)))))
+  fade_none : (f : ℕ → ℕ → Edit) → ((a c : ℕ) → NoLink (f a c)) → (n : Name) (v w : Word) (a c : Option ℕ)
+      → SetsNone (change_ask n (on_time v a (λ fade. on_time w c (λ delay. Ok (f fade delay)))))
   unfolding on_time change_ask
-  fade_none f h n v w BadTime c = tt
-  fade_none f h n v w (IsTime a) BadTime = tt
-  fade_none f h n v w (IsTime a) (IsTime c) = h a c
+  fade_none f h n v w None c = tt
+  fade_none f h n v w (Some a) None = tt
+  fade_none f h n v w (Some a) (Some c) = h a c
 
-  follow_none : (n : Name) (w : Word) (a : Timed) → SetsNone (change_ask n (on_time w a (λ t. Change (SetFollowon t))))
+  follow_none : (n : Name) (w : Word) (a : Option ℕ) → SetsNone (change_ask n (on_time w a (λ t. Ok (SetFollowon t))))
   unfolding on_time change_ask
-  follow_none n w BadTime = tt
-  follow_none n w (IsTime a) = tt
+  follow_none n w None = tt
+  follow_none n w (Some a) = tt
 
   obeyed_none : (k : Kind) (n : Name) (e : Secondary) → (has_link k && is_link e) ≡ false → augments k e ≡ true → (ws : List Word) → SetsNone (obeyed_ask d n e ws)
   unfolding obeyed_ask times_of fade_of augments is_link

@@ -1,16 +1,14 @@
 -- When both loads come to the same (paper 02, C-13; §6.4): a stream that numbers its memories as the load with translation would.
 -- Assumes nothing.
-use Rattle.std.specs.Prelude.{false, cond, ◌≡◌, List, [], ◌∷◌, ℕ, suc, ◌+◌, ◌<◌, length, take}
+use Rattle.std.specs.Prelude.{false, cond, ◌≡◌, List, [], ◌∷◌, ℕ, suc, ◌+◌, ◌<◌, length, take, Ok}
 use Rattle.store_desk.specs.declared.Desk.{Desk}
 use Rattle.store_desk.specs.declared.Kind.{Kind}
 use Rattle.text_records.specs.Stream.{records_of}
 use Rattle.text_fields.specs.Words.{fields_of, head_of, tail_of}
 use Rattle.value.specs.declared.Number.{Number}
-use Rattle.value.specs.declared.Numbered.TheVariants.{Value as IsNumber}
 use Rattle.value.specs.Number.{number_of}
 use Rattle.load.specs.declared.Basic.TheVariants.{Clear}
 use Rattle.load.specs.declared.Family.TheVariants.{Primary, Augments, Basic as Basically}
-use Rattle.load.specs.declared.Named.TheVariants.{Name as IsNamed}
 use Rattle.load.specs.declared.Outcome.TheVariants.{Obeyed}
 use Rattle.load.specs.declared.Secondary.TheVariants.{Link}
 use Rattle.load.specs.Ask.{named_of}
@@ -29,11 +27,11 @@ primaries_in k (r ∷ rs) = let n = primaries_in k rs in cond (is_primary k (beg
 pub record AsNumbered (d : Desk) (t stream : List ℕ) : Type 0 where
   pub named : (k : Kind) (i : ℕ) → i < length (load_of d t stream).outcomes → begins (record_at stream i) ≡ Primary k
       → named_of d k (tail_of (fields_of (record_at stream i)))
-      ≡ IsNamed (record { page = 1; whole = primaries_in k (take i (records_of stream)) + 1; fraction = 0 })
+      ≡ Ok (record { page = 1; whole = primaries_in k (take i (records_of stream)) + 1; fraction = 0 })
   pub accepted : (k : Kind) (i : ℕ) → i < length (load_of d t stream).outcomes → begins (record_at stream i) ≡ Primary k
       → (step_at d t stream i).outcome ≡ Obeyed
   pub unpaged : (i : ℕ) → i < length (load_of d t stream).outcomes → begins (record_at stream i) ≡ Basically Clear
       → tail_of (tail_of (fields_of (record_at stream i))) ≡ []
   pub numbers : (i : ℕ) → i < length (load_of d t stream).outcomes → begins (record_at stream i) ≡ Augments Link
-      → (n : Number) × (number_of (head_of (tail_of (fields_of (record_at stream i)))).chars ≡ IsNumber n)
+      → (n : Number) × (number_of (head_of (tail_of (fields_of (record_at stream i)))).chars ≡ Ok n)
   pub borne : (i : ℕ) → i < d.cues → is_lost d t stream i ≡ false

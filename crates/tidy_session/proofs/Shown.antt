@@ -1,6 +1,7 @@
 -- What `write` answers for a store of the house small desk, given 65,535 bytes of the output: the stream, or R6 with the length needed, and no
 -- other answer. The store is in good form, and its stream is never as long as R5 asks.
 -- Assumes nothing.
+use Rattle.std.specs.Prelude.{Err, Ok, Result}
 use mathlib.Core.Path.{◌≡◌, refl, sym, ap, ◌∙◌, subst}
 use mathlib.Core.List.{List, ◌++◌}
 use Prim.Native.Nat.{ℕ, ◌+◌, ◌-◌, ◌≤◌, ◌<◌}
@@ -22,9 +23,6 @@ use Rattle.save.proofs.House.{house_short}
 use Rattle.text_room.specs.Wrote.{wrote, wrote_at}
 use Rattle.text_room.proofs.Writes.{wrote_count, wrote_as}
 use Rattle.text_room.specs.Room.{Room}
-use Rattle.show.specs.declared.Admission.TheVariants.{Admitted}
-use Rattle.show.specs.declared.Written.{Written}
-use Rattle.show.specs.declared.Written.TheVariants.{Away, Done}
 use Rattle.show.specs.Calls.{most_bytes, WriteCall, write_reply, written_as, write_by, WritePromise}
 use Rattle.show.proofs.Laws.{put_short, write_by_lem}
 use Rattle.theorem_called.proofs.Answered.{not_away, write_answers, WriteAnswered, write_answered}
@@ -61,38 +59,38 @@ back_same o at h =
     ∙ put_part o at (at + most_shown - at) (omega arith)
 
 -- ---- the answer by cases
-module _ (s o : List ℕ) (at : ℕ) (r : Ready house s) (room : at + most_shown ≤ length o) {a : Written} {ys : List ℕ}
+module _ (s o : List ℕ) (at : ℕ) (r : Ready house s) (room : at + most_shown ≤ length o) {a : Result ℕ Refusal} {ys : List ℕ}
     (e : WritePromise house s (part o at) a ys) where
-  done : {n : ℕ} → a ≡ Done n → WriteAnswered house s (part o at) n ys
-  done f = write_answered house s (part o at) (subst (λ (x : Written). WritePromise house s (part o at) x ys) f e)
+  done : {n : ℕ} → a ≡ Ok n → WriteAnswered house s (part o at) n ys
+  done f = write_answered house s (part o at) (subst (λ (x : Result ℕ Refusal). WritePromise house s (part o at) x ys) f e)
 
   -- the refusal is that of a stream that finds no room
-  no_room : {q : Refusal} → a ≡ Away q → most_shown < length (stream_of house s)
+  no_room : {q : Refusal} → a ≡ Err q → most_shown < length (stream_of house s)
       → written_as (refused q) ys ≡ written_as (refused (R6 (length (stream_of house s)))) (part o at)
   unfolding write_by
   no_room f h =
       let l : length (part o at) ≡ most_shown = part_length o at room in
-      sym (ap (λ (x : Written). written_as (write_reply x) ys) f) ∙ e ∙ sym (write_by_lem house s (part o at) Admitted (not_away house s r))
+      sym (ap (λ (x : Result ℕ Refusal). written_as (write_reply x) ys) f) ∙ e ∙ sym (write_by_lem house s (part o at) (Ok tt) (not_away house s r))
       ∙ sym (put_short (stream_of house s) (part o at) refl (house_short s) (omega arith))
 
   -- it is a refusal, and so the stream is longer than the part
-  too_long : {q : Refusal} → a ≡ Away q → most_shown < length (stream_of house s)
+  too_long : {q : Refusal} → a ≡ Err q → most_shown < length (stream_of house s)
   too_long {q} f =
       by_lt most_shown (length (stream_of house s)) (λ h. h)
       (λ h.
       let l : length (part o at) ≡ most_shown = part_length o at room in
       let w = write_answers house s (part o at) r (house_short s) (omega arith) in
-      refused_no_reply q (ap (λ (x : WriteCall). x.reply) (sym (ap (λ (x : Written). written_as (write_reply x) ys) f) ∙ e ∙ w)))
+      refused_no_reply q (ap (λ (x : WriteCall). x.reply) (sym (ap (λ (x : Result ℕ Refusal). written_as (write_reply x) ys) f) ∙ e ∙ w)))
 
-  away_room : {q : Refusal} → a ≡ Away q → q ≡ R6 (length (stream_of house s))
+  away_room : {q : Refusal} → a ≡ Err q → q ≡ R6 (length (stream_of house s))
   away_room f = refused_apart (ap (λ (x : WriteCall). x.reply) (no_room f (too_long f)))
 
   -- of the refusals R6 alone can occur, with the stream's length
-  pub never_other : {X : Type 0} {q p : Refusal} → a ≡ Away q → q ≡ p → (refusal_number p ≡ 6 → ⊥) → X
+  pub never_other : {X : Type 0} {q p : Refusal} → a ≡ Err q → q ≡ p → (refusal_number p ≡ 6 → ⊥) → X
   never_other f g h = absurd (h (ap refusal_number (sym g ∙ away_room f)))
 
   module _ {n : ℕ} where
-    pub done_most : a ≡ Done n → n ≤ most_shown
+    pub done_most : a ≡ Ok n → n ≤ most_shown
     done_most f =
         let w = done f in
         let c : n ≡ length (stream_of house s) = w.count in
@@ -100,7 +98,7 @@ module _ (s o : List ℕ) (at : ℕ) (r : Ready house s) (room : at + most_shown
         let l : length (part o at) ≡ most_shown = part_length o at room in
         omega arith
 
-    pub done_shown : a ≡ Done n → wrote (at + n) (back o at ys) ≡ wrote_at o at (shown_text s)
+    pub done_shown : a ≡ Ok n → wrote (at + n) (back o at ys) ≡ wrote_at o at (shown_text s)
     done_shown f =
         let m : n ≤ most_shown = done_most f in
         let c : n ≡ length (stream_of house s) = (done f).count in
@@ -109,7 +107,7 @@ module _ (s o : List ℕ) (at : ℕ) (r : Ready house s) (room : at + most_shown
         wrote_count o at (shown_text s) n l
         (put_front o at (at + most_shown - at) ys (shown_text s) ((done f).output ∙ ap (put (part o at) 0) (sym t)) (omega arith) (omega arith))
 
-  module _ {q : Refusal} {n : ℕ} (f : a ≡ Away q) (g : q ≡ R6 n) where
+  module _ {q : Refusal} {n : ℕ} (f : a ≡ Err q) (g : q ≡ R6 n) where
     length_is : length (stream_of house s) ≡ n
     length_is = let h : R6 n ≡ R6 (length (stream_of house s)) = sym g ∙ away_room f in cc
 

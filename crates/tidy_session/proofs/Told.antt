@@ -1,6 +1,7 @@
 -- The load into an empty house small desk is never turned away, so that `load` answers what is told: the desk is in range, zeros are in good
 -- form, and the input is short.
 -- Assumes nothing.
+use Rattle.std.specs.Prelude.{Err, Ok, Result}
 use mathlib.Core.Path.{◌≡◌, sym, ap, ◌∙◌, subst}
 use mathlib.Core.List.{List, ◌++◌}
 use Prim.Native.Nat.{ℕ, ◌+◌, ◌≤◌, ◌<◌}
@@ -21,8 +22,6 @@ use Rattle.text_room.specs.Wrote.{wrote, wrote_at}
 use Rattle.text_room.proofs.Writes.{wrote_as, wrote_then, next_is, out_is}
 use Rattle.text_room.specs.Room.{Room}
 use Rattle.text_room.proofs.Chain.{wrote-length}
-use Rattle.show.specs.declared.Loaded.{Loaded}
-use Rattle.show.specs.declared.Loaded.TheVariants.{Away, Done}
 use Rattle.show.specs.Calls.{LoadCall, load_reply, loaded_as, load_done, load_call, LoadPromise}
 use Rattle.theorem_called.proofs.Answered.{load_answers, LoadAnswered, load_answered}
 use Rattle.load.proofs.Steps.{load_ready}
@@ -53,17 +52,17 @@ module _ (stream : List ℕ) (short : length stream ≤ most_input) {s reps : Li
   pub loaded_ready : {y : Reply} → loaded_as y s reps ≡ load_call house (replicate 35136 0) (replicate 1024 0) stream → Ready house s
   loaded_ready e = subst (Ready house) (sym (ap (λ (x : LoadCall). x.store) (answered e))) (read_ready stream)
 
-  module _ {a : Loaded} (e : LoadPromise house (replicate 35136 0) (replicate 1024 0) stream a s reps) where
+  module _ {a : Result Totals Refusal} (e : LoadPromise house (replicate 35136 0) (replicate 1024 0) stream a s reps) where
     -- no refusal can occur
-    pub never_away : {X : Type 0} {r : Refusal} → a ≡ Away r → X
+    pub never_away : {X : Type 0} {r : Refusal} → a ≡ Err r → X
     never_away {X} {r} f = refused_no_reply r (sym (ap load_reply f) ∙ ap (λ (x : LoadCall). x.reply) (answered e))
 
-    pub answer_is : {t : Totals} → a ≡ Done t → told_text reps t ++ shown_text s ≡ answer_text (read_in stream)
+    pub answer_is : {t : Totals} → a ≡ Ok t → told_text reps t ++ shown_text s ≡ answer_text (read_in stream)
     unfolding read_in answer_text
     answer_is {t} f =
         let l : LoadAnswered house empty_store report_list stream t s reps =
         load_answered house empty_store report_list stream
-        (subst (λ (x : Loaded). LoadPromise house empty_store report_list stream x s reps) f (called e))
+        (subst (λ (x : Result Totals Refusal). LoadPromise house empty_store report_list stream x s reps) f (called e))
         in
         (λ i. told_text (l.list i) (l.told i) ++ shown_text (l.store i))
 

@@ -10,7 +10,6 @@ ghost use Rattle.tidy_printed.specs.Text.{told_text};
 ghost use Rattle.tidy_session.specs.Session.{shown_text, read_in, answer_text, TidyPromise};
 
 use load::Totals;
-use show::{Loaded, Written};
 use store_desk::{Desk, Refusal};
 
 // The longest input that is read, in bytes.
@@ -27,8 +26,8 @@ fn put_shown(out: &mut [u8], at: usize, store: &[u8]) -> usize
     ensures { wrote result out.new ≡ wrote_at out.old at (shown_text store.now) }
 {
     match show::write(Desk::HOUSE, store, &mut out[at..at + MOST_SHOWN]) {
-        Written::Done(n) => at + n,
-        Written::Away(refusal) => match refusal {
+        Ok(n) => at + n,
+        Err(refusal) => match refusal {
             Refusal::R6(n) => tidy_printed::put_needed(out, at, n as u32),
             Refusal::R1 => at,
             Refusal::R2 => at,
@@ -63,16 +62,16 @@ fn put_load(stream: &[u8], out: &mut [u8]) -> usize
     let mut store = [0u8; 35136];
     let mut reports = [0u64; 1024];
     match show::load(Desk::HOUSE, &mut store, stream, &mut reports) {
-        Loaded::Done(t) => put_answer(out, t, &reports, &store),
-        Loaded::Away(_) => 0,
+        Ok(t) => put_answer(out, t, &reports, &store),
+        Err(_) => 0,
     }
 }
 
 // Room for all that `tidy` can print: 17 bytes for each of the 1,024 reports that the list holds (a column of 7 bits has three digits at
 // most), 96 for the END line, and 65,535 for the stream.
 pub fn buffer() -> [u8; 83039]
-    ensures value { 83039 ≡ length result }
-    ensures value_2 { result ≡ replicate 83039 0 }
+    ensures len { 83039 ≡ length result }
+    ensures zero { result ≡ replicate 83039 0 }
 {
     [0; 83039]
 }

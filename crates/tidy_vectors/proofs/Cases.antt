@@ -1,6 +1,7 @@
 -- A session in the file, step by step as the code finds it; its parts lie within the file, and the next begins behind it. By the definitions and
 -- the bounds of records and fields.
 -- Assumes nothing.
+use Rattle.std.specs.Prelude.{None, Option, Some}
 use mathlib.Core.Path.{◌≡◌, refl, sym, ap, ◌∙◌, subst}
 use mathlib.Core.List.{List}
 use Prim.Native.Nat.{ℕ, ◌+◌, ◌-◌, ◌≤◌, ◌<◌, min}
@@ -10,14 +11,12 @@ use Rattle.text_records.specs.Stream.{record_end}
 use Rattle.text_records.proofs.Stream.{end_from_lem, end_within}
 use Rattle.text_fields.specs.declared.Field.{Field}
 use Rattle.text_fields.specs.Places.{field_at, end_at, word_in}
-use Rattle.value.specs.declared.Integer.{Integer}
-use Rattle.value.specs.declared.Integer.TheVariants.{Malformed, Value}
 use Rattle.value.specs.Integer.{integer_of}
 use Rattle.tidy_vectors.specs.declared.Case.{Case}
 use Rattle.tidy_vectors.specs.Case.{length_by, length_given, case_of, case_at}
 
 -- ---- the length
-module _ (line : List ℕ) {f g : Field} {x : List ℕ} {i : Integer} (a : f ≡ field_at line 0) (b : g ≡ field_at line f.end)
+module _ (line : List ℕ) {f g : Field} {x : List ℕ} {i : Option ℕ} (a : f ≡ field_at line 0) (b : g ≡ field_at line f.end)
     (c : x ≡ (word_in line g).chars) (e : i ≡ integer_of x) where
   length_by_lem : length_by i ≡ length_given line
   unfolding length_given
@@ -25,11 +24,11 @@ module _ (line : List ℕ) {f g : Field} {x : List ℕ} {i : Integer} (a : f ≡
       let h : g ≡ field_at line (end_at line 0) = b ∙ ap (λ (k : Field). field_at line k.end) a in
       ap length_by (e ∙ ap integer_of (c ∙ ap (λ (k : Field). (word_in line k).chars) h))
 
-  pub length_none : i ≡ Malformed → 0 ≡ length_given line
+  pub length_none : i ≡ None → 0 ≡ length_given line
   unfolding length_by
   length_none h = sym (ap length_by h) ∙ length_by_lem
 
-  pub length_value : {n r : ℕ} → i ≡ Value n → r ≡ n → r ≡ length_given line
+  pub length_value : {n r : ℕ} → i ≡ Some n → r ≡ n → r ≡ length_given line
   unfolding length_by
   length_value h k = k ∙ sym (ap length_by h) ∙ length_by_lem
 

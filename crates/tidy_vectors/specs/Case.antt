@@ -1,17 +1,15 @@
 -- A session in the file: a header line with its name and the length of its input, and then that input.
 -- Assumes nothing.
-use Rattle.std.specs.Prelude.{List, ℕ, ◌+◌, ◌-◌, min, length, take, drop}
+use Rattle.std.specs.Prelude.{List, ℕ, ◌+◌, ◌-◌, min, length, take, drop, None, Option, Some}
 use Rattle.text_records.specs.Stream.{record_end}
 use Rattle.text_fields.specs.Places.{end_at, word_at}
-use Rattle.value.specs.declared.Integer.{Integer}
-use Rattle.value.specs.declared.Integer.TheVariants.{Malformed, Value}
 use Rattle.value.specs.Integer.{integer_of}
 use Rattle.tidy_vectors.specs.declared.Case.{Case}
 
 -- a length that is no integer counts as 0
-unfoldable pub length_by : Integer → ℕ
-length_by Malformed = 0
-length_by (Value n) = n
+unfoldable pub length_by : Option ℕ → ℕ
+length_by None = 0
+length_by (Some n) = n
 
 -- the second field of a line
 unfoldable pub length_given : List ℕ → ℕ

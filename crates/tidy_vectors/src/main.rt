@@ -6,7 +6,6 @@ ghost use Rattle.std.specs.Prelude.{◌≡◌, ◌<◌, IfOk, length, replicate}
 ghost use Rattle.tidy_vectors.specs.Case.{length_given, case_at};
 
 use std::io;
-use value::Integer;
 
 // Where a session's header line ends, and where its input begins and ends.
 #[derive(Clone, Copy)]
@@ -18,8 +17,8 @@ pub struct Case {
 
 // Room for all the sessions of the file.
 fn buffer() -> [u8; 131072]
-    ensures value { 131072 ≡ length result }
-    ensures value_2 { result ≡ replicate 131072 0 }
+    ensures len { 131072 ≡ length result }
+    ensures zero { result ≡ replicate 131072 0 }
 {
     [0; 131072]
 }
@@ -31,8 +30,8 @@ fn length_in(line: &[u8]) -> usize
     let name = text_fields::field_at(line, 0);
     let count = text_fields::field_at(line, name.end);
     match value::read_integer(text_fields::word(line, count)) {
-        Integer::Malformed => 0,
-        Integer::Value(n) => cells::place(n),
+        None => 0,
+        Some(n) => cells::place(n),
     }
 }
 
@@ -42,8 +41,8 @@ fn case_at(input: &[u8], at: usize) -> Case
     ensures { result ≡ case_at input.now at }
 {
     let line = text_records::record_end(input, at);
-    let body = cells::at_most(line + 1, input.len());
-    let count = cells::at_most(length_in(&input[at..line]), input.len() - body);
+    let body = (line + 1).min(input.len());
+    let count = length_in(&input[at..line]).min(input.len() - body);
     Case {
         line,
         body,

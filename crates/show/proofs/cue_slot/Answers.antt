@@ -8,4 +8,4 @@ pub find-requires : goal.find-requires
 find-requires c = record { fitting = c.requires.fitting; key_fits = ok_fits _ _ c.requires.fitting.range (sym c.ok_name.ensures ∙ c.if-ok_name.true) }
 
 pub returns : goal.returns
-returns c = unnamed _ _ _ c.requires.store_value c.ok_name.ensures c.if-ok_name.false
+returns c = unnamed _ _ _ c.requires.good_form c.ok_name.ensures c.if-ok_name.false

@@ -7,10 +7,10 @@ use native.Mathlib.Omega.{arith}
 use Rattle.show.proofs.levels_of.Goals as goal
 
 pub levels-requires : goal.levels-requires
-levels-requires c = record { fitting = c.requires.fitting; slot_bound = find_inside _ _ _ c.cue_slot.ensures c.in-At.is }
+levels-requires c = record { fitting = c.requires.fitting; slot_bound = find_inside _ _ _ c.cue_slot.ensures c.in-Some.is }
 
-pub returns-in-At : goal.returns-in-At
-returns-in-At c = looked_at _ _ _ (place_at c.cue_slot.ensures c.in-At.is) c.levels.ensures
+pub returns-in-Some : goal.returns-in-Some
+returns-in-Some c = looked_at _ _ _ (place_at c.cue_slot.ensures c.in-Some.is) c.levels.ensures
 
-pub returns-in-Nowhere : goal.returns-in-Nowhere
-returns-in-Nowhere c = looked not_kept_word (look_none _ _ _ (place_nowhere c.cue_slot.ensures c.in-Nowhere.is)) refl refl refl (omega arith)
+pub returns-in-None : goal.returns-in-None
+returns-in-None c = looked not_kept_word (look_none _ _ _ (place_nowhere c.cue_slot.ensures c.in-None.is)) refl refl refl (omega arith)

@@ -4,10 +4,10 @@ use Rattle.store_code.proofs.Found.{place_at, place_nowhere}
 use Rattle.show_read.proofs.head_at.Goals as goal
 
 pub head_of-requires : goal.head_of-requires
-head_of-requires c = record { fitting = c.requires; slot_bound = named_inside _ _ c.slot_of.ensures c.in-At.is }
+head_of-requires c = record { fitting = c.requires; slot_bound = named_inside _ _ c.slot_of.ensures c.in_ok-slot.was }
 
-pub returns-in-At : goal.returns-in-At
-returns-in-At c = head_at_lem _ _ (place_at c.slot_of.ensures c.in-At.is) c.head_of.ensures
+pub returns : goal.returns
+returns c = head_at_lem _ _ (place_at c.slot_of.ensures c.in_ok-slot.was) c.head_of.ensures
 
-pub returns-in-Nowhere : goal.returns-in-Nowhere
-returns-in-Nowhere c = head_none _ _ (place_nowhere c.slot_of.ensures c.in-Nowhere.is)
+pub returns-in_err-slot : goal.returns-in_err-slot
+returns-in_err-slot c = rw c.from_residual.ensures (head_none _ _ (place_nowhere c.slot_of.ensures c.in_err-slot.was))

@@ -1,18 +1,21 @@
 -- `levels` meets its contract: a refusal is handed on, and otherwise `levels_at` answers.
+use Rattle.std.proofs.lemmas.Result.{err_from_is_err_and}
+use Rattle.std.specs.Prelude.{Err, Ok}
 use mathlib.Core.Path.{sym, ◌∙◌}
 use Rattle.show_read.proofs.Laws.{levels_by_lem}
 use Rattle.show_read.specs.Calls.{levels_by}
 use Rattle.show.proofs.Laws.{lent_fits}
-use Rattle.show.specs.declared.Admission.TheVariants.{Admitted, Away}
 use Rattle.show_read.proofs.levels.Goals as goal
 
 pub levels_at-requires : goal.levels_at-requires
-levels_at-requires c = (lent_fits _ _ (sym c.in-Admitted.is ∙ c.lent.ensures)).range
+levels_at-requires c = (lent_fits _ _ (sym c.in_ok-lent.was ∙ c.lent.ensures)).range
 
-pub returns-in-Away : goal.returns-in-Away
+pub returns-in_err-lent : goal.returns-in_err-lent
 unfolding levels_by
-returns-in-Away c = levels_by_lem _ _ _ (Away _) (sym c.in-Away.is ∙ c.lent.ensures)
+returns-in_err-lent c =
+    let p = err_from_is_err_and c.from_residual.result c.from_residual.ensures.1 in rw (p.1, p.2)
+    (levels_by_lem _ _ _ (Err _) (sym c.in_err-lent.was ∙ c.lent.ensures))
 
-pub returns-in-Admitted : goal.returns-in-Admitted
+pub returns : goal.returns
 unfolding levels_by
-returns-in-Admitted c = c.levels_at.ensures ∙ levels_by_lem _ _ _ Admitted (sym c.in-Admitted.is ∙ c.lent.ensures)
+returns c = c.levels_at.ensures ∙ levels_by_lem _ _ _ (Ok tt) (sym c.in_ok-lent.was ∙ c.lent.ensures)

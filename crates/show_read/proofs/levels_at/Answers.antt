@@ -5,10 +5,10 @@ use Rattle.store_code.proofs.Found.{place_at, place_nowhere}
 use Rattle.show_read.proofs.levels_at.Goals as goal
 
 pub levels_start-requires : goal.levels_start-requires
-levels_start-requires c = record { in_range = c.requires; slot_bound = named_inside _ _ c.slot_of.ensures c.in-At.is }
+levels_start-requires c = record { in_range = c.requires; slot_bound = named_inside _ _ c.slot_of.ensures c.in_ok-slot.was }
 
-pub returns-in-At : goal.returns-in-At
-returns-in-At c = placed_at_lem _ (place_at c.slot_of.ensures c.in-At.is) c.levels_start.ensures
+pub returns : goal.returns
+returns c = placed_at_lem _ (place_at c.slot_of.ensures c.in_ok-slot.was) c.levels_start.ensures
 
-pub returns-in-Nowhere : goal.returns-in-Nowhere
-returns-in-Nowhere c = placed_none _ (place_nowhere c.slot_of.ensures c.in-Nowhere.is)
+pub returns-in_err-slot : goal.returns-in_err-slot
+returns-in_err-slot c = rw c.from_residual.ensures (placed_none _ (place_nowhere c.slot_of.ensures c.in_err-slot.was))

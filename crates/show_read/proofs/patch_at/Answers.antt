@@ -8,5 +8,5 @@ patch_of-requires c = record { fitting = c.requires; on_patch = on_patch _ _ _ c
 pub returns-then-has_dimmer : goal.returns-then-has_dimmer
 returns-then-has_dimmer c = patch_at _ _ _ _ c.has_dimmer.ensures c.if-has_dimmer.true c.patch_of.ensures
 
-pub returns : goal.returns
-returns c = patch_none _ _ _ _ c.has_dimmer.ensures c.if-has_dimmer.false
+pub returns-else-has_dimmer : goal.returns-else-has_dimmer
+returns-else-has_dimmer c = patch_none _ _ _ _ c.has_dimmer.ensures c.if-has_dimmer.false

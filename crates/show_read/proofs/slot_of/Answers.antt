@@ -9,5 +9,5 @@ overflow_sub-result c = omega (arith, named_some _ _ c.has_slot.ensures c.if-has
 pub returns-then-has_slot : goal.returns-then-has_slot
 returns-then-has_slot c = named_at _ _ c.has_slot.ensures c.if-has_slot.true c.place.ensures
 
-pub returns : goal.returns
-returns c = named_none _ _ c.has_slot.ensures c.if-has_slot.false
+pub returns-else-has_slot : goal.returns-else-has_slot
+returns-else-has_slot c = named_none _ _ c.has_slot.ensures c.if-has_slot.false

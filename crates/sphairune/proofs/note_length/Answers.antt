@@ -1,9 +1,7 @@
--- `note_length` meets its contract: the first number is set where there is one.
-use Rattle.sphairune.proofs.Laws.{length_some, length_none}
+-- `note_length` meets its contract: one number from the front on.
+use Rattle.cells.specs.Note.{noted_from}
 use Rattle.sphairune.proofs.note_length.Goals as goal
 
-pub returns-then-list-gt0 : goal.returns-then-list-gt0
-returns-then-list-gt0 c = length_some _ _
-
-pub returns-else-list-gt0 : goal.returns-else-list-gt0
-returns-else-list-gt0 c = length_none _ _ c.if-list-gt0.false
+pub returns : goal.returns
+unfolding noted_from
+returns c = c.note.ensures

@@ -1,13 +1,13 @@
 -- `sphairune_empty` meets its contract: a refusal gives its word, and done is 0.
-use Rattle.show.specs.declared.Emptied.TheVariants.{Away, Done}
+use Rattle.std.specs.Prelude.{Err, Ok}
 use Rattle.sphairune.proofs.Laws.{answered, empty_within, empty_by_lem}
 use Rattle.sphairune.proofs.sphairune_empty.Goals as goal
 
 pub word-requires : goal.word-requires
-word-requires c = empty_within _ _ c.empty.ensures c.in-Away.is
+word-requires c = empty_within _ _ c.empty.ensures c.in-Err.is
 
-pub returns-in-Away : goal.returns-in-Away
-returns-in-Away c = answered c.word.ensures (empty_by_lem _ c.desk_of.ensures _ c.empty.ensures (Away _) c.in-Away.is)
+pub returns-in-Err : goal.returns-in-Err
+returns-in-Err c = answered c.word.ensures (empty_by_lem _ c.desk_of.ensures _ c.empty.ensures (Err _) c.in-Err.is)
 
-pub returns-in-Done : goal.returns-in-Done
-returns-in-Done c = empty_by_lem _ c.desk_of.ensures _ c.empty.ensures Done c.in-Done.is
+pub returns-in-Ok : goal.returns-in-Ok
+returns-in-Ok c = empty_by_lem _ c.desk_of.ensures _ c.empty.ensures (Ok tt) c.in-Ok.is

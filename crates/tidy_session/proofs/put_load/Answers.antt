@@ -7,8 +7,8 @@ use Rattle.tidy_session.proofs.put_load.Goals as goal
 pub put_answer-requires : goal.put_answer-requires
 put_answer-requires c = record { ready = loaded_ready _ c.requires.stream_len_bound c.load.ensures; reports_len_bound = search rules; in_bounds = search rules }
 
-pub returns-in-Done : goal.returns-in-Done
-returns-in-Done c = wrote_as _ _ (answer_is _ c.requires.stream_len_bound c.load.ensures c.in-Done.is) c.put_answer.ensures
+pub returns-in-Ok : goal.returns-in-Ok
+returns-in-Ok c = wrote_as _ _ (answer_is _ c.requires.stream_len_bound c.load.ensures c.in-Ok.is) c.put_answer.ensures
 
-pub returns-in-Away : goal.returns-in-Away
-returns-in-Away c = never_away _ c.requires.stream_len_bound c.load.ensures c.in-Away.is
+pub returns-in-Err : goal.returns-in-Err
+returns-in-Err c = never_away _ c.requires.stream_len_bound c.load.ensures c.in-Err.is

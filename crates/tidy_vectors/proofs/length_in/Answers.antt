@@ -11,10 +11,10 @@ pub word-requires : goal.word-requires
 word-requires c =
     field_fits c.args.line.now _ c.field_at-count.ensures (field_fits c.args.line.now 0 c.field_at-name.ensures (omega arith)).1
 
-pub returns-in-Malformed : goal.returns-in-Malformed
-returns-in-Malformed c =
-    length_none _ c.field_at-name.ensures c.field_at-count.ensures c.word.ensures c.read_integer.ensures c.in-Malformed.is
+pub returns-in-None : goal.returns-in-None
+returns-in-None c =
+    length_none _ c.field_at-name.ensures c.field_at-count.ensures c.word.ensures c.read_integer.ensures c.in-None.is
 
-pub returns-in-Value : goal.returns-in-Value
-returns-in-Value c =
-    length_value _ c.field_at-name.ensures c.field_at-count.ensures c.word.ensures c.read_integer.ensures c.in-Value.is c.place.ensures
+pub returns-in-Some : goal.returns-in-Some
+returns-in-Some c =
+    length_value _ c.field_at-name.ensures c.field_at-count.ensures c.word.ensures c.read_integer.ensures c.in-Some.is c.place.ensures
