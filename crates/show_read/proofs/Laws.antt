@@ -70,15 +70,16 @@ module _ (d : Desk) (s : List ℕ) (n : ℕ) (l : List ℕ) where
   pub list_kind : {k : Kind} {r : ℕ} {t : List ℕ} → kind_by n ≡ Some k → slots r t ≡ slots_in l (slot_numbers d s k)
       → listed_as (list_reply (Ok (Some r))) t ≡ kind_list d s n l
   list_kind {k} {r} {t} h f =
-      let of : {x : Kind} → Some x ≡ Some k → slots r t ≡ slots_in l (slot_numbers d s x) =
-      λ {x} e. subst (λ (y : Kind). slots r t ≡ slots_in l (slot_numbers d s y)) (sym (same_Some x k e)) f in
       by_eq n 0
-      (λ e. list_cues e (of (sym (cond-true (eqb n 0) _ _ (eq-eqb n 0 e)) ∙ h)))
+      (λ e. list_cues e (of Cue (sym (cond-true (eqb n 0) _ _ (eq-eqb n 0 e)) ∙ h)))
       (λ a. by_eq n 1
-      (λ e. list_groups a e (of (sym (cond-false (eqb n 0) _ _ (ne_eqb n 0 a) ∙ cond-true (eqb n 1) _ _ (eq-eqb n 1 e)) ∙ h)))
+      (λ e. list_groups a e (of Group (sym (cond-false (eqb n 0) _ _ (ne_eqb n 0 a) ∙ cond-true (eqb n 1) _ _ (eq-eqb n 1 e)) ∙ h)))
       (λ b. by_eq n 2
-      (λ e. list_subs a b e (of (sym (named_behind a b ∙ cond-true (eqb n 2) _ _ (eq-eqb n 2 e)) ∙ h)))
+      (λ e. list_subs a b e (of Sub (sym (named_behind a b ∙ cond-true (eqb n 2) _ _ (eq-eqb n 2 e)) ∙ h)))
       (λ c. absurd (none-some k (sym (named_behind a b ∙ cond-false (eqb n 2) _ _ (ne_eqb n 2 c)) ∙ h)))))
+    where
+      of : (x : Kind) → Some x ≡ Some k → slots r t ≡ slots_in l (slot_numbers d s x)
+      of x e = subst (λ (y : Kind). slots r t ≡ slots_in l (slot_numbers d s y)) (sym (same_Some x k e)) f
 
   pub list_no_kind : kind_by n ≡ None → listed_as (list_reply (Ok None)) l ≡ kind_list d s n l
   list_no_kind h =

@@ -89,11 +89,13 @@ fn note_placed(list: &mut [usize], placed: Result<Option<usize>, Refusal>) -> u3
 {
     match placed {
         Err(refusal) => refusal.word(),
-        Ok(None) => show::NOT_KEPT,
-        Ok(Some(at)) => {
-            note_length(list, at);
-            show::KEPT
-        }
+        Ok(place) => match place {
+            None => show::NOT_KEPT,
+            Some(at) => {
+                note_length(list, at);
+                show::KEPT
+            }
+        },
     }
 }
 

@@ -9,8 +9,8 @@ word-requires c = place_most c.requires c.in-Err.is
 pub returns-in-Err : goal.returns-in-Err
 returns-in-Err c = place_away _ c.requires c.in-Err.is c.word.ensures
 
-pub returns-in-Ok-None : goal.returns-in-Ok-None
-returns-in-Ok-None c = place_none _ (c.in-Ok-None.is ∙ ap answer c.in-Ok-None.field-0-is)
+pub returns-in-None : goal.returns-in-None
+returns-in-None c = place_none _ (c.in-Ok.is ∙ ap answer c.in-None.is)
 
-pub returns-in-Ok-Some : goal.returns-in-Ok-Some
-returns-in-Ok-Some c = place_at _ (c.in-Ok-Some.is ∙ ap answer c.in-Ok-Some.field-0-is) c.note_length.ensures
+pub returns-in-Some : goal.returns-in-Some
+returns-in-Some c = place_at _ (c.in-Ok.is ∙ ap answer c.in-Some.is) c.note_length.ensures

@@ -11,4 +11,4 @@ pub slice_bounds-length_in-end : goal.slice_bounds-length_in-end
 slice_bounds-length_in-end c = omega (arith, end_within c.args.input.now c.args.at (omega arith))
 
 pub returns : goal.returns
-returns c = case_is _ _ c.record_end-line.ensures c.at_most-body.ensures c.length_in.ensures c.at_most-count.ensures
+returns c = case_is _ _ c.record_end-line.ensures c.min-body.ensures c.length_in.ensures c.min-count.ensures
