@@ -2,7 +2,7 @@
 // kind were accepted, which CUE records were, and which number each cue's LINK asked for (paper 02, C-13); any other load notes nothing.
 #![tactic(auto)]
 
-ghost use Rattle.std.specs.Prelude.{◌≡◌, true, false, Bool, [], ℕ, ◌+◌, ◌≤◌, set};
+ghost use Rattle.std.specs.Prelude.{◌≡◌, true, false, Bool, [], ℕ, ◌+◌, refl};
 ghost use Rattle.load.specs.declared.Family.TheVariants.{Primary};
 ghost use Rattle.load.specs.declared.Heard.{Heard};
 ghost use Rattle.load.specs.declared.Heard.TheVariants.{Accepted, Refused, Link};
@@ -188,7 +188,8 @@ impl Naming for Book {
 
     ghost after = { booked_at };
 
-    ghost laws = { book_laws };
+    // A record of which nothing is heard counts for nothing.
+    ghost laws = { book_laws (λ c. unfold counted_at in refl) };
 
     fn numbers(&self) -> Numbers {
         Numbers {
