@@ -1,7 +1,7 @@
 -- Where a memory goes: the code's answers are the definitions' searches, a seat is one of the desk's slots, and the store is written there or
 -- nowhere. By cases on what was found.
 -- Assumes nothing.
-use Rattle.std.specs.Prelude.{None, Option, Some, MatchOption}
+use Rattle.std.specs.Prelude.{None, Option, Some}
 use mathlib.Core.Path.{◌≡◌, refl, sym, ap, ◌∙◌, subst}
 use mathlib.Core.Bool.{Bool, true}
 use mathlib.Core.Logic.{◌⊎◌, inl, inr}
@@ -76,15 +76,6 @@ module _ (d : Desk) (s : List ℕ) (n : Name) where
   seat_new e q r =
       let g : find d s n ≡ nowhere = place_nowhere e q in
       r ∙ ap (λ (f : Found). place_of (on_found f (λ i. at i) (new_seat d s n.kind n.key))) (sym g)
-
-  -- a search that failed over to the other
-  pub seat_or : {p q : Option ℕ} {other : Type 0} → p ≡ place_of (find d s n) → MatchOption p other (λ i. q ≡ Some i)
-      → (other → q ≡ place_of (new_seat d s n.kind n.key)) → q ≡ place_of (seat d s n)
-  seat_or {p} {q} {other} e m f = cases p e m
-    where
-      cases : (r : Option ℕ) → r ≡ place_of (find d s n) → MatchOption r other (λ i. q ≡ Some i) → q ≡ place_of (seat d s n)
-      cases (Some i) g h = h ∙ seat_kept g refl
-      cases None g h = seat_new g refl (f h)
 
   pub start_at_lem : {p : Option ℕ} {i : ℕ} {t : List ℕ} → p ≡ place_of (seat d s n) → p ≡ Some i → t ≡ put_slot d s i (blank_slot d n.key)
       → started_as (Some i) t ≡ start_of d s n

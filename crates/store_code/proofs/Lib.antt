@@ -2,4 +2,3 @@ pub mod Laws
 pub mod Word
 pub mod Found
 pub mod Ranged
-pub mod Chunks

@@ -108,7 +108,17 @@ fn slots_of_kind(desk: Desk, kind: Kind) -> Range<usize>
     first..first + store_desk::slot_count(desk, kind)
 }
 
-// The slot that keeps this memory.
+// The same of slots that lie by themselves.
+fn word_in(desk: Desk, slots: &[u8], slot: usize) -> u32
+    requires in_range { InRange desk }
+    requires slot_bound { slot < slots_of desk }
+    requires slot_in_bounds { slot * slot_length desk + slot_length desk ≤ length slots.now }
+    ensures { result ≡ slot_word desk slots.now slot }
+{
+    store_head::quick(&slots[slot_range(desk, slot)])
+}
+
+// The slot that keeps this memory. The slots of its kind are looked at as a part of the store of their own.
 pub fn find(desk: Desk, store: &[u8], kind: Kind, key: Key) -> Option<usize>
     requires fitting { Fitting desk store.now }
     requires key_fits { KeyFits key }
@@ -117,9 +127,9 @@ pub fn find(desk: Desk, store: &[u8], kind: Kind, key: Key) -> Option<usize>
     let wanted = store_head::quick_key(key.page, key.whole, key.fraction);
     let slots = slots_of_kind(desk, kind);
     let length = desk.slot_length();
-    store[slots.start * length..slots.end * length]
-        .chunks_exact(length)
-        .position(|slot| store_head::quick(slot) == wanted)
+    let part = &store[slots.start * length..slots.end * length];
+    (0..slots.end - slots.start)
+        .find(|i| word_in(desk, part, *i) == wanted)
         .map(|i| slots.start + i)
 }
 
@@ -128,7 +138,11 @@ fn lowest_unused(desk: Desk, store: &[u8], kind: Kind) -> Option<usize>
     requires { Fitting desk store.now }
     ensures { result ≡ place_of (lowest_unused desk store.now kind) }
 {
-    slots_of_kind(desk, kind).find(|slot| word_at(desk, store, *slot) < store_head::USED_WORD)
+    let slots = slots_of_kind(desk, kind);
+    let first = slots.start;
+    (0..slots.end - first)
+        .find(|i| word_at(desk, store, first + *i) < store_head::USED_WORD)
+        .map(|i| first + i)
 }
 
 // The slot for a memory that is not kept yet.
@@ -149,7 +163,10 @@ fn seat(desk: Desk, store: &[u8], kind: Kind, key: Key) -> Option<usize>
     requires key_value { ok_name desk (name_of kind key) ≡ true }
     ensures { result ≡ place_of (seat_of desk store.now (name_of kind key)) }
 {
-    find(desk, store, kind, key).or_else(|| new_seat(desk, store, kind, key))
+    match find(desk, store, kind, key) {
+        Some(slot) => Some(slot),
+        None => new_seat(desk, store, kind, key),
+    }
 }
 
 // ---- start
@@ -195,7 +212,7 @@ fn write_afresh(slot: &mut [u8], h: Head)
 {
     let (head, levels) = slot.split_at_mut(store_desk::HEAD_LENGTH);
     head.copy_from_slice(&store_head::encode(h));
-    levels.fill(0);
+    cells::fill(levels, 0);
 }
 
 // A slot becomes a memory of this key, afresh.
@@ -376,7 +393,7 @@ fn zero(store: &mut [u8], at: usize, count: usize)
     requires { at + count ≤ length store.old }
     ensures { store.new ≡ put store.old at (replicate count 0) }
 {
-    store[at..at + count].fill(0);
+    cells::fill(&mut store[at..at + count], 0);
 }
 
 fn zero_slot(desk: Desk, store: &mut [u8], slot: usize)
@@ -384,7 +401,7 @@ fn zero_slot(desk: Desk, store: &mut [u8], slot: usize)
     requires slot_bound { slot < slots_of desk }
     ensures { store.new ≡ put_slot desk store.old slot (replicate (slot_length desk) 0) }
 {
-    store[slot_range(desk, slot)].fill(0);
+    zero(store, slot_range(desk, slot).start, desk.slot_length());
 }
 
 // Slots that are not hit are left alone.

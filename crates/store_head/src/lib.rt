@@ -145,12 +145,12 @@ pub fn encode(h: Head) -> [u8; 24]
     bytes
 }
 
-// Three bytes as a number.
+// Three bytes as a number. By shifts: where a search compares the used bit alone, the compiler then reads the first byte alone.
 fn three(s: &[u8]) -> u32
     requires { 3 ≤ length s.now }
     ensures { (result ≡ packed (octets 3) s.now) × (result < 16777216) }
 {
-    u32::from_be_bytes([0, s[0], s[1], s[2]])
+    u32::from(s[0]) << 16 | u32::from(s[1]) << 8 | u32::from(s[2])
 }
 
 // The key of the head that the bytes begin with, in one number.

@@ -14,5 +14,5 @@ copy_from_slice-requires c = c.split_at_mut-head.ensures.front_len ∙ sym (ap l
 pub returns : goal.returns
 returns c =
     let l : length c.split_at_mut-head.result.1.now ≡ length c.args.slot.now - 24 = omega (arith, c.split_at_mut-head.ensures.back_len) in
-    ap (λ (x : List ℕ). x ++ c.fill.new.self) (c.copy_from_slice.ensures.after ∙ c.encode.ensures)
-    ∙ ap (λ (x : List ℕ). encode_head c.args.h ++ x) (c.fill.ensures.after (λ y e. e) ∙ ap (λ (n : ℕ). replicate n 0) l)
+    ap (λ (x : List ℕ). x ++ c.fill.new.s) (c.copy_from_slice.ensures.after ∙ c.encode.ensures)
+    ∙ ap (λ (x : List ℕ). encode_head c.args.h ++ x) (c.fill.ensures ∙ ap (λ (n : ℕ). replicate n 0) l)

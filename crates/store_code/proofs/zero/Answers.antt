@@ -3,4 +3,4 @@ use Rattle.store_code.proofs.Laws.{zero_back}
 use Rattle.store_code.proofs.zero.Goals as goal
 
 pub returns : goal.returns
-returns c = zero_back _ _ _ _ (c.fill.ensures.after (λ y e. e)) c.requires
+returns c = zero_back _ _ _ _ c.fill.ensures c.requires
