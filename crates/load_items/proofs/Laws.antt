@@ -534,6 +534,21 @@ pub starts_start : (text : List ℕ) (at : ℕ) {i : ℕ} → i ≡ start_at tex
 starts_start text at e = ap (λ (k : ℕ). start_at text k) e ∙ start_start text at ∙ sym e
 
 module _ (d : Desk) (text : List ℕ) (at : ℕ) (aim : Aim) (s fs : List ℕ) {i : ℕ} (e : i ≡ start_at text at) where
+  -- where no field starts there is no item
+  none_taken : (g : Group) → i ≡ length text → taken_as 0 s fs ≡ taken_of d aim s fs (entries_from d g text at)
+  unfolding taken_of all_done_at faults_of
+  none_taken g h =
+      let n : [] ≡ entries_from d g text at = sym (entries_none d g text i (omega arith)) ∙ entries_start d g text at e in
+      (λ j. taken_as 0 s (sym (faults_none fs) j)) ∙ ap (λ (es : List Entry). taken_of d aim s fs es) n
+
+  pub pairs_none : i ≡ length text → taken_as 0 s fs ≡ taken_of d aim s fs (pairs_of d (words_from text at))
+  unfolding entries_in
+  pairs_none h = none_taken Pair h
+
+  pub triples_none : i ≡ length text → taken_as 0 s fs ≡ taken_of d aim s fs (triples_of d (words_from text at))
+  unfolding entries_in
+  triples_none h = none_taken Triple h
+
   pub pairs_taken : {n : ℕ} {t gs : List ℕ} → taken_as n t gs ≡ taken_of d aim s fs (entries_in Pair d (words_from text i))
       → taken_as n t gs ≡ taken_of d aim s fs (pairs_of d (words_from text at))
   unfolding entries_in

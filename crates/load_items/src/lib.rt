@@ -303,6 +303,9 @@ pub fn take_pairs(
     ensures { taken_as result store.new faults.new ≡ taken_of desk (Aim.Slot slot) store.old faults.old (pairs_of desk (words_from text.now at)) }
 {
     let start = text_fields::field_start(text, at);
+    if start == text.len() {
+        return 0;
+    }
     take_items(
         desk,
         Group::Pair,
@@ -327,6 +330,9 @@ pub fn take_triples(
     ensures { taken_as result store.new faults.new ≡ taken_of desk (Aim.Page page) store.old faults.old (triples_of desk (words_from text.now at)) }
 {
     let start = text_fields::field_start(text, at);
+    if start == text.len() {
+        return 0;
+    }
     take_items(
         desk,
         Group::Triple,
