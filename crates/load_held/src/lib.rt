@@ -201,7 +201,9 @@ fn page_place(text: &[u8], end: usize, every: bool) -> usize
     if every { text.len() } else { end }
 }
 
-// `every`: whatever page it names, every page is cleared.
+// `every`: whatever page it names, every page is cleared. In line in the walk of either load: for a call there, the desk and what is open are copied
+// ahead of every record.
+#[inline(always)]
 pub fn clear(
     desk: Desk,
     held: Held,

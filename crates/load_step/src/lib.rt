@@ -259,6 +259,7 @@ fn patch(desk: Desk, text: &[u8], at: usize, store: &mut [u8], faults: &mut [u32
     }
 }
 
+#[inline(always)]
 fn ident(text: &[u8], at: usize) -> Outcome
     requires { Line text.now at }
     ensures { result ≡ ident_outcome (head_of (words_from text.now at)) (version_of (head_of (words_from text.now at)).chars) }

@@ -335,7 +335,8 @@ fn item_of(first: u8, k: u64) -> Item
     }
 }
 
-// The keyword that stands at `at`.
+// The keyword that stands at `at`. In line in the walk of either load, where every record comes by.
+#[inline(always)]
 pub fn keyword_at(text: &[u8], at: usize) -> Said
     requires { at < length text.now }
     ensures { result ≡ said_at text.now at }
@@ -353,8 +354,7 @@ pub fn keyword_at(text: &[u8], at: usize) -> Said
     }
 }
 
-// The same, for a load with translation, which asks a second time. It is a function of its own so that `keyword_at` has one caller: the compiler
-// then puts that in line, and every record gains by it.
+// The same, for a load with translation, which asks a second time. It is a function of its own since `keyword_at` is in line wherever it is called.
 pub fn keyword_again(text: &[u8], at: usize) -> Said
     requires { at < length text.now }
     ensures { result ≡ said_at text.now at }
