@@ -97,7 +97,7 @@ fn pairs_after(pairs: usize) -> usize
 fn last(pairs: usize) -> &'static [u8]
     ensures { result.now ≡ end_of_line pairs }
 {
-    if pairs == 0 { b"" } else { b"\r\n" }
+    if pairs == 0 { b"" } else { save_lines::END }
 }
 
 // A cursor walks over the levels, since dark channels are passed over many at a step.

