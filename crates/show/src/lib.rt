@@ -2,7 +2,7 @@
 // call that is turned away changes no lent byte; but the word that `look_up` is lent for its answer always has it.
 #![tactic(auto)]
 
-ghost use Rattle.std.specs.Prelude.{◌≡◌, true, Ok};
+ghost use Rattle.std.specs.Prelude.{◌≡◌, true};
 ghost use Rattle.store_code.specs.Fits.{Fitting};
 ghost use Rattle.store.specs.Form.{form_of, good_form};
 ghost use Rattle.save.specs.Lines.{stream_of};
@@ -190,13 +190,15 @@ pub fn look_up<'a, 'b>(
     }
 }
 
-fn levels_place(desk: Desk, store: &[u8], key: Key) -> Option<usize>
+fn levels_place(desk: Desk, store: &[u8], key: Key) -> Result<Option<usize>, Refusal>
     requires fitting { Fitting desk store.now }
     requires good_form { good_form desk store.now ≡ true }
-    ensures { find_reply (Ok result) ≡ placed_at desk (find_slot desk store.now (cue_name key)) }
+    ensures { find_reply result ≡ placed_at desk (find_slot desk store.now (cue_name key)) }
 {
-    let slot = cue_slot(desk, store, key)?;
-    Some(store_code::levels_start(desk, slot))
+    match cue_slot(desk, store, key) {
+        Some(slot) => Ok(Some(store_code::levels_start(desk, slot))),
+        None => Ok(None),
+    }
 }
 
 // The place in the store where the levels of a kept cue begin: what `look_up` hands out begins there. None where it is not kept.
@@ -215,5 +217,5 @@ pub fn find(
         whole,
         fraction: tenths,
     };
-    Ok(levels_place(desk, store, key))
+    levels_place(desk, store, key)
 }

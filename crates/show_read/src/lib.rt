@@ -13,7 +13,7 @@ ghost use Rattle.store_code.specs.Fits.{Fitting};
 ghost use Rattle.show.specs.Calls.{find_reply, placed_at};
 ghost use Rattle.show_read.specs.Calls.{list_reply, listed_as, kind_list, MemoriesPromise, slot_named, head_reply, head_in, HeadPromise, LevelsPromise, patch_reply, patch_in, PatchPromise};
 
-use store_desk::{Desk, Kind, Refusal};
+use store_desk::{Desk, Kind, NoSuchKind, Refusal};
 use store_head::{Head, Patch};
 
 // Of the kind that the number names, if there is one.
@@ -21,8 +21,10 @@ fn list(desk: Desk, store: &[u8], kind: u32, slots: &mut [u32]) -> Option<usize>
     requires { Ready desk store.now }
     ensures { listed_as (list_reply (Ok result)) slots.new ≡ kind_list desk store.now kind slots.old }
 {
-    let kind = Kind::try_from(kind).ok()?;
-    Some(save::memory_slots(desk, store, kind, slots))
+    match Kind::try_from(kind) {
+        Ok(kind) => Some(save::memory_slots(desk, store, kind, slots)),
+        Err(NoSuchKind) => None,
+    }
 }
 
 // The slots of the kept memories of a kind (0 cues, 1 groups, 2 submasters), in the order of the written stream, as many as the list has room

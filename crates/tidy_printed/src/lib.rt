@@ -51,8 +51,10 @@ pub fn put_reports(out: &mut [u8], at: usize, reports: &[u64]) -> usize
     ensures { wrote result out.new ≡ wrote_at out.old at (reports_text reports.now) }
 {
     let mut next = at;
-    for &word in reports {
+    let mut i = 0;
+    while let Some(&word) = reports.get(i) {
         next = put_report(&mut *out, next, word);
+        i += 1;
     }
     next
 }
