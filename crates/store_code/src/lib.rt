@@ -108,7 +108,7 @@ fn slots_of_kind(desk: Desk, kind: Kind) -> Range<usize>
     first..first + store_desk::slot_count(desk, kind)
 }
 
-// The same of slots that lie by themselves.
+// `word_at`, of slots that lie by themselves.
 fn word_in(desk: Desk, slots: &[u8], slot: usize) -> u32
     requires in_range { InRange desk }
     requires slot_bound { slot < slots_of desk }

@@ -48,8 +48,8 @@ pub fn put_digits(out: &mut [u8], at: usize, n: u32, count: usize, radix: u32) -
     at + count
 }
 
-// How many digits n has. Most numbers of a show have three at most, and are told by comparisons alone: with the power of ten for all, the text of a
-// time took 1.3 of the time.
+// How many digits n has. Most numbers of a show have three at most, and are told by comparisons alone: by the power of ten for all, the text of a time
+// took 17 per cent more instructions than by a loop.
 pub fn integer_length(n: u32) -> usize
     ensures { result ≡ length (integer_text n) }
 {
